@@ -11,6 +11,7 @@ from .names import Suite
 from .summary import frames_text, ranges
 from .trial import Key, KeyArgument
 
+_KEY_OR_SALT = "another key or salt"
 _MOST_GROUPS, _MOST_LINES = 256, 16
 _XPN_OF = {Suite.gcm128: Suite.xpn128, Suite.gcm256: Suite.xpn256}
 
@@ -86,6 +87,7 @@ def _text(group: _Group, keys: Keys) -> str:
         return keys.misfit(group.frame, group.keys)
     tried = [_tried(suite, pairs, group) for suite, pairs in found.items()]
     untried = dict.fromkeys(it for suite, pairs in found.items() for it in _untried(suite, pairs, group, keys))
+    untried[_KEY_OR_SALT if any(it.is_extended for it in found) else "another key"] = None
     cut = "; the search was cut short: give fewer keys, or more about them" if group.is_spent else ""
     return f"tried {'; '.join(tried)}. Not tried: {'; '.join(untried)}{cut}"
 
@@ -144,11 +146,11 @@ def _untried(suite: Suite, pairs: Sequence[tuple[KeyArgument, Key]], group: _Gro
         ]  # fmt: skip
         if numbers:
             found.append(f"other {' and '.join(numbers)} (KEY:SALT:SSCI:UPPER)")
-        return [*found, "another key or salt"]
+        return found
     if any(it.salt is None and it.suite is None for it in arguments) and not keys.suite:
         found.append(f"{_XPN_OF[suite].name}, which needs a salt (KEY:SALT)")
     if group.frame.tag.sci is None and any(it.sci is None for it in arguments):
         found.append(f"{'' if group.is_wider else 'other ports, and '}SCIs of other addresses (SCI=KEY)")
     if group.frame.tag.sci is None and not group.frame.names_nobody and any(key.offset for _, key in pairs):
         found.append("an SCI in the IV that the tag does not mean, with offset 30 or 50")
-    return [*found, "another key"]
+    return found

@@ -129,6 +129,10 @@ class Distribution(InFolder):
         # Devices that add zeros to a name have the same keys.
         distributed = [padded.frame(padded.sak(other[:16], Suite.gcm128))]
         self.assertEqual(len(learned(distributed, Cak(CAK, b"\x07")).saks), 1)
+        for length in range(1, 33):
+            member = Member("0200000000010001", ckn=bytes([7]) * length)
+            it = learned([member.frame(member.live(), member.sak(CAK, Suite.gcm128))], Cak(CAK, bytes([7]) * length))
+            self.assertEqual(len(it.saks), 1, length)
         self.assertIn("from before the keys are agreed", learned(frames[:2], cak).notes()[0])
 
     def test_no_octet_can_be_altered(self) -> None:
@@ -173,9 +177,11 @@ class Distribution(InFolder):
             it.add(0, bytes(frame))
             it.add(0, bytes(frame[:14]) + source.randbytes(source.randrange(200)))
         server = Member("0200000000010001")
+        overrun = server.frame(*[server.live(server)] * 80, server.sak(CAK, Suite.gcm128), b"\x04\x00\x0f\xff")
+        self.assertIsNone(read_mkpdu(overrun))
         for number in range(600):
             it.add(0, Member("0200000000010001", bytes(16), number.to_bytes(4, "big")).frame())
-            it.add(0, server.frame(*[server.live(server)] * 80, b"\x04\x00\x0f\xff"))
+            it.add(0, overrun)
         self.assertEqual([sak for sak in it.saks if sak.ckn != cak.ckn], [])
         self.assertLessEqual(len(it._keys), 512)
         self.assertLess(time.monotonic() - begun, 30)

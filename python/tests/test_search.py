@@ -123,9 +123,12 @@ class Opened(Decrypted):
         self.assertEqual((status, shown[0]["iv used twice"]["records"]), (3, [1, 4]))
 
     def test_what_one_sender_shows_helps_with_another(self) -> None:
-        """The upper half, and the SCIs of tags that carry one."""
+        """The upper half, the SSCI under another key, and the SCIs of tags that carry one."""
         first, second = xpn(0x444), xpn(0x444, ssci=2, sci=OTHER)
         status, _ = self.shown(first + second, f"{SENDER}={SALTED}:00000001", f"{OTHER}={SALTED}")
+        self.assertEqual(status, 0)
+        rekeyed = xpn(0, ssci=9) + protected(client_frames(3), suite=Suite.xpn128, key=KEYS[1], ssci=9)
+        status, _ = self.shown(rekeyed, f"{SALTED}:00000009", f"{KEYS[1].hex()}:{SALT.hex()}")
         self.assertEqual(status, 0)
         tagged = protected(client_frames(3), sci=FAR)
         status, _ = self.shown(tagged + sealed(NONE, FAR, pn=9), KEY)
@@ -205,8 +208,10 @@ class Hints(Decrypted):
         self.assertIn("the search was cut short", found)
         self.assertLess(time.monotonic() - begun, 20)
 
+    @mock.patch("macsec.attempts._AT_FIRST", 2000)
     def test_many_keys_in_any_order(self) -> None:
-        """60 rekeys under XPN, with the keys in another order: each of them is found."""
+        """60 rekeys under XPN, with the keys in another order: each is found, although all searches together are more
+        than a run may try."""
         octets = [bytes([number]) * 16 for number in range(1, 61)]
         frames = [
             it for place in range(60) for it in protected(
