@@ -55,21 +55,33 @@ class Trial:
         self.secy.install_key(0, key.octets, offset=key.offset, ssci=self._own_ssci, salt=key.salt)
         self.secy.add_rx_sc(sci)
         self._has_sa = False
+        # The lowest acceptable packet number of an association that has opened nothing.
+        self._lowest: int | None = None
 
     def begin(self, upper: int = 0, ssci: int | None = None) -> None:
         """Begins the association anew, with this upper half of extended packet numbers, and another SSCI if one is
         given."""
+        lowest, is_other = upper << 32 | 1, ssci is not None and ssci != self.ssci
+        if self._lowest is not None and not is_other and lowest >= self._lowest:
+            # One call in place of three: it opens what a new association would.
+            if lowest > self._lowest:
+                self.secy.set_lowest_pn(self.sci, self.an, lowest)
+            self._lowest = lowest
+            return
         if self._has_sa:
             self.secy.delete_rx_sa(self.sci, self.an)
-            self._has_sa = False
+            self._has_sa, self._lowest = False, None
         self.ssci = self.ssci if ssci is None else ssci
-        self.secy.add_rx_sa(self.sci, self.an, 0, upper << 32 | 1, self.ssci)
+        self.secy.add_rx_sa(self.sci, self.an, 0, lowest, self.ssci)
         self.secy.enable_rx_sa(self.sci, self.an)
-        self._has_sa = True
+        self._has_sa, self._lowest = True, lowest
 
     def receive(self, frame: bytes) -> Received:
         """What becomes of a frame. `begin` comes first."""
-        return self.secy.receive(frame)
+        received = self.secy.receive(frame)
+        if received.verdict in OPENED:
+            self._lowest = None
+        return received
 
     def packet_number(self, pn: int) -> int:
         """The whole packet number of the last frame, which was opened and has this PN in its SecTAG."""

@@ -9,6 +9,7 @@ import unittest
 import zlib
 from collections.abc import Sequence
 from typing import Callable, NamedTuple, Union
+from unittest import mock
 
 from macsec import Suite, capture, seal
 from macsec.capture import pcap_header
@@ -208,6 +209,8 @@ class Causes(InFolder):
         notes = "; ".join(group["note"] for group in groups if "note" in group and group.get("ethertype") != "888e")
         return status, names, notes
 
+    # Some searches end earlier here, so that the test does not take long.
+    @mock.patch("macsec.alternatives.WIDE", 0x2000)
     @NEEDS
     def test_all(self) -> None:
         self.assertEqual(len(CAUSES), 49)
