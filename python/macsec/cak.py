@@ -13,7 +13,7 @@ from .trial import KeyArgument
 
 _MISSING = (
     "--cak and --cak-file need the Python package cryptography: install Debian's python3-cryptography, or "
-    "pip install 'macsec[cak]'"
+    "pip install cryptography"
 )
 # What a capture can make this keep: members of all agreements, SAKs, and CAK names that are tried.
 _MOST_MEMBERS, _MOST_SAKS, _MOST_NAMES = 4096, 16_384, 256

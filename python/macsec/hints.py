@@ -53,12 +53,12 @@ class Hints:
         group.is_spent |= is_spent
 
     def lines(self, keys: Keys) -> list[str]:
-        """A line for the groups with the same text, the largest first."""
+        """A text of several lines for the groups with the same one, the largest first."""
         texts: dict[tuple[str, str], list[_Group]] = {}
         for each in self._groups.values():
             texts.setdefault((each.frame.tag.flags, _text(each, keys)), []).append(each)
         alike = sorted(texts.items(), key=lambda it: -sum(group.count for group in it[1]))
-        lines = [f"{_head(groups)}: {text}" for (_, text), groups in alike[:_MOST_LINES]]
+        lines = [f"{_head(groups)}:\n{text}" for (_, text), groups in alike[:_MOST_LINES]]
         rest = sum(group.count for _, groups in alike[_MOST_LINES:] for group in groups) + self._more
         return lines + (
             [f"{frames_text(rest)} more not opened, of other senders or association numbers"] if rest else []
@@ -79,17 +79,19 @@ def _head(groups: Sequence[_Group]) -> str:
 def _text(group: _Group, keys: Keys) -> str:
     """What was tried for a group, and what was not."""
     if group.verdict in ("BadTag", "Reserved", "Short", "Long"):
-        return f"{group.verdict}: a malformed SecTAG, or octets are missing; no key opens it"
+        return f"  {group.verdict}: a malformed SecTAG, or octets are missing; no key opens it"
     found: dict[Suite, list[tuple[KeyArgument, Key]]] = {}
     for argument, key in keys.fitting(group.frame, group.keys):
         found.setdefault(key.suite, []).append((argument, key))
     if not found:
-        return keys.misfit(group.frame, group.keys)
+        return f"  {keys.misfit(group.frame, group.keys)}"
     tried = [_tried(suite, pairs, group) for suite, pairs in found.items()]
     untried = dict.fromkeys(it for suite, pairs in found.items() for it in _untried(suite, pairs, group, keys))
     untried[_KEY_OR_SALT if any(it.is_extended for it in found) else "another key"] = None
-    cut = "; the search was cut short: give fewer keys, or more about them" if group.is_spent else ""
-    return f"tried {'; '.join(tried)}. Not tried: {'; '.join(untried)}{cut}"
+    lines = [f"  tried: {it}" for it in tried] + [f"  not tried: {'; '.join(untried)}"]
+    if group.is_spent:
+        lines.append("  the search was cut short: give fewer keys, or more about them")
+    return "\n".join(lines)
 
 
 def _names(pairs: Sequence[tuple[KeyArgument, Key]]) -> str:

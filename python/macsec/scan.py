@@ -41,7 +41,9 @@ class Scan:
                 self.partial += 1
                 continue
             self._add(packet, opener)
-        self.saks, self.hints = [str(it) for it in opener.agreements.saks], opener.hints()
+        self.saks, self.hints = [str(it) for it in opener.agreements.saks], [
+            line for it in opener.hints() for line in it.split("\n")
+        ]
 
     def _add(self, packet: capture.Packet, opener: Opener) -> None:
         plain, tags = without_vlan(packet.frame)

@@ -335,7 +335,7 @@ class Missing(unittest.TestCase):
                 KeyAgreements([Cak(CAK)])
             self.assertEqual(learned(frames_of("cak-256")).seen, 6)
         self.assertIn("python3-cryptography", str(why.exception))
-        self.assertIn("macsec[cak]", str(why.exception))
+        self.assertIn("pip install cryptography", str(why.exception))
 
 
 if __name__ == "__main__":

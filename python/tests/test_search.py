@@ -153,7 +153,7 @@ class Hints(Decrypted):
              f"{SALTED}:00000001:800"),
             (xpn(0, ssci=17), SALTED, (wide, "other SSCIs and upper halves"), f"{SALTED}:00000011"),
             (xpn(7, ssci=0x800), f"{SALTED}::7", ("SSCIs below 800, upper half 7",), f"{SALTED}:00000800:7"),
-            (xpn(0), KEY, ("Not tried: xpn128, which needs a salt (KEY:SALT)",), SALTED),
+            (xpn(0), KEY, ("not tried: xpn128, which needs a salt (KEY:SALT)",), SALTED),
             (sealed(NONE, FAR), KEY, ("all ports of the source address", "SCIs of other addresses (SCI=KEY)"),
              f"{FAR}={KEY}"),
             (sealed(ES, FAR), KEY, ("all ports of the source address", "ES E C", "(SCI=KEY)"), f"{FAR}={KEY}"),

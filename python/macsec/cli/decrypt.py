@@ -91,7 +91,7 @@ def _decrypt(asked: argparse.Namespace) -> int:
     twice = made.ivs.twice
     if asked.json:
         lines = [*map(json.dumps, dicts_of(twice)), *(json.dumps({"sak": it.as_dict()}) for it in made.saks)]
-        lines += [*made.records, *(json.dumps({"hint": it}) for it in made.hints)]
+        lines += [*made.records, *(json.dumps({"hint": " ".join(it.split())}) for it in made.hints)]
     else:
         lines = lines_of(twice)
         lines += [str(it) for it in made.saks]
