@@ -19,8 +19,8 @@ def cut_of(frame: bytes) -> Change | None:
     has = max(len(frame) - tag.end - ICV_OCTETS, 0)
     if has >= tag.sl:
         return None
-    missing = tag.sl - has
-    return Change("cut", f"SL says {tag.sl} octets, and {has} are before the ICV: {_octets(missing)} cut off")
+    missing = _octets(tag.sl - has)
+    return Change("cut", f"SL says {tag.sl} octets, and {has} are before the ICV: {missing} cut off, or SL is wrong")
 
 
 def altered(frame: bytes, setting: Setting) -> Change | None:

@@ -11,6 +11,7 @@ from .names import Suite
 from .summary import frames_text, ranges
 from .trial import Key, KeyArgument
 
+_MALFORMED = ("BadTag", "Reserved", "Short", "Long")
 _KEY_OR_SALT = "another key or salt"
 _MOST_GROUPS, _MOST_LINES = 256, 16
 _XPN_OF = {Suite.gcm128: Suite.xpn128, Suite.gcm256: Suite.xpn256}
@@ -18,7 +19,7 @@ _XPN_OF = {Suite.gcm128: Suite.xpn128, Suite.gcm256: Suite.xpn256}
 
 @dataclasses.dataclass
 class _Group:
-    """Frames of one sender, association number and tag form, and how widely they were searched."""
+    """Frames of one sender, association number and tag form, malformed or not, and how widely they were searched."""
 
     frame: Frame
     record: int
@@ -34,7 +35,7 @@ class Hints:
     """The frames that do not open."""
 
     def __init__(self) -> None:
-        self._groups: dict[tuple[bytes, int, int], _Group] = {}
+        self._groups: dict[tuple[bytes, int, int, bool], _Group] = {}
         self._more = 0
 
     def add(
@@ -42,7 +43,7 @@ class Hints:
     ) -> None:  # fmt: skip
         """Adds a frame, with the verdict under a key that it can have, how many keys there were, and how widely they
         were tried."""
-        place = frame.tag.sci or frame.address, frame.tag.tci, frame.tag.an
+        place = frame.tag.sci or frame.address, frame.tag.tci, frame.tag.an, verdict in _MALFORMED
         if place not in self._groups and len(self._groups) >= _MOST_GROUPS:
             self._more += 1
             return
@@ -78,7 +79,7 @@ def _head(groups: Sequence[_Group]) -> str:
 
 def _text(group: _Group, keys: Keys) -> str:
     """What was tried for a group, and what was not."""
-    if group.verdict in ("BadTag", "Reserved", "Short", "Long"):
+    if group.verdict in _MALFORMED:
         return f"  {group.verdict}: a malformed SecTAG, or octets are missing; no key opens it"
     found: dict[Suite, list[tuple[KeyArgument, Key]]] = {}
     for argument, key in keys.fitting(group.frame, group.keys):
