@@ -30,7 +30,7 @@ def altered(frame: bytes, setting: Setting) -> Change | None:
     if tag is None or len(frame) < tag.end + ICV_OCTETS:
         return None
     data = _data(frame, tag, setting)
-    found = _packet(data)
+    found = packet_of(data)
     if found is None:
         return None
     what, length = found
@@ -61,7 +61,7 @@ def _data(frame: bytes, tag: SecTag, setting: Setting) -> bytes:
     return made[tag.end : -ICV_OCTETS] if not status else b""
 
 
-def _packet(data: bytes) -> tuple[str, int] | None:
+def packet_of(data: bytes) -> tuple[str, int] | None:
     """What data begin with, and how many octets that has with its EtherType; None if it is nothing known."""
     kind, packet = data[:2], data[2:]
     at = 0

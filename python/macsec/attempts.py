@@ -214,8 +214,9 @@ def _likely(argument: KeyArgument, key: Key, frame: Frame, known: Known, place: 
     if not key.suite.is_extended:
         yield Attempt(key, sci)
         return
-    uppers = [place.upper, place.upper + 1, max(place.upper - 1, 0), *known.uppers]
-    uppers = [argument.upper] if argument.upper is not None else uppers[: 3 + _FEW_UPPER_HALVES]
+    near = place.upper if argument.upper is None else argument.upper
+    uppers = [near, min(near + 1, 0xFFFF_FFFF), max(near - 1, 0)]
+    uppers += [] if argument.upper is not None else list(known.uppers)[:_FEW_UPPER_HALVES]
     for ssci in _sscis(argument, sci, known, 2):
         yield from (Attempt(key, sci, ssci, it) for it in dict.fromkeys(uppers))
 

@@ -170,11 +170,11 @@ class Opener:
             number = trial.packet_number(tag.pn)
             stream.upper = number >> 32
         client = received.frame[:12] + tags + received.frame[12:]
-        again = self.ivs.add(record, trial.key, trial.sci, trial.ssci, number, octets, tag)
-        other = again[1] if again else None
         sci, note = trial.sci, ""
         if trial.sci_of_iv is not None:
             sci, note = trial.sci_of_iv, f"its IV has this SCI, its tag means {trial.sci.hex()}"
+        again = self.ivs.add(record, trial.key, sci, trial.ssci, number, octets, tag)
+        other = again[1] if again else None
         verdict = received.verdict.name
         return Opened(client, "opened", verdict, sci.hex(), tag.an, number, trial.key.name, other, note)
 

@@ -12,6 +12,7 @@ from typing import Callable, NamedTuple, Union
 from unittest import mock
 
 from macsec import Suite, capture, seal
+from macsec.altered import packet_of
 from macsec.capture import pcap_header
 from macsec.cli.config import main as config_main
 from macsec.cli.why import main
@@ -225,6 +226,21 @@ class Causes(InFolder):
                     self.assertEqual((names, notes), (set(it.expected.split()), ""), it.name)
                 if it.name not in ("EtherType", "snapshot length"):
                     self.assertEqual(status, 3 if it.expected else 0, it.name)
+
+
+class Packets(unittest.TestCase):
+    def test_what_data_begin_as(self) -> None:
+        """The length is that of the packet with its EtherTypes. Other data are not taken for a packet."""
+        ip = ip_frames(1)[0][12:]
+        arp = bytes.fromhex("080600010800060400010200000000010a090001000000000000") + b"\x0a\x09\0\x02"
+        ipv6 = bytes.fromhex("86dd6000000000103a40") + bytes(32) + bytes(16)
+        for data, length in (
+            (ip, 86), (b"\x81\x00\0\x05" + ip, 90), (arp, 30), (ipv6, 58), (ip[:10] + b"\x01" + ip[11:], None),
+            (b"\x08\x01" + ip[2:], None), (ip[:2] + b"\x46" + ip[3:], None), (ip[:21], None), (arp[:6], None),
+            (ipv6[:2] + b"\x40" + ipv6[3:], None), (ipv6[:8] + b"\xc8" + ipv6[9:], None), (ipv6[:30], None), (b"", None),
+        ):  # fmt: skip
+            found = packet_of(data)
+            self.assertEqual(found and found[1], length, data.hex())
 
 
 if __name__ == "__main__":

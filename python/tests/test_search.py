@@ -9,6 +9,7 @@ from collections.abc import Sequence
 from unittest import mock
 
 from macsec import Suite, capture, seal
+from macsec.cli import why
 from macsec.cli.decrypt import main
 
 from .helpers import KEYS, LONG_KEY, OTHER, SALT, SENDER, InFolder, client_frames, main_of, protected
@@ -121,6 +122,14 @@ class Opened(Decrypted):
         twice = sealed(ES, OTHER_PORT) + sealed(ES, OTHER_PORT, count=4)[3:] + sealed(ES, OTHER_PORT, count=2, pn=2)[:1]
         status, shown = self.shown(twice, KEY)
         self.assertEqual((status, shown[0]["iv used twice"]["records"]), (3, [1, 4]))
+        self.assertEqual(shown[0]["iv used twice"]["sci"], OTHER_PORT)
+        # Tags that name the SCI have the same IVs.
+        status, shown = self.shown(sealed(ES, OTHER_PORT) + protected(client_frames(4, OTHER)[3:], sci=OTHER_PORT), KEY)
+        self.assertEqual((status, shown[0]["iv used twice"]["records"]), (3, [0, 3]))
+        config = f"end A gcm128 {OTHER} 1546 sci\nA key 0 {KEY} 0\nA rxsc {OTHER_PORT}\nA rxsa {OTHER_PORT} 0 0 1\n"
+        words = self.put("CONFIG", config + f"A rxon {OTHER_PORT} 0\n"), self.folder / "IN", "--json"
+        status, out, _ = main_of(why.main, *words)
+        self.assertEqual((status, json.loads(out.splitlines()[0])["iv used twice"]["records"]), (3, [0, 3]))
 
     def test_what_one_sender_shows_helps_with_another(self) -> None:
         """The upper half, the SSCI under another key, and the SCIs of tags that carry one."""

@@ -174,6 +174,7 @@ class Run:
 def _opened_by(setting: Setting, seen: Sequence[Seen], ivs: Ivs) -> list[int]:
     """The records of the frames that open under a setting, one after another. Their IVs are noted."""
     trial = setting.trial()
+    of_iv = setting if setting.iv_sci is None else setting._replace(sci=setting.iv_sci)
     found = []
     for each in seen:
         plain, _ = without_vlan(each.frame)
@@ -181,7 +182,7 @@ def _opened_by(setting: Setting, seen: Sequence[Seen], ivs: Ivs) -> list[int]:
         tag = read_tag(octets)
         if tag is not None and len(octets) >= 14 and trial.receive(octets).verdict in OPENED:
             found.append(each.record)
-            ivs.add(each.record, setting, trial.packet_number(tag.pn), octets, tag)
+            ivs.add(each.record, of_iv, trial.packet_number(tag.pn), octets, tag)
     trial.close()
     return found
 
