@@ -165,7 +165,7 @@ class Distribution(InFolder):
 
     def test_hostile_frames(self) -> None:
         """Random ones, cut ones, and MKPDUs with many names, members, peers and SAKs: no fault, in bounded time."""
-        source, begun = random.Random(1), time.monotonic()
+        source, begun = random.Random(1), time.process_time()
         (cak,) = caks_of_file(str(DATA / "cak-linux.cak"))
         real = [it for it in frames_of("cak-linux") if read_mkpdu(it)]
         it = KeyAgreements([cak, Cak(CAK)])
@@ -184,7 +184,7 @@ class Distribution(InFolder):
             it.add(0, overrun)
         self.assertEqual([sak for sak in it.saks if sak.ckn != cak.ckn], [])
         self.assertLessEqual(len(it._keys), 512)
-        self.assertLess(time.monotonic() - begun, 30)
+        self.assertLess(time.process_time() - begun, 30)
 
     def test_texts(self) -> None:
         settings = "network={\n\tmka_cak=" + CAK.hex() + "\n\tmka_ckn=" + CKN.hex() + "\n}\n"

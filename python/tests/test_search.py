@@ -216,10 +216,10 @@ class Hints(Decrypted):
     def test_the_time_grows_with_keys_and_frames(self) -> None:
         """200 keys whose salts do not fit, over 90 frames."""
         keys = [f"{number:032x}:{SALT[::-1].hex()}" for number in range(1, 200)]
-        begun = time.monotonic()
+        begun = time.process_time()
         found = self.hint(xpn(0) * 30, SALTED.replace(SALT.hex(), SALT[::-1].hex()), *keys)
         self.assertIn("the search was cut short", found)
-        self.assertLess(time.monotonic() - begun, 20)
+        self.assertLess(time.process_time() - begun, 10)
 
     @mock.patch("macsec.attempts._AT_FIRST", 2000)
     def test_many_keys_in_any_order(self) -> None:
