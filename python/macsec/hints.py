@@ -43,6 +43,9 @@ class Hints:
     ) -> None:  # fmt: skip
         """Adds a frame, with the verdict under a key that it can have, how many keys there were, and how widely they
         were tried."""
+        if verdict == "BadTag" and frame.tag.pn == 0:
+            # Under an extended suite the lower half of a packet number can be 0.
+            verdict = "NotValid"
         place = frame.tag.sci or frame.address, frame.tag.tci, frame.tag.an, verdict in _MALFORMED
         if place not in self._groups and len(self._groups) >= _MOST_GROUPS:
             self._more += 1

@@ -190,6 +190,8 @@ class Hints(Decrypted):
     def test_malformed_frames(self) -> None:
         cut = [it[:-3] for it in protected(client_frames(3, length=40))]
         first, second = self.lines(cut + protected(client_frames(2), key=KEYS[1]), KEY)
+        # The lower half of an extended packet number can be 0.
+        self.assertEqual(len(self.lines(xpn(0, low=0xFFFF_FFFF), KEY)), 1)
         head = "frames not opened, SCI 0200000000010001 AN 0, SC E C, from record"
         self.assertTrue(first.startswith(f"3 {head} 0: BadTag"), first)
         self.assertTrue(second.startswith(f"2 {head} 3: tried"), second)
