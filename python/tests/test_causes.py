@@ -1,4 +1,4 @@
-"""Forty-eight planted causes over captures of Linux 6.1 and wpa_supplicant, and over frames that the library makes:
+"""Fifty planted causes over captures of Linux 6.1 and wpa_supplicant, and over frames that the library makes:
 macsec-why has to name each one, and nothing else."""
 
 from __future__ import annotations
@@ -175,6 +175,7 @@ CAUSES = (
     Planted("source rewritten", "linux", [], each(lambda it: it[:6] + bytes.fromhex("027700000001") + it[12:]), "address"),
     Planted("no SCI, a wrong one in CONFIG", PLAIN.replace(FAR, OTHER), [], lambda _: tagless(0x0C, SENDER[:12] + "1234"), "sci"),
     Planted("ES, another SCI", PLAIN, [], lambda _: tagless(0x4C, FAR), "iv-sci"),
+    Planted("ES, the SCI of another address", PLAIN.replace(FAR, OTHER), [], lambda _: tagless(0x4C, OTHER), "iv-sci"),
     Planted("SCB, another SCI", PLAIN.replace(FAR, SENDER[:12] + "0000"), [], lambda _: tagless(0x1C, FAR), "iv-sci"),
 )  # fmt: skip
 
@@ -214,8 +215,8 @@ class Causes(InFolder):
     @mock.patch("macsec.alternatives.WIDE", 0x2000)
     @NEEDS
     def test_all(self) -> None:
-        self.assertEqual(len(CAUSES), 49)
-        self.assertEqual(len({it.name for it in CAUSES}), 49)
+        self.assertEqual(len(CAUSES), 50)
+        self.assertEqual(len({it.name for it in CAUSES}), 50)
         for it in CAUSES:
             with self.subTest(it.name):
                 status, names, notes = self.named(it)
