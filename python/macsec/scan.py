@@ -35,7 +35,8 @@ class Scan:
         self.uses: dict[tuple[bytes, int], list[_Use]] = {}
         self.vlan, self.fcs, self.partial = 0, 0, 0
         self.unopened: list[int] = []
-        self.other_ivs: dict[str, None] = {}
+        # The senders whose tags mean another SCI than their IVs have, with that one.
+        self.other_ivs: dict[tuple[bytes, int], str] = {}
         for packet in capture.read(path):
             if not packet.is_whole:
                 self.partial += 1
@@ -56,7 +57,7 @@ class Scan:
         live = opener.last
         if live and live.trial.sci_of_iv is not None:
             # No CONFIG opens such a frame.
-            self.other_ivs[opened.sci] = None
+            self.other_ivs[live.trial.sci, tag.an] = opened.sci
             live = None
         place = live.trial.sci if live else sender_of(plain, tag), tag.an
         self.forms.setdefault(place, collections.Counter())[tag.flags] += 1
@@ -107,7 +108,7 @@ class Scan:
         if self.unopened:
             found.append(f"not opened by any key: record {ranges(self.unopened)}")
         if self.other_ivs:
-            named = ", ".join(list(self.other_ivs)[:8])
+            named = ", ".join(list(dict.fromkeys(self.other_ivs.values()))[:8])
             found.append(f"tags with ES or SCB whose IVs have SCI {named}: no CONFIG opens these; macsec-decrypt does")
         return found + self.hints
 
@@ -138,7 +139,7 @@ class Scan:
 def _without_keys(plan: Plan, scan: Scan, own: bytes | None) -> None:
     """Says which associations have no key."""
     for sci, an in scan.forms:
-        if (sci, an) not in scan.uses and sci != own:
+        if (sci, an) not in scan.uses and (sci, an) not in scan.other_ivs and sci != own:
             plan.notes.append(
                 f"A rxsc {sci.hex()}, A rxsa {sci.hex()} {an} N 1, A rxon {sci.hex()} {an}: key N is not known"
             )

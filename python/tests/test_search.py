@@ -9,7 +9,7 @@ from collections.abc import Sequence
 from unittest import mock
 
 from macsec import Suite, capture, seal
-from macsec.cli import why
+from macsec.cli import config, why
 from macsec.cli.decrypt import main
 
 from .helpers import KEYS, LONG_KEY, OTHER, SALT, SENDER, InFolder, client_frames, main_of, protected
@@ -110,6 +110,19 @@ class Opened(Decrypted):
         self.assertEqual((first["sci"], first["note"]), (OTHER_PORT, f"its IV has this SCI, its tag means {SENDER}"))
         (first, *_) = self.opens(sealed(NONE, OTHER_PORT), KEY)
         self.assertEqual((first["sci"], "note" in first), (OTHER_PORT, False))
+
+    def test_a_config_cannot_open_it(self) -> None:
+        """macsec-config says so, and leaves such a sender out."""
+        path = self.put("IN", sealed(ES, OTHER_PORT) + protected(client_frames(2, OTHER), sci=OTHER))
+        status, text, error = main_of(config.main, "--capture", path, "--key", KEY)
+        self.assertEqual((status, error), (3, ""))
+        self.assertIn(f"# tags with ES or SCB whose IVs have SCI {OTHER_PORT}: no CONFIG opens these", text)
+        self.assertEqual(text.count("A rxsc "), 1)
+        self.assertIn(f"A rxsc {OTHER}\n", text)
+        # With extended packet numbers no SCI is in the IV.
+        path = self.put("IN", sealed(ES, OTHER_PORT, suite=Suite.xpn128, ssci=3))
+        status, text, _ = main_of(config.main, "--capture", path, "--key", SALTED)
+        self.assertEqual((status, text.count(f"A rxsa {SENDER} 0 0 1 00000003\n")), (0, 1))
 
     def test_repeats_and_reordered_numbers(self) -> None:
         """Frames with ES and another SCI in the IV open in any order."""
