@@ -21,7 +21,7 @@ _UPPER_HALVES, _FEW_UPPER_HALVES = 256, 8
 _SSCIS, _FEW_SSCIS = 16, 4
 WIDE, _TOGETHER = 65_536, 2_048
 _LONGEST_TRAILER = 64
-_MOST_KEYS, _MOST_ADDRESSES = 64, 32
+_MOST_KEYS, _MOST_ADDRESSES, _FEW_ADDRESSES = 64, 32, 8
 _BROADCAST = b"\xff" * 6
 
 
@@ -131,12 +131,11 @@ class Alternatives:
     def addresses(self, base: Setting, frame: bytes) -> list[Option]:
         """Addresses that a frame can have been sent with: of its SCI, of CONFIG, and of the other frames."""
         named = [base.sci[:6], self._configuration.sci[:6], *(it[:6] for it in self._configuration.channels())]
-        others = dict.fromkeys([*named, *self._shown.addresses, _BROADCAST])
-        destinations, sources = [frame[:6], *others], dict.fromkeys([frame[6:12], *others])
-        return [
-            (_addresses(it, frame), {"addresses": it}) for source in sources for destination in dict.fromkeys(destinations)
-            for it in [destination + source] if it != frame[:12]
-        ]  # fmt: skip
+        others = list(dict.fromkeys([*named, *self._shown.addresses, _BROADCAST]))
+        destination, source = frame[:6], frame[6:12]
+        sent = [it + source for it in others] + [destination + it for it in others]
+        sent += [one + other for one in others[:_FEW_ADDRESSES] for other in others[:_FEW_ADDRESSES]]
+        return [(_addresses(it, frame), {"addresses": it}) for it in dict.fromkeys(sent) if it != frame[:12]]
 
     def wide(self, base: Setting, line: int | None, frame: bytes, tag: SecTag | None) -> Iterator[Found]:
         """The ways that take long: all upper halves and SSCIs below 2^16, all ports of the source address."""

@@ -186,7 +186,8 @@ class Search:
         change = self._why_no_association(sci, an, rows, channels)
         opens = next((it for it in self._likely(sci, an, rows) if self._opens(it, frame)), None)
         if opens:
-            return Found((self._with_hint(change),), opens)
+            change = self._with_hint(change)
+            return Found((change._replace(text=f"{change.text}; it opens under {opens.key.name}"),), opens)
         for setting in self._likely(sci, an, rows):
             found = self.changes(frame, setting, None, 1)
             if found:

@@ -1,4 +1,4 @@
-"""Fifty planted causes over captures of Linux 6.1 and wpa_supplicant, and over frames that the library makes:
+"""Fifty-one planted causes over captures of Linux 6.1 and wpa_supplicant, and over frames that the library makes:
 macsec-why has to name each one, and nothing else."""
 
 from __future__ import annotations
@@ -173,6 +173,8 @@ CAUSES = (
     Planted("upper half above ff, long key", LONGER, [], lambda _: xpn_frames(Suite.xpn256, pn=0x1AF3_0000_0001), "upper"),
     Planted("destination rewritten", "linux", [], each(lambda it: b"\x02\x77" + it[2:]), "address"),
     Planted("source rewritten", "linux", [], each(lambda it: it[:6] + bytes.fromhex("027700000001") + it[12:]), "address"),
+    Planted("both addresses rewritten", "linux", [],
+            each(lambda it: bytes.fromhex("027700000002027700000001") + it[12:]), "address"),
     Planted("no SCI, a wrong one in CONFIG", PLAIN.replace(FAR, OTHER), [], lambda _: tagless(0x0C, SENDER[:12] + "1234"), "sci"),
     Planted("ES, another SCI", PLAIN, [], lambda _: tagless(0x4C, FAR), "iv-sci"),
     Planted("ES, the SCI of another address", PLAIN.replace(FAR, OTHER), [], lambda _: tagless(0x4C, OTHER), "iv-sci"),
@@ -215,8 +217,8 @@ class Causes(InFolder):
     @mock.patch("macsec.alternatives.WIDE", 0x2000)
     @NEEDS
     def test_all(self) -> None:
-        self.assertEqual(len(CAUSES), 50)
-        self.assertEqual(len({it.name for it in CAUSES}), 50)
+        self.assertEqual(len(CAUSES), 51)
+        self.assertEqual(len({it.name for it in CAUSES}), 51)
         for it in CAUSES:
             with self.subTest(it.name):
                 status, names, notes = self.named(it)
