@@ -138,15 +138,16 @@ static bool take_group(struct config *c, const struct words *w) {
     return true;
 }
 
-/* Takes a line about LINK's namespace, or about TAP when macsecd ends. Returns false if it is another one. */
-static bool take_namespace(struct config *c, const struct words *w) {
+/* Takes a line that switches something on. Returns false if it is another one. */
+static bool take_switch(struct config *c, const struct words *w) {
     bool is_alone = words_are(w, 3, "device", "isolate") && words_is(w, 2, "alone");
-    bool *says = words_are(w, 2, "device", "persist")     ? &c->persistent
-                 : words_are(w, 2, "device", "transient") ? &c->transient
-                 : words_are(w, 2, "device", "shared")    ? &c->shared
-                 : words_are(w, 2, "device", "isolate")   ? &c->isolated
-                 : is_alone                               ? &c->alone
-                                                          : NULL;
+    bool *says = words_are(w, 2, "device", "persist")                                  ? &c->persistent
+                 : words_are(w, 2, "device", "transient")                              ? &c->transient
+                 : words_are(w, 2, "device", "shared")                                 ? &c->shared
+                 : words_are(w, 2, "device", "isolate")                                ? &c->isolated
+                 : is_alone                                                            ? &c->alone
+                 : words_are(w, 3, "device", "landlock") && words_is(w, 2, "optional") ? &c->unconfined
+                                                                                       : NULL;
     if (says != NULL)
         *says = true;
     return says != NULL;
@@ -156,11 +157,11 @@ static bool take_namespace(struct config *c, const struct words *w) {
 static const char *take_line(struct config *c, const struct words *w) {
     if (words_is(w, 1, "allow"))
         return limits_take(&c->limits, w);
-    if (take_namespace(c, w))
+    if (take_switch(c, w))
         return NULL;
     if (w->count != 3)
-        return "`device link NAME`, `tap NAME`, `group NAME`, `port off`, `persist`, `transient`, `isolate`, `shared` "
-               "or `allow ..` is expected";
+        return "`device link NAME`, `tap NAME`, `group NAME`, `port off`, `persist`, `transient`, `isolate`, `shared`, "
+               "`landlock optional` or `allow ..` is expected";
     if (words_is(w, 1, "link"))
         return take_name(c->link, w) ? NULL : "no network device can have this name";
     if (words_is(w, 1, "tap"))
@@ -169,7 +170,8 @@ static const char *take_line(struct config *c, const struct words *w) {
         return take_group(c, w) ? NULL : "there is no such group";
     if (words_is(w, 1, "port") && words_is(w, 2, "off"))
         return c->begins_off = true, NULL;
-    return "the word after `device` is not link, tap, group, port, persist, transient, isolate, shared or allow";
+    return "the word after `device` is not link, tap, group, port, persist, transient, isolate, shared, landlock or "
+           "allow";
 }
 
 /* Takes the lines of the device, and makes comments of them, so that the others keep their numbers. */
@@ -209,9 +211,9 @@ static int check_lines(const struct config *c) {
     return ENDS_WRONG;
 }
 
-/* Reads MAX of the `end` line, the first one that is not skipped. The library judges that line; this number is for the
- * MTU of TAP alone. The text ends with a zero. */
-static void take_max_frame(struct config *c) {
+/* Reads the `end` line, the first one that is not skipped: MAX, for the MTU of TAP, and the suite, for the limits. The
+ * library judges that line. The text ends with a zero. */
+static void take_end(struct config *c) {
     const char *line = (const char *)c->text;
     unsigned max;
     line += strspn(line, " \t\r\n");
@@ -219,6 +221,7 @@ static void take_max_frame(struct config *c) {
         line += strcspn(line, "\n");
         line += strspn(line, " \t\r\n");
     }
+    limits_take_end(&c->limits, line, strcspn(line, "\n"));
     c->max_frame = sscanf(line, "end A %*20s %*20s %9u", &max) == 1 ? max : MACSEC_FRAME_MAX;
 }
 
@@ -232,7 +235,7 @@ int config_read(struct config *c, const char *name) {
     if (result == 0)
         result = check_lines(c);
     if (result == 0)
-        take_max_frame(c);
+        take_end(c);
     else
         config_wipe(c);
     return result;

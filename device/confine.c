@@ -3,6 +3,7 @@
 #define _GNU_SOURCE
 #include "device.h"
 #include <errno.h>
+#include <grp.h>
 #include <linux/audit.h>
 #include <linux/capability.h>
 #include <linux/filter.h>
@@ -15,6 +16,7 @@
 #include <sys/mman.h>
 #include <sys/prctl.h>
 #include <sys/resource.h>
+#include <sys/stat.h>
 #include <sys/syscall.h>
 #include <unistd.h>
 
@@ -48,13 +50,31 @@ int confine_namespace(void) {
     return ENDS_FAILED;
 }
 
-static int drop_capabilities(void) {
-    struct __user_cap_header_struct header = { _LINUX_CAPABILITY_VERSION_3, 0 };
-    const struct __user_cap_data_struct none[2] = { { 0, 0, 0 }, { 0, 0, 0 } };
-    /* Without CAP_SETPCAP the bounding set stays. No new privileges can be had all the same. */
+/* Without CAP_SETPCAP the bounding set stays. No new privileges can be had all the same. */
+static void drop_bounding_set(void) {
     for (unsigned long capability = 0; prctl(PR_CAPBSET_READ, capability, 0, 0, 0) >= 0; capability++)
         if (prctl(PR_CAPBSET_DROP, capability, 0, 0, 0) != 0)
             break;
+}
+
+/* If it was started by root, it becomes the user of the journal's folder, so that what it writes there is that user's.
+ * With some settings of the system a change of the user allows core files again. */
+static int leave_root(int state) {
+    struct stat folder;
+    if (geteuid() != 0)
+        return 0;
+    if (fstat(state, &folder) == 0 &&
+        (folder.st_uid == 0 ||
+         (setgroups(0, NULL) == 0 && setresgid(folder.st_gid, folder.st_gid, folder.st_gid) == 0 &&
+          setresuid(folder.st_uid, folder.st_uid, folder.st_uid) == 0 && prctl(PR_SET_DUMPABLE, 0, 0, 0, 0) == 0)))
+        return 0;
+    message_of_errno("macsecd can't become the user of the journal's folder");
+    return ENDS_FAILED;
+}
+
+static int drop_capabilities(void) {
+    struct __user_cap_header_struct header = { _LINUX_CAPABILITY_VERSION_3, 0 };
+    const struct __user_cap_data_struct none[2] = { { 0, 0, 0 }, { 0, 0, 0 } };
     if (prctl(PR_CAP_AMBIENT, PR_CAP_AMBIENT_CLEAR_ALL, 0, 0, 0) != 0 || syscall(SYS_capset, &header, none) != 0 ||
         prctl(PR_SET_NO_NEW_PRIVS, 1, 0, 0, 0) != 0) {
         message_of_errno("capabilities can't be given up");
@@ -73,14 +93,15 @@ static int allow(int set, int folder, uint64_t access) {
 }
 
 /* From now on files can be opened in the journal's folder alone, and removed there and in the control socket's. */
-static int restrict_files(int state, int run) {
+static int restrict_files(int state, int run, bool unconfined) {
     const struct landlock_ruleset_attr all = { .handled_access_fs = (LANDLOCK_ACCESS_FS_MAKE_SYM << 1) - 1 };
     const uint64_t journal = LANDLOCK_ACCESS_FS_READ_FILE | LANDLOCK_ACCESS_FS_WRITE_FILE |
                              LANDLOCK_ACCESS_FS_MAKE_REG | LANDLOCK_ACCESS_FS_REMOVE_FILE;
     int set = (int)syscall(SYS_landlock_create_ruleset, &all, sizeof all, 0);
     if (set < 0 && (errno == ENOSYS || errno == EOPNOTSUPP)) {
-        message("this system has no Landlock: files are not restricted");
-        return 0;
+        message("this system has no Landlock: files can't be restricted%s",
+                unconfined ? "" : ". `device landlock optional` goes on without it");
+        return unconfined ? 0 : ENDS_FAILED;
     }
     if (set >= 0 && allow(set, state, journal) == 0 && allow(set, run, LANDLOCK_ACCESS_FS_REMOVE_FILE) == 0 &&
         syscall(SYS_landlock_restrict_self, set, 0) == 0)
@@ -194,7 +215,8 @@ int confine_saver(void) {
 
 #else
 
-static int restrict_files(int state, int run) {
+static int restrict_files(int state, int run, bool unconfined) {
+    (void)unconfined;
     (void)state;
     (void)run;
     return 0;
@@ -211,9 +233,11 @@ int confine_saver(void) {
 
 #endif
 
-int confine_rights(int state, int run) {
-    int result = drop_capabilities();
+int confine_rights(int state, int run, bool unconfined) {
+    int result;
+    drop_bounding_set();
+    result = leave_root(state);
     if (result == 0)
-        result = restrict_files(state, run);
-    return result;
+        result = drop_capabilities();
+    return result == 0 ? restrict_files(state, run, unconfined) : result;
 }

@@ -92,7 +92,8 @@ int control_open(struct control *k, const char *name, const struct config *c) {
 }
 
 void control_close(struct control *k) {
-    if (k->folder >= 0 && unlinkat(k->folder, k->file, 0) != 0 && errno != ENOENT)
+    /* If the folder is another user's by now, the next start removes it. */
+    if (k->folder >= 0 && unlinkat(k->folder, k->file, 0) != 0 && errno != ENOENT && errno != EACCES)
         message_of_errno("the control socket can't be removed");
 }
 
@@ -105,19 +106,52 @@ static void close_client(struct device *d, int index) {
     port_client_gone(d, index);
 }
 
-int control_accept(struct control *k) {
-    int octets = ANSWER, client = accept4(k->listener, NULL, NULL, SOCK_NONBLOCK | SOCK_CLOEXEC);
+/* Is the client root? */
+static bool is_root(int client) {
+    struct ucred who;
+    socklen_t length = sizeof who;
+    return getsockopt(client, SOL_SOCKET, SO_PEERCRED, &who, &length) == 0 && who.uid == 0;
+}
+
+/* Is connection i rather to end than connection j? Others' before root's, and then the one that is idle longest. */
+static bool ends_before(const struct control *k, int i, int j) {
+    if (j < 0 || k->is_root[i] != k->is_root[j])
+        return j < 0 || !k->is_root[i];
+    return k->used[i] < k->used[j];
+}
+
+/* Finds a free place for a client. If there is none, an idle connection ends: never the owner's, and root's only for
+ * root. Returns -1 if none can end. */
+static int make_place(struct device *d, bool for_root) {
+    struct control *k = &d->control;
+    int idle = -1;
+    for (int i = 0; i < CLIENTS; i++) {
+        if (k->clients[i] < 0)
+            return i;
+        if (i != d->port.owner && (!k->is_root[i] || for_root) && ends_before(k, i, idle))
+            idle = i;
+    }
+    if (idle >= 0)
+        close_client(d, idle);
+    return idle;
+}
+
+int control_accept(struct device *d) {
+    struct control *k = &d->control;
+    int octets = ANSWER, at, client = accept4(k->listener, NULL, NULL, SOCK_NONBLOCK | SOCK_CLOEXEC);
+    bool root = client >= 0 && is_root(client);
     if (client < 0)
         return -1; /* it has gone again, or there are too many files: the next one is tried again */
-    for (int i = 0; i < CLIENTS; i++) {
-        if (k->clients[i] >= 0)
-            continue;
-        (void)setsockopt(client, SOL_SOCKET, SO_SNDBUF, &octets, sizeof octets); /* else a long answer closes it */
-        k->clients[i] = client;
-        return i;
+    at = make_place(d, root);
+    if (at < 0) {
+        (void)close(client); /* there are as many as there can be */
+        return -1;
     }
-    (void)close(client); /* there are as many as there can be */
-    return -1;
+    (void)setsockopt(client, SOL_SOCKET, SO_SNDBUF, &octets, sizeof octets); /* else a long answer closes it */
+    k->clients[at] = client;
+    k->is_root[at] = root;
+    k->used[at] = ++k->uses;
+    return at;
 }
 
 /* ---- Requests ---- */
@@ -146,6 +180,7 @@ bool control_answer(struct device *d, int index) {
     count = length;
     request[length] = '\0';
     d->counts.requests++;
+    d->control.used[index] = ++d->control.uses;
     waits = requests_answer(d, &t, index, request, (size_t)length);
     explicit_bzero(request, (size_t)count); /* it may be a key */
     return (waits && waits_keep(d, index, answer, t.length)) || control_send(d, index, answer, t.length);

@@ -27,7 +27,8 @@ struct text {
 
 /* Names the device in the messages that follow. */
 void messages_name(const char *name);
-/* Prints a line. No frame makes one. */
+/* Prints a line. No frame makes one. One that comes again and again is printed once a minute, with how often it came.
+ */
 void message(const char *form, ...) __attribute__((format(printf, 1, 2)));
 /* The same, with the text of errno after it. */
 void message_of_errno(const char *form, ...) __attribute__((format(printf, 1, 2)));
@@ -61,12 +62,15 @@ const char *words_line(const char **text, size_t *left, size_t *length);
 /* ---- limits.c: what requests may weaken ---- */
 
 struct limits {
-    bool unprotected, check, disabled, late, integrity;
-    uint64_t window; /* the widest replay window */
+    bool unprotected, check, disabled, late, integrity, offset;
+    unsigned key_length; /* the octets of the shortest key */
+    uint64_t window;     /* the widest replay window */
 };
 
 /* Takes the words of a line `device allow ..`. Returns what is wrong with it, or NULL. */
 const char *limits_take(struct limits *l, const struct words *w);
+/* Takes the line that creates the endpoint: requests may not install shorter keys than those of its suite. */
+void limits_take_end(struct limits *l, const char *line, size_t length);
 /* Do the limits allow a line for the endpoint? */
 bool limits_allow(const struct limits *l, const struct words *w);
 
@@ -82,6 +86,7 @@ struct config {
     bool transient;  /* does TAP end with macsecd? */
     bool isolated;   /* does a line say that LINK is in a network namespace of its own? It is unless it is shared. */
     bool alone;      /* are the devices below LINK not in that namespace? */
+    bool unconfined; /* does macsecd go on without Landlock? */
     bool shared;     /* is LINK in the host's network namespace? */
     bool begins_off; /* is the controlled port off at the start? */
     struct limits limits;
@@ -424,12 +429,17 @@ void endpoint_load(struct device *d, struct text *t, const char *lines, size_t l
 
 /* ---- handover.c: a second endpoint ---- */
 
+/* How many milliseconds it is waited for the reservations of new transmit associations, while no frame is read. */
+enum { HANDOVER_WAITS = 50 };
+
 /* Makes a second endpoint in the free handle: a copy with the keys that are not retired, the channels and the
  * associations, which go on with the reservations. Returns NULL, after a message, if it can't be made. */
 macsec_endpoint *handover_begin(struct device *d);
 /* Reserves for it, and lets it take over from the first. Returns false, after a message, if no record can be written:
  * then it is freed. */
 bool handover_finish(struct device *d, macsec_endpoint *e);
+/* Lets it take over, if need be without a reservation: frames are dropped until one is made. */
+void handover_take(struct device *d, macsec_endpoint *e);
 
 /* ---- answers.c: the text of answers ---- */
 
@@ -522,13 +532,16 @@ void waits_client_gone(struct device *d, int client);
 struct control {
     int listener, folder;
     int clients[CLIENTS]; /* -1: there is none */
+    bool is_root[CLIENTS];
+    uint64_t used[CLIENTS]; /* which use of the socket was a client's last one */
+    uint64_t uses;
     char file[IF_NAMESIZE + 8];
 };
 
 /* Opens the socket. Returns 0, or the exit status after a message. */
 int control_open(struct control *k, const char *name, const struct config *c);
-/* Accepts a connection. Returns its index, or -1. */
-int control_accept(struct control *k);
+/* Accepts a connection, for which an idle one may end. Returns its index, or -1. */
+int control_accept(struct device *d);
 /* Answers a request of a client. Returns false if the connection has ended; it is closed then. */
 bool control_answer(struct device *d, int index);
 /* Sends an answer to a client. Returns false if the connection has ended; it is closed then. */
@@ -586,9 +599,10 @@ void service_notify(const char *assignment);
 int confine_memory(void);
 /* No CAP_SYS_ADMIN: to be called when LINK's namespace was entered. Returns 0, or the exit status after a message. */
 int confine_namespace(void);
-/* No capabilities, no new privileges, and no files except in the folders of the journal and the control socket: to be
- * called before the thread of the journal is started. All return 0, or the exit status after a message. */
-int confine_rights(int state, int run);
+/* The user of the journal's folder if it is root, no capabilities, no new privileges, and no files except in the
+ * folders of the journal and the control socket: to be called before the thread of the journal is started. Without
+ * Landlock it fails, unless the configuration allows that. All return 0, or the exit status after a message. */
+int confine_rights(int state, int run, bool unconfined);
 /* Only some system calls: in the thread that has the frames, and in that of the journal, which has other ones. */
 int confine_calls(void);
 int confine_saver(void);

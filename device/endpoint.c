@@ -1,7 +1,11 @@
 /* The endpoint, by the lines of requests and of the configuration. The library judges each line. */
 #include "device.h"
 #include <stdio.h>
+#include <stdlib.h>
 #include <string.h>
+
+/* The most octets of a line, as the library has it. */
+enum { LINE_LONGEST = 20000 };
 
 /* What a line that was carried out means for the device. `passes`: a key agreement owns the device, so the key of the
  * line does not come again once it is retired. */
@@ -38,16 +42,22 @@ void endpoint_close(struct device *d) {
 /* Creates an endpoint of an `end` line, which replaces the one that there is. If it fails, nothing has changed. */
 static uint32_t create(struct device *d, const char *line, size_t length) {
     macsec_endpoint *e = &d->handles[d->endpoint == &d->handles[0]];
+    char copy[END_LINE];
+    struct text end = { copy, 0, sizeof copy, false };
     struct words w;
-    size_t end = 0;
     uint32_t status = numbers_configure(d->numbers, e, line, length, NULL, 0);
     if (status != MACSEC_OK)
         return status;
-    endpoint_close(d);
-    d->endpoint = e;
     words_split(&w, line, length);
     for (unsigned i = 0; i < w.count; i++) /* six words: SUITE, SCI and FORM are short, MAX has at most 20 digits */
-        end += (size_t)snprintf(d->end_line + end, END_LINE - end, "%.*s ", (int)w.length[i], w.at[i]);
+        text_add(&end, "%.*s ", (int)w.length[i], w.at[i]);
+    if (end.full) {
+        macsec_free(e);
+        return MACSEC_E_LINE_LONG;
+    }
+    endpoint_close(d);
+    d->endpoint = e;
+    memcpy(d->end_line, copy, sizeof copy);
     return status;
 }
 
@@ -153,24 +163,51 @@ struct result endpoint_command(struct device *d, const char *line, size_t length
 
 /* ---- All lines or none ---- */
 
-/* Carries out the lines at a second endpoint, and adds the answers. Returns false if one was refused: then the answer
- * is that of this line alone. */
-static bool load_lines(const struct device *d, macsec_endpoint *e, struct text *t, const char *lines, size_t left) {
+/* What `load` does with a line. */
+typedef struct result (*line_action)(struct device *d, macsec_endpoint *copy, const char *line, size_t length);
+
+/* Carries it out at a copy of the endpoint. */
+static struct result try_line(struct device *d, macsec_endpoint *copy, const char *line, size_t length) {
+    struct result r = { NULL, MACSEC_OK, 0 };
+    struct words w;
+    words_split(&w, line, length);
+    if (!limits_allow(&d->config.limits, &w))
+        r.fault = "NotAllowed";
+    else
+        r.status = lines_carry_out(d->numbers, copy, line, length, &r.raised);
+    return r;
+}
+
+/* Carries it out at the endpoint, after a copy has taken it. */
+static struct result do_line(struct device *d, macsec_endpoint *copy, const char *line, size_t length) {
+    struct result r = { NULL, MACSEC_OK, 0 };
+    struct words w;
+    (void)copy;
+    words_split(&w, line, length);
+    r.status = lines_carry_out(d->numbers, d->endpoint, line, length, &r.raised);
+    if (r.status == MACSEC_OK)
+        note(d, &w, port_has_owner(d));
+    return r;
+}
+
+/* Carries it out alone. */
+static struct result do_only_line(struct device *d, macsec_endpoint *copy, const char *line, size_t length) {
+    (void)copy;
+    return endpoint_command(d, line, length);
+}
+
+/* Does this with each line, and adds the answers. Returns false if one was refused: then the answer is that of this
+ * line alone. */
+static bool load_lines(struct device *d, macsec_endpoint *copy, line_action action, struct text *t, const char *lines,
+                       size_t left) {
     const char *line;
     size_t length;
     bool fails = false;
+    t->length = 0;
     for (unsigned number = 1; !fails && (line = words_line(&lines, &left, &length)) != NULL; number++) {
-        struct result r = { NULL, MACSEC_OK, 0 };
-        struct words w;
-        words_split(&w, line, length);
-        if (w.count > 0 && w.at[0][0] == '#')
-            w.count = 0;
-        if (!limits_allow(&d->config.limits, &w))
-            r.fault = "NotAllowed";
-        else
-            r.status = lines_carry_out(d->numbers, e, line, length, &r.raised);
+        struct result r = action(d, copy, line, length);
         fails = r.fault != NULL || r.status != MACSEC_OK;
-        if (w.count == 0 && !fails)
+        if (is_skipped(line, length) && !fails)
             continue;
         if (fails)
             t->length = 0;
@@ -182,7 +219,17 @@ static bool load_lines(const struct device *d, macsec_endpoint *e, struct text *
     return !fails && !t->full;
 }
 
-/* What the lines mean for the device, now that they are carried out. */
+/* How many lines can be refused? 2 stands for more. */
+static unsigned lines_to_do(const char *lines, size_t left) {
+    const char *line;
+    size_t length;
+    unsigned count = 0;
+    while (count < 2 && (line = words_line(&lines, &left, &length)) != NULL)
+        count += !is_skipped(line, length) || length > LINE_LONGEST;
+    return count;
+}
+
+/* What the lines mean for the device, now that a second endpoint has carried them out. */
 static void note_lines(struct device *d, const char *lines, size_t left) {
     const char *line;
     size_t length;
@@ -193,22 +240,46 @@ static void note_lines(struct device *d, const char *lines, size_t left) {
     }
 }
 
+/* Carries out lines that a copy has taken, at the endpoint itself: so no packet number is skipped. The endpoint can
+ * refuse one all the same, since it knows the retired keys and the copy does not. Then the copy takes over, with all
+ * lines, and its answers are those. */
+static void do_lines(struct device *d, macsec_endpoint *copy, struct text *t, const char *lines, size_t length) {
+    struct text tried = { malloc(t->length), t->length, t->length, false };
+    struct result r = { NULL, MACSEC_E_MEMORY, 0 };
+    if (tried.octets == NULL) {
+        macsec_free(copy);
+        t->length = 0;
+        answer_result(t, &r);
+        return;
+    }
+    memcpy(tried.octets, t->octets, tried.length);
+    if (load_lines(d, copy, do_line, t, lines, length)) {
+        macsec_free(copy);
+        (void)numbers_reserve_soon(d->numbers, d->endpoint, HANDOVER_WAITS); /* a failure is reported */
+    } else {
+        handover_take(d, copy);
+        note_lines(d, lines, length);
+        t->full = false;
+        t->length = tried.length;
+        memcpy(t->octets, tried.octets, tried.length);
+        message("a second endpoint goes on after `load`");
+    }
+    free(tried.octets);
+}
+
 void endpoint_load(struct device *d, struct text *t, const char *lines, size_t length) {
     struct result r = { NULL, MACSEC_E_MEMORY, 0 };
-    macsec_endpoint *e;
-    if (!endpoint_is_open(d))
+    macsec_endpoint *copy;
+    if (!endpoint_is_open(d)) {
         r.status = MACSEC_E_EMPTY;
-    else if ((e = handover_begin(d)) != NULL) {
-        if (!load_lines(d, e, t, lines, length)) {
-            macsec_free(e);
-            return;
-        }
-        if (handover_finish(d, e)) {
-            note_lines(d, lines, length);
-            return;
-        }
-        r.fault = "Journal";
+        answer_result(t, &r);
+    } else if (lines_to_do(lines, length) < 2) {
+        (void)load_lines(d, NULL, do_only_line, t, lines, length); /* the answer says what became of it */
+    } else if ((copy = handover_begin(d)) == NULL) {
+        answer_result(t, &r);
+    } else if (load_lines(d, copy, try_line, t, lines, length)) {
+        do_lines(d, copy, t, lines, length);
+    } else {
+        macsec_free(copy);
     }
-    t->length = 0;
-    answer_result(t, &r);
 }

@@ -1,5 +1,6 @@
-/* A second endpoint. The first one has taken all the keys that an endpoint can take, or lines are carried out all or
- * none: then a copy of it takes over between two frames, so that none is lost.
+/* A second endpoint. The first one has taken all the keys that an endpoint can take, or a key number of lines that are
+ * carried out all or none is that of a retired key: then a copy of it takes over between two frames, so that none is
+ * lost.
  *
  * The copy is made beside the journal, as after a restart, with one difference: of each key that the first endpoint
  * sends under, it reads up to where that has sent, and not what it has reserved. So a transmit association goes on one
@@ -12,9 +13,6 @@
 #include <string.h>
 
 enum { LINE = 128 };
-
-/* How many milliseconds the copy waits for the reservations of new transmit associations before it takes over. */
-enum { WAITS = 50 };
 
 /* ---- Up to where the first endpoint has sent ---- */
 
@@ -150,15 +148,20 @@ macsec_endpoint *handover_begin(struct device *d) {
     return NULL;
 }
 
-bool handover_finish(struct device *d, macsec_endpoint *e) {
+void handover_take(struct device *d, macsec_endpoint *e) {
     macsec_endpoint *before = d->endpoint;
-    if (!numbers_reserve_soon(d->numbers, e, WAITS)) {
+    (void)numbers_reserve_soon(d->numbers, e, HANDOVER_WAITS);
+    totals_carry(before);
+    macsec_free(before);
+    d->endpoint = e;
+}
+
+bool handover_finish(struct device *d, macsec_endpoint *e) {
+    if (!numbers_reserve_soon(d->numbers, e, HANDOVER_WAITS)) {
         message("the second endpoint does not take over: its packet numbers can't be reserved");
         macsec_free(e);
         return false;
     }
-    totals_carry(before);
-    macsec_free(before);
-    d->endpoint = e;
+    handover_take(d, e);
     return true;
 }

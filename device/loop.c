@@ -29,6 +29,7 @@ int loop_block_signals(struct device *d) {
     sigaddset(&set, SIGPIPE);
     sigaddset(&set, SIGUSR1);
     sigaddset(&set, SIGUSR2);
+    sigaddset(&set, SIGXFSZ); /* else a journal above a limit ends macsecd, where a write can fail */
     if (sigprocmask(SIG_BLOCK, &set, NULL) == 0)
         d->signals = signalfd(-1, &set, SFD_NONBLOCK | SFD_CLOEXEC);
     else
@@ -160,7 +161,7 @@ static int send_answers(struct device *d) {
 }
 
 static int on_listener(struct device *d) {
-    int index = control_accept(&d->control);
+    int index = control_accept(d);
     if (index < 0)
         return GOES_ON;
     d->waits.clients[index].unwatched = false;

@@ -55,7 +55,7 @@ static int start(struct device *d) {
     if (result == 0)
         result = loop_open(d);
     if (result == 0)
-        result = confine_rights(numbers_folder(d->numbers), d->control.folder);
+        result = confine_rights(numbers_folder(d->numbers), d->control.folder, d->config.unconfined);
     if (result == 0)
         result = numbers_start(d->numbers, d->endpoint); /* the thread of the journal has no other rights either */
     return result == 0 ? confine_calls() : result;

@@ -7,6 +7,7 @@
 #include <linux/if_tun.h>
 #include <linux/sockios.h>
 #include <sched.h>
+#include <stdio.h>
 #include <stdlib.h>
 #include <string.h>
 #include <sys/ioctl.h>
@@ -16,12 +17,16 @@
 
 enum { INDEXES = 100 };
 
-/* A broadcast of an EtherType for experiments. */
-static uint8_t frame[60] = { 0xff, 0xff, 0xff, 0xff, 0xff, 0xff, 2,   2,   2,   2,
-                             2,    2,    0x88, 0xb5, 's',  't',  'o', 'l', 'e', 'n' };
+/* A broadcast of an EtherType for experiments, after the ten octets that LINK's socket expects before a frame. */
+static uint8_t frame[70] = { [10] = 0xff, 0xff, 0xff, 0xff, 0xff, 0xff, 2,   2,   2,   2,
+                             2,           2,    0x88, 0xb5, 's',  't',  'o', 'l', 'e', 'n' };
 
+/* Not by message(), which limits how often one is printed. */
 static void say(const char *call, int index, long result) {
-    message("taken %s %d %d", call, index, result < 0 ? errno : 0);
+    char line[80];
+    int length = snprintf(line, sizeof line, "macsecd: taken %s %d %d\n", call, index, result < 0 ? errno : 0);
+    if (write(STDERR_FILENO, line, (size_t)length) != length)
+        abort();
 }
 
 /* Frames by each device, and each device made to pass frames to any address. */

@@ -8,7 +8,7 @@ import secrets
 import socket
 
 from house.reporting import report, until
-from macsecd_world import End, Packets, World, connected, ping, protected
+from macsecd_world import SALT, End, Packets, World, connected, ping, protected
 
 # A line that weakens the protection, and what the configuration has to allow for it.
 WEAKER = [
@@ -18,6 +18,8 @@ WEAKER = [
     ("A replay off 0", "replay off"),
     ("A replay on 33", "replay 33"),
     ("A txsa 1 0 1 int", "int"),
+    (f"A key 7 {'07' * 16} 30", "offset"),
+    (f"A key 8 {'08' * 32} 50 gcm256", "offset"),
 ]
 
 
@@ -139,10 +141,10 @@ def check_limits(world: World) -> None:
     for allowed in [None, *WEAKER]:
         a.write_config(device="device link link0\n" + (f"device allow {allowed[1]}\n" if allowed else ""))
         a.start()
-        for line, _ in WEAKER:
+        for line, weaker in WEAKER:
             for form in forms(line):
                 got = a.ask(form)
-                holds = ("NotAllowed" in got) != (allowed is not None and allowed[0] == line)
+                holds = ("NotAllowed" in got) != (allowed is not None and allowed[1] == weaker)
                 if allowed == ("A replay off 0", "replay off") and line == "A replay on 33":
                     holds = got.endswith("ok\n")
                 report(holds, f"{form!r} with `device allow {allowed and allowed[1]}`: {got!r}")
@@ -150,6 +152,36 @@ def check_limits(world: World) -> None:
         for line in ("A replay on 0", "A protect on", "A validate strict"):
             report(a.ask(line) == "ok\n", f"{line} with `device allow {allowed and allowed[1]}`")
         report(a.ask("A replay on 18446744073709551616") != "ok\n", "a window of 2^64")
+        a.stop()
+
+
+def check_key_lengths(world: World) -> None:
+    """The keys that a client may install: no shorter ones than the configuration names, and none with an offset."""
+    a = world.ends[0]
+    short, long = (f"A key 7 {'07' * 16} 0 gcm128", "xpn128"), (f"A key 8 {'08' * 32} 0 gcm256", "xpn256")
+    for suite, allowed, may in (
+        ("gcm128", "", True),
+        ("gcm256", "", False),
+        ("xpn256", "", False),
+        ("gcm256", "device allow gcm256\n", False),
+        ("gcm256", "device allow xpn128\n", True),
+        ("", "", True),
+        ("", "device allow gcm256\n", False),
+        ("", "device allow gcm256\ndevice allow gcm128\n", True),
+    ):
+        if suite:
+            a.write_config(suite, device="device link link0\n" + allowed)
+        else:
+            configure(a, *allowed.splitlines())
+        a.start()
+        if not suite:
+            a.carry_out(f"open {a.sci} gcm128")
+        for line, extended in (short, long):
+            for form in (line, line.rsplit(" ", 1)[0] + f" {extended} 00000001 {SALT}"):
+                is_allowed = "NotAllowed" not in a.ask(form)
+                report(is_allowed == (may or line == long[0]), f"{form!r} with {suite!r} and {allowed!r}")
+        got = a.ask(f"A key 9 {'09' * 16} 0")
+        report(("NotAllowed" in got) != may, f"a key of the endpoint's suite with {suite!r} and {allowed!r}: {got!r}")
         a.stop()
 
 
@@ -169,3 +201,4 @@ def check_agreement(world: World) -> None:
     told = world.ends[0].run("macsec0")
     report(told.returncode == 2 and "line 2: after `device allow`" in told.stderr, f"`device allow nothing`: {told}")
     check_limits(world)
+    check_key_lengths(world)

@@ -10,6 +10,7 @@ import subprocess
 import threading
 import time
 from collections.abc import Iterator
+from typing import Callable
 
 from house.reporting import Failed, report
 from macsecd_requests import state_of
@@ -232,9 +233,11 @@ def check_numbers(a: End) -> None:
     """A second endpoint goes on one packet number later, and uses no number of the first one again."""
     before, last = next_of(a), 0
     for _ in range(3):
-        report(a.ask("load\n#") == "ok\n", "`load` without a command is refused")
+        a.hand_over()
         last = next_of(a)
-    report(before < last < before + 20, f"three loads: the next packet number rises from {before} to {last}")
+    report(
+        before < last < before + 20, f"three endpoints take over: the next packet number rises from {before} to {last}"
+    )
     a.carry_out("A txoff 0", "A txdel 0")
     answer = a.ask("A txsa 0 0 1 conf")
     report(
@@ -291,8 +294,13 @@ def check_load(a: End, macsecctl: list[str]) -> None:
                 report(state() == before, f"load with {wrong[:30]!r} at {place}: {before} became {state()}")
         report(next_of(a) < number + 1000 and ping(a) == 3, "a refused `load` has changed the endpoint")
         report(a.log() == log, f"messages for a refused `load`: {a.log()[len(log):]}")
-        report(load("#") == "ok\n" == load(""), "`load` without a command")
-        report(load("A txon 0", "", "A txon 0") == "1 ok\n3 ok\n" and ping(a) == 3, "`load` of what is so already")
+        number = next_of(a)
+        for _ in range(20):
+            report(load("#") == "ok\n" == load(""), "`load` without a command")
+            report(load("A txon 0") == "1 ok\n" == load("#", "A txonn 0").replace("2 fault Word", "1 ok"), "one line")
+            report(load("A txon 0", "", "A txon 0") == "1 ok\n3 ok\n", "`load` of what is so already")
+        report(load("A txoff 0", "#" + "x" * 20000) == "2 fault LineLong\n", "a comment that is too long")
+        report(next_of(a) < number + 100 and ping(a) == 3, f"`load` has skipped numbers from {number} to {next_of(a)}")
         report(load("y" * 140000) == "fault LoadLong\n", "`load` that is too long")
         counters = a.counters()
         got = load(*good)
@@ -305,8 +313,24 @@ def check_load(a: End, macsecctl: list[str]) -> None:
         fell = [name for name, value in counters.items() if a.counters().get(name, value) < value]
         report(not fell, f"counters have fallen: {fell}")
         report(f"{peer.sci} 0 InPktsOK" not in a.counters(), "an association that was deleted still counts")
-        report(load(f"A key 0 {key[3]} 0") == "1 ok\n", "the number of a retired key in a second endpoint")
+        check_number_again(a, load, key[3])
     check_macsecctl(a, macsecctl)
+
+
+def check_number_again(a: End, load: Callable[..., str], key: str) -> None:
+    """The number of a retired key: the endpoint refuses it, and a second one takes over, with all lines."""
+    state, log = state_of(a), a.log()
+    report(load(f"A key 0 {key} 0") == "1 refused 3 KeyNumberUsed\n", "the number of a retired key, alone")
+    got = load("A txoff 1", f"A key 0 {key} 0", "A txon 9")
+    report(got.startswith("3 ") and state_of(a) == state and a.log() == log, f"a refused line after it: {got!r}")
+    report(load("A txoff 1", f"A key 0 {key} 0", "A txon 1") == "1 ok\n2 ok\n3 ok\n", "the number of a retired key")
+    report(
+        "a second endpoint goes on after `load`" in a.log() and state_of(a) != state,
+        "no second endpoint has taken over",
+    )
+    # The copy was told all lines: the keys of the device are those of the endpoint, so that it can take over again.
+    a.hand_over()
+    report(load("A retire 0", "A protect on") == "1 ok\n2 ok\n", "a key of a second endpoint")
 
 
 def check_macsecctl(a: End, macsecctl: list[str]) -> None:

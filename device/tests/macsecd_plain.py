@@ -1,5 +1,5 @@
-"""Validation modes that deliver frames without protection: over a virtual LINK these come without a checksum, and several
-segments in one."""
+"""Validation modes that deliver frames without protection. Over a virtual LINK these come without a checksum, and
+several segments in one."""
 
 from __future__ import annotations
 
@@ -130,7 +130,7 @@ FLAGS = 0x99  # FIN, PSH, ACK and CWR
 
 
 def unfinished(version: int, is_udp: bool, data: bytes) -> tuple[bytes, bytes]:
-    """What is before a frame at a packet socket, and a frame with a VLAN tag whose segments have SIZE octets of data."""
+    """What is before a frame at a packet socket, and a frame with a VLAN tag: segments with SIZE octets of data."""
     own, peer = (
         (b"\x0a\x09\0\1", b"\x0a\x09\0\2") if version == 4 else (b"\xfd\x09" + bytes(14), b"\xfd\x0a" + bytes(14))
     )

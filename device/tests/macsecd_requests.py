@@ -3,9 +3,13 @@
 from __future__ import annotations
 
 import contextlib
+import grp
 import json
+import os
 import random
 import socket
+import subprocess
+import sys
 from typing import Callable
 
 from house.reporting import report, until
@@ -125,6 +129,76 @@ def check_clients(end: End) -> None:
             lazy.send(b"json")
     report(end.ask("A txon 0") == "ok\n" and ping(end) == 3, "no answer while a client does not read")
     lazy.close()
+
+
+# One that other users may run.
+PYTHON = "/usr/bin/python3" if os.path.exists("/usr/bin/python3") else sys.executable
+# As another user: many connections that stay open. It prints whether the first and the last of them are answered.
+CROWD = """
+import socket, struct, sys
+them = []
+for _ in range(40):
+    it = socket.socket(socket.AF_UNIX, socket.SOCK_SEQPACKET)
+    it.setsockopt(socket.SOL_SOCKET, socket.SO_SNDTIMEO, struct.pack("ll", 5, 0))
+    it.connect(sys.argv[1])
+    it.settimeout(5)
+    them.append(it)
+def is_answered(it):
+    try:
+        it.send(b"port")
+        return it.recv(1000) != b""
+    except OSError:
+        return False
+print(is_answered(them[0]), is_answered(them[-1]), flush=True)
+sys.stdin.read()
+"""
+
+
+def check_crowd(end: End) -> None:
+    """Idle connections of another user lock nobody out, and end neither the owner's connection nor root's."""
+    owner, root = connected(end.socket, 5), connected(end.socket, 5)
+    for client, request in ((owner, b"own"), (root, b"port")):
+        client.send(request)
+        client.recv(1000)
+    crowd = subprocess.Popen(
+        [PYTHON, "-c", CROWD, end.socket],
+        stdin=subprocess.PIPE,
+        stdout=subprocess.PIPE,
+        text=True,
+        user=65534,
+        group=grp.getgrnam("nogroup").gr_gid,
+        extra_groups=[],
+    )
+    assert crowd.stdout is not None and crowd.stdin is not None
+    told = crowd.stdout.readline()
+    report(told == "False True\n", f"the first and the last of 40 connections of another user: {told!r}")
+    for name, client in (("the owner", owner), ("root's idle connection", root), ("root", connected(end.socket, 5))):
+        got = b""
+        with contextlib.suppress(OSError):
+            client.send(b"port")
+            got = client.recv(1000)
+        report(got == b"port on\n", f"{name} beside 40 connections of another user: {got!r}")
+    more = [connected(end.socket, 5) for _ in range(40)]
+    more[-1].send(b"port")
+    report(more[-1].recv(1000) == b"port on\n", "root beside 40 idle connections of root")
+    owner.send(b"port")
+    report(owner.recv(1000) == b"port on\n", "the owner beside 40 connections of root")
+    for client in (owner, root, *more):
+        client.close()
+    crowd.stdin.close()
+    crowd.wait()
+
+
+def check_log(end: End) -> None:
+    """A client that makes a message again and again does not fill the log."""
+    before = end.log().count("the owner has gone")
+    for _ in range(300):
+        with contextlib.closing(connected(end.socket, 5)) as it:
+            it.send(b"own")
+            it.recv(1000)
+    report(until(lambda: end.ask("A protect on") == "ok\n"), "the owner has gone, and stays the owner")
+    count = end.log().count("the owner has gone") - before
+    report(1 <= count <= 10, f"{count} messages about 300 owners")
 
 
 def has_carrier(end: End) -> bool:

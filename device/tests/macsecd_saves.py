@@ -22,7 +22,7 @@ from house import ROOT
 from house.compiling import INCLUDED, WARNINGS
 from house.reporting import call, report, until
 from macsecd_handover import Client, dropped
-from macsecd_world import End, Packets, Stream, World, build
+from macsecd_world import End, Packets, Stream, World, build, hand_over_lines
 
 CHANNELS = 64
 
@@ -434,7 +434,7 @@ def check_threads(world: World, programs: pathlib.Path) -> None:
         for number in range(40 * own, 40 * own + 40):
             client.carry_out(f"A key {number} {secrets.token_hex(16)} 0", f"A txsa {own} {number} 1 conf")
             client.carry_out(f"A txdel {own}", f"A retire {number}")
-            client.ask("load\n#" if number % 8 == 0 else "json")
+            client.ask(hand_over_lines(secrets.token_hex(16)) if number % 8 == 0 else "json")
         client.socket.close()
 
     try:

@@ -324,6 +324,13 @@ A rxon 02000000000{peer}0001 0
             if not answer.startswith("ok"):
                 raise Failed(f"{line}: {answer}")
 
+    def hand_over(self, octets: int = 16) -> None:
+        """Lets a second endpoint take over: a copy does not know the retired keys, and takes the number of one."""
+        keys = [secrets.token_hex(octets) for _ in range(2)]
+        self.ask(f"A key 4000 {keys[0]} 0", "A retire 4000")
+        got = self.ask(hand_over_lines(keys[1]))
+        report(got == "1 ok\n2 ok\n", f"a second endpoint does not take over: {got}")
+
     def ended(self, seconds: float = 15.0) -> int | None:
         """The exit status of macsecd, or None if it does not end."""
         assert self.process is not None
@@ -342,6 +349,11 @@ A rxon 02000000000{peer}0001 0
             self.process.wait()
         self.process = None
         return status
+
+
+def hand_over_lines(key: str) -> str:
+    """A request by which a second endpoint takes over, if the key 4000 is retired."""
+    return f"load\nA key 4000 {key} 0\nA retire 4000"
 
 
 def expect(end: End, what: str, status: int, text: str) -> None:
