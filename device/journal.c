@@ -324,6 +324,40 @@ int journal_replace(struct journal *journal, const uint8_t *octets, size_t lengt
     return put_spare(journal, length, fault);
 }
 
+/* ---- The endpoint ---- */
+
+static int check_endpoint(const struct journal *journal, const macsec_endpoint *e, struct journal_fault *fault) {
+    return journal->endpoint == e ? 0 : failed(fault, JOURNAL_ENDPOINT, EBUSY);
+}
+
+/* Gives the journal to an endpoint that was made beside it. */
+static int give(struct journal *journal, const macsec_endpoint *e, uint32_t status, struct journal_fault *fault) {
+    if (status != MACSEC_OK)
+        return failed_in_library(fault, status);
+    journal->endpoint = e;
+    return 0;
+}
+
+int journal_make_endpoint(struct journal *journal, macsec_endpoint *e, const macsec_config *config,
+                          struct journal_fault *fault) {
+    if (check_endpoint(journal, NULL, fault) != 0)
+        return -1;
+    return give(journal, e, macsec_reserve_open(e, config, journal->octets, journal->length), fault);
+}
+
+int journal_configure(struct journal *journal, macsec_endpoint *e, const char *text, size_t length, uint32_t *line,
+                      struct journal_fault *fault) {
+    if (check_endpoint(journal, NULL, fault) != 0)
+        return -1;
+    return give(journal, e,
+                macsec_reserve_configure(e, (const uint8_t *)text, length, journal->octets, journal->length, line),
+                fault);
+}
+
+void journal_hand_over(struct journal *journal, const macsec_endpoint *next) {
+    journal->endpoint = next;
+}
+
 /* ---- Records ---- */
 
 /* Has this process made the record durable? One that was read may be in the page cache only. */
@@ -371,7 +405,10 @@ static int append_and_report(struct journal *journal, macsec_endpoint *e, const 
 int journal_reserve(struct journal *journal, macsec_endpoint *e, uint8_t an, uint64_t amount,
                     struct journal_fault *fault) {
     macsec_record record;
-    uint32_t status = macsec_reserve_wanted(e, an, amount, &record);
+    uint32_t status;
+    if (check_endpoint(journal, e, fault) != 0)
+        return -1;
+    status = macsec_reserve_wanted(e, an, amount, &record);
     if (status == MACSEC_E_NOT_FOUND)
         return 0;
     return status != MACSEC_OK ? failed_in_library(fault, status) : append_and_report(journal, e, &record, fault);
@@ -380,7 +417,10 @@ int journal_reserve(struct journal *journal, macsec_endpoint *e, uint8_t an, uin
 int journal_save(struct journal *journal, macsec_endpoint *e, const uint8_t sci[8], uint8_t an,
                  struct journal_fault *fault) {
     macsec_record record;
-    uint32_t status = macsec_reserve_to_save(e, sci, an, &record);
+    uint32_t status;
+    if (check_endpoint(journal, e, fault) != 0)
+        return -1;
+    status = macsec_reserve_to_save(e, sci, an, &record);
     if (status == MACSEC_E_NOT_FOUND)
         return 0;
     return status != MACSEC_OK ? failed_in_library(fault, status) : append_and_report(journal, e, &record, fault);
@@ -426,6 +466,8 @@ const char *journal_step_name(enum journal_step step) {
         return "write";
     case JOURNAL_SYNC:
         return "sync";
+    case JOURNAL_ENDPOINT:
+        return "endpoint";
     case JOURNAL_LIBRARY:
         return "library";
     default:

@@ -9,7 +9,7 @@
  *     struct journal journal;
  *     struct journal_fault fault;
  *     if (journal_open(&journal, path, JOURNAL_LIMIT, &fault) != 0) ...
- *     macsec_reserve_open(&e, &config, journal.octets, journal.length);
+ *     if (journal_make_endpoint(&journal, &e, &config, &fault) != 0) ...
  *     macsec_install_key(&e, &sak); macsec_add_tx_sa(&e, an, sak.number, next, true);
  *     if (journal_reserve(&journal, &e, an, journal_amount(rate), &fault) != 0) ...
  *     macsec_enable_tx_sa(&e, an);
@@ -26,6 +26,10 @@
  *            F_SETLK would end when any code of the process closes another descriptor of the file. A child made by fork
  *            shares the lock, and a program started by exec does not. After a fork, only one process may use the
  *            journal and its endpoint. Use a local file system.
+ * ENDPOINT   One endpoint at a time sends beside a journal: two that are made of the same octets would use the same
+ * packet numbers under a key, in one process too. So journal_make_endpoint and journal_configure make no second one,
+ *            and journal_reserve and journal_save do nothing for another one (JOURNAL_ENDPOINT), until
+ * journal_hand_over says that the first one sends nothing more. An endpoint of macsec_reserve_open is another one.
  * DURABLE    A call that returns 0 after it wrote a record has written all of it, fdatasync returned 0, and the name of
  *            the file still leads to it. Only then is the record reported to the endpoint (macsec_reserve_granted).
  * FAILURES   After a failed fdatasync, Linux marks the pages as clean, and the next one can return 0 although nothing
@@ -91,6 +95,7 @@ enum journal_step {
     JOURNAL_READ,        /* reading */
     JOURNAL_WRITE,       /* writing */
     JOURNAL_SYNC,        /* making what was written durable */
+    JOURNAL_ENDPOINT,    /* EBUSY: another endpoint has the journal */
     JOURNAL_LIBRARY      /* EINVAL: the library's call returned `status` */
 };
 
@@ -107,7 +112,8 @@ struct journal {
     uint8_t *spare;  /* as large as `octets` */
     size_t room;     /* of both */
     size_t own;      /* from here on this process has made the records durable */
-    int file;        /* locked */
+    const macsec_endpoint *endpoint; /* that has the journal, or NULL */
+    int file;                        /* locked */
     int folder;
     dev_t device; /* which file it is */
     ino_t inode;
@@ -122,6 +128,18 @@ int journal_create(const char *path, struct journal_fault *fault);
 /* Opens, locks and reads a journal. The limit is in octets, at least 128. The library tests the header when it is given
  * the octets (MACSEC_E_NOT_JOURNAL). */
 int journal_open(struct journal *journal, const char *path, size_t limit, struct journal_fault *fault);
+
+/* Makes an endpoint beside the journal, as macsec_reserve_open and macsec_reserve_configure do, unless another one has
+ * it. If the library refuses it, none has. */
+int journal_make_endpoint(struct journal *journal, macsec_endpoint *e, const macsec_config *config,
+                          struct journal_fault *fault);
+int journal_configure(struct journal *journal, macsec_endpoint *e, const char *text, size_t length, uint32_t *line,
+                      struct journal_fault *fault);
+
+/* Says that the endpoint which has the journal sends nothing more. `next` goes on, or NULL: then one can be made. Make
+ * `next` of `octets` after the last reservation of the one before, which has to be freed or to stay without a transmit
+ * association. */
+void journal_hand_over(struct journal *journal, const macsec_endpoint *next);
 
 /* Makes a record durable. One that this process has made durable is not written again. */
 int journal_append(struct journal *journal, const macsec_record *record, struct journal_fault *fault);

@@ -498,7 +498,8 @@ uint32_t macsec_get_rx_sa(const macsec_endpoint *e, const uint8_t sci[8], uint8_
  *
  * 1. Create the file on the operator's word alone: beside a new journal every number counts as unused. Write a header
  *    (macsec_journal_header), then sync the file and its folder. A missing, empty or shorter file is no journal.
- * 2. Lock the file as long as the endpoint lives: one process at a time uses it. Never restore or copy an older one.
+ * 2. One endpoint at a time sends beside it, in one process too: make the next one of the file as it is when the one
+ *    before sends nothing more. Lock the file as long as an endpoint lives. Never restore or copy an older one.
  * 3. Read the whole file, and make the endpoint with macsec_reserve_open or macsec_reserve_configure.
  * 4. After macsec_add_tx_sa, before macsec_enable_tx_sa, and then from time to time ask macsec_reserve_wanted for a
  *    record. Before an orderly end, and from time to time, take that of each receive association from

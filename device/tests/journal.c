@@ -5,6 +5,7 @@
  *     journal keys JOURNAL LIMIT COUNT
  *     journal receive JOURNAL LIMIT SUITE CAPTURE IN..
  *     journal floors JOURNAL PREFIX STEP SEED NUMBER..
+ *     journal endpoints JOURNAL
  *     journal amounts
  *
  * send protects frames under two keys, one after another, and writes each to CAPTURE before it protects the next
@@ -13,7 +14,8 @@
  * delivers to CAPTURE, once their packet numbers are saved. floors writes each prefix of JOURNAL to PREFIX, alone
  * and followed by random octets, and opens it. It prints how many of the NUMBERs, from the first on, are refused as
  * the first of each key. With a STEP of 5 it does so for every fifth prefix, and for those around the end of a
- * record. amounts prints reservations. The status is 3 if the journal can't be created or opened. */
+ * record. endpoints makes several endpoints beside one journal, and prints what becomes of each. amounts prints
+ * reservations. The status is 3 if the journal can't be created or opened. */
 #define _GNU_SOURCE
 #include "journal.h"
 #include <errno.h>
@@ -120,12 +122,17 @@ static void open_journal(struct journal *journal, const char *name, size_t limit
 }
 
 /* Creates an endpoint with its keys beside a journal. Key and association have the same number. */
-static uint32_t make_endpoint(macsec_endpoint *e, const uint8_t *sci, uint32_t suite, const struct journal *journal) {
+static uint32_t make_endpoint(macsec_endpoint *e, const uint8_t *sci, uint32_t suite, struct journal *journal) {
+    struct journal_fault fault = { JOURNAL_LIBRARY, 0, MACSEC_OK };
     macsec_config config = { { 0 }, suite, MACSEC_FORM_SCI, 1600 };
     bool wide = suite == MACSEC_SUITE_GCM_AES_256 || suite == MACSEC_SUITE_GCM_AES_XPN_256;
     uint32_t status;
     memcpy(config.sci, sci, sizeof config.sci);
-    status = macsec_reserve_open(e, &config, journal->octets, journal->length);
+    if (journal_make_endpoint(journal, e, &config, &fault) != 0 && fault.step != JOURNAL_LIBRARY) {
+        print_fault("make_endpoint", &fault);
+        exit(1);
+    }
+    status = fault.status;
     for (uint16_t it = 0; status == MACSEC_OK && it < KEYS; it++) {
         macsec_sak key = { { 0 }, { 0 }, sci[5], MACSEC_SUITE_DEFAULT, it, wide ? 32 : 16, 0 };
         memset(key.bytes, 0xa0 + it, sizeof key.bytes); /* only for this test */
@@ -394,6 +401,60 @@ static int run_floors(int count, char **words) {
     return 0;
 }
 
+/* ---- endpoints ---- */
+
+/* Reserves and sends one frame under the first key. Prints its packet number, or why there is none. */
+static void send_one(struct journal *journal, macsec_endpoint *e) {
+    static const uint8_t frame[FRAME_LENGTH] = { 2, 0, 0, 0, 0, 9, 2, 0, 0, 0, 0, 8, 0x88, 0xb5 };
+    struct journal_fault fault;
+    macsec_sent sent;
+    if (journal_reserve(journal, e, 0, 1000, &fault) != 0)
+        printf("%s %d ", journal_step_name(fault.step), fault.error == EBUSY);
+    must("send", macsec_send(e, frame, sizeof frame, &sent));
+    if (sent.fate == MACSEC_FATE_PROTECTED)
+        printf("%u\n", (unsigned)(sent.frame[18] << 8 | sent.frame[19]));
+    else
+        printf("%s\n", macsec_fate_name(sent.fate));
+}
+
+static void make_sender(macsec_endpoint *e, struct journal *journal) {
+    must("make", make_endpoint(e, sender, MACSEC_SUITE_GCM_AES_128, journal));
+    must("add", add_sending(e, 0, sending_floor(e, 0) + 1));
+    must("enable", macsec_enable_tx_sa(e, 0));
+}
+
+static int run_endpoints(const char *name) {
+    static const char line[] = "end A gcm128 0200000000010001 1514 sci\n";
+    static const char key[] = "A key 0 a0a0a0a0a0a0a0a0a0a0a0a0a0a0a0a0 0";
+    struct journal journal;
+    struct journal_fault fault;
+    macsec_endpoint first = MACSEC_ENDPOINT_INIT, second = MACSEC_ENDPOINT_INIT, third = MACSEC_ENDPOINT_INIT;
+    macsec_config config = { { 2, 0, 0, 0, 0, 1, 0, 1 }, MACSEC_SUITE_GCM_AES_128, MACSEC_FORM_SCI, 1600 };
+    uint32_t number;
+    open_journal(&journal, name, JOURNAL_LIMIT);
+    make_sender(&first, &journal);
+    if (journal_make_endpoint(&journal, &second, &config, &fault) == 0 ||
+        journal_configure(&journal, &second, line, sizeof line - 1, &number, &fault) == 0)
+        printf("made ");
+    printf("%s %d\n", journal_step_name(fault.step), fault.error == EBUSY);
+    /* Another one, made of the same octets by the library's call: it sends nothing. */
+    must("reserve_open", macsec_reserve_open(&second, &config, journal.octets, journal.length));
+    must("key", macsec_command_line(&second, (const uint8_t *)key, sizeof key - 1));
+    must("add", macsec_add_tx_sa(&second, 0, 0, 1, true));
+    must("enable", macsec_enable_tx_sa(&second, 0));
+    send_one(&journal, &first);
+    send_one(&journal, &second);
+    send_one(&journal, &first);
+    macsec_free(&first);
+    journal_hand_over(&journal, NULL);
+    make_sender(&third, &journal);
+    send_one(&journal, &third);
+    macsec_free(&second);
+    macsec_free(&third);
+    journal_close(&journal);
+    return 0;
+}
+
 /* ---- */
 
 static int run_create(const char *name) {
@@ -423,8 +484,11 @@ int main(int count, char **words) {
         return run_receive(count - 2, words + 2);
     if (count >= 6 && strcmp(words[1], "floors") == 0)
         return run_floors(count - 2, words + 2);
+    if (count == 3 && strcmp(words[1], "endpoints") == 0)
+        return run_endpoints(words[2]);
     if (count == 2 && strcmp(words[1], "amounts") == 0)
         return run_amounts();
-    fprintf(stderr, "usage: journal create|send|keys|receive|floors|amounts ..: see device/tests/journal.c\n");
+    fprintf(stderr,
+            "usage: journal create|send|keys|receive|floors|endpoints|amounts ..: see device/tests/journal.c\n");
     return 2;
 }
