@@ -92,8 +92,9 @@ static int allow(int set, int folder, uint64_t access) {
     return (int)syscall(SYS_landlock_add_rule, set, LANDLOCK_RULE_PATH_BENEATH, &rule, 0);
 }
 
-/* From now on files can be opened in the journal's folder alone, and removed there and in the control socket's. */
-static int restrict_files(int state, int run, bool unconfined) {
+/* From now on files can be opened and removed in the journal's folder alone. Other instances of macsecd have the folder
+ * of the control socket too. */
+static int restrict_files(int state, bool unconfined) {
     const struct landlock_ruleset_attr all = { .handled_access_fs = (LANDLOCK_ACCESS_FS_MAKE_SYM << 1) - 1 };
     const uint64_t journal = LANDLOCK_ACCESS_FS_READ_FILE | LANDLOCK_ACCESS_FS_WRITE_FILE |
                              LANDLOCK_ACCESS_FS_MAKE_REG | LANDLOCK_ACCESS_FS_REMOVE_FILE;
@@ -101,10 +102,9 @@ static int restrict_files(int state, int run, bool unconfined) {
     if (set < 0 && (errno == ENOSYS || errno == EOPNOTSUPP)) {
         message("this system has no Landlock: files can't be restricted%s",
                 unconfined ? "" : ". `device landlock optional` goes on without it");
-        return unconfined ? 0 : ENDS_FAILED;
+        return unconfined ? 0 : ENDS_WRONG;
     }
-    if (set >= 0 && allow(set, state, journal) == 0 && allow(set, run, LANDLOCK_ACCESS_FS_REMOVE_FILE) == 0 &&
-        syscall(SYS_landlock_restrict_self, set, 0) == 0)
+    if (set >= 0 && allow(set, state, journal) == 0 && syscall(SYS_landlock_restrict_self, set, 0) == 0)
         return close(set);
     message_of_errno("files can't be restricted");
     return ENDS_FAILED;
@@ -131,8 +131,6 @@ static const unsigned of_frames[] = {
     SYS_clock_gettime,
     SYS_futex,
     SYS_restart_syscall,
-    /* the control socket is removed */
-    SYS_unlinkat,
     /* memory, for the words of a line and for names */
     SYS_brk,
     SYS_munmap,
@@ -215,10 +213,9 @@ int confine_saver(void) {
 
 #else
 
-static int restrict_files(int state, int run, bool unconfined) {
+static int restrict_files(int state, bool unconfined) {
     (void)unconfined;
     (void)state;
-    (void)run;
     return 0;
 }
 
@@ -233,11 +230,11 @@ int confine_saver(void) {
 
 #endif
 
-int confine_rights(int state, int run, bool unconfined) {
+int confine_rights(int state, bool unconfined) {
     int result;
     drop_bounding_set();
     result = leave_root(state);
     if (result == 0)
         result = drop_capabilities();
-    return result == 0 ? restrict_files(state, run, unconfined) : result;
+    return result == 0 ? restrict_files(state, unconfined) : result;
 }

@@ -17,24 +17,31 @@ static char request[REQUEST + 1], answer[ANSWER];
 
 /* ---- Opening ---- */
 
+/* The folder of the socket, and its name there, while it is opened. */
+struct place {
+    int folder;
+    char file[IF_NAMESIZE + 8];
+};
+
 /* The permissions are set before anybody can connect: listen comes after it. */
-static int set_owner(const struct control *k, const struct config *c) {
-    if (c->has_group && fchownat(k->folder, k->file, (uid_t)-1, c->group, AT_SYMLINK_NOFOLLOW) != 0) {
+static int set_owner(const struct place *p, const struct config *c) {
+    if (c->has_group && fchownat(p->folder, p->file, (uid_t)-1, c->group, AT_SYMLINK_NOFOLLOW) != 0) {
         message_of_errno("the group of the control socket");
         return ENDS_FAILED;
     }
-    if (fchmodat(k->folder, k->file, c->has_group ? 0660 : 0600, 0) != 0) {
+    if (fchmodat(p->folder, p->file, c->has_group ? 0660 : 0600, 0) != 0) {
         message_of_errno("the mode of the control socket");
         return ENDS_FAILED;
     }
     return 0;
 }
 
-/* An earlier run that was killed has left its socket. The lock on the journal says that it runs no more. */
-static int bind_socket(struct control *k, const struct sockaddr_un *address) {
+/* An earlier run has left its socket: macsecd may remove no file of this folder when it ends, since other instances
+ * have sockets there too. The lock on the journal says that the earlier one runs no more. */
+static int bind_socket(const struct control *k, const struct place *p, const struct sockaddr_un *address) {
     mode_t before;
     int result;
-    if (unlinkat(k->folder, k->file, 0) != 0 && errno != ENOENT) {
+    if (unlinkat(p->folder, p->file, 0) != 0 && errno != ENOENT) {
         message_of_errno("%s", address->sun_path);
         return ENDS_FAILED;
     }
@@ -47,7 +54,7 @@ static int bind_socket(struct control *k, const struct sockaddr_un *address) {
 }
 
 /* Opens the folder, which is made if it is not there. */
-static int open_folder(struct control *k, const char *path) {
+static int open_folder(struct place *p, const char *path) {
     char folder[sizeof(struct sockaddr_un)];
     size_t length = (size_t)(strrchr(path, '/') - path);
     memcpy(folder, path, length);
@@ -56,34 +63,24 @@ static int open_folder(struct control *k, const char *path) {
         message_of_errno("%s", folder);
         return ENDS_FAILED;
     }
-    k->folder = open(folder, O_RDONLY | O_DIRECTORY | O_CLOEXEC);
-    if (k->folder < 0)
+    p->folder = open(folder, O_RDONLY | O_DIRECTORY | O_CLOEXEC);
+    if (p->folder < 0)
         message_of_errno("%s", folder);
-    return k->folder < 0 ? ENDS_FAILED : 0;
+    return p->folder < 0 ? ENDS_FAILED : 0;
 }
 
-int control_open(struct control *k, const char *name, const struct config *c) {
-    struct sockaddr_un address = { .sun_family = AF_UNIX };
+/* Opens the socket in its folder. */
+static int open_socket(struct control *k, const struct place *p, const struct sockaddr_un *address,
+                       const struct config *c) {
     int result;
-    for (int i = 0; i < CLIENTS; i++)
-        k->clients[i] = -1;
-    k->listener = k->folder = -1;
-    if (!config_path(address.sun_path, sizeof address.sun_path, "RUNTIME_DIRECTORY", "/run/macsec", name, ".sock")) {
-        message("the path of the control socket is too long");
-        return ENDS_WRONG;
-    }
-    snprintf(k->file, sizeof k->file, "%s.sock", name);
-    result = open_folder(k, address.sun_path);
-    if (result != 0)
-        return result;
     k->listener = socket(AF_UNIX, SOCK_SEQPACKET | SOCK_NONBLOCK | SOCK_CLOEXEC, 0);
     if (k->listener < 0) {
         message_of_errno("control socket");
         return ENDS_FAILED;
     }
-    result = bind_socket(k, &address);
+    result = bind_socket(k, p, address);
     if (result == 0)
-        result = set_owner(k, c);
+        result = set_owner(p, c);
     if (result == 0 && listen(k->listener, CLIENTS) != 0) {
         message_of_errno("control socket");
         result = ENDS_FAILED;
@@ -91,10 +88,24 @@ int control_open(struct control *k, const char *name, const struct config *c) {
     return result;
 }
 
-void control_close(struct control *k) {
-    /* If the folder is another user's by now, the next start removes it. */
-    if (k->folder >= 0 && unlinkat(k->folder, k->file, 0) != 0 && errno != ENOENT && errno != EACCES)
-        message_of_errno("the control socket can't be removed");
+int control_open(struct control *k, const char *name, const struct config *c) {
+    struct sockaddr_un address = { .sun_family = AF_UNIX };
+    struct place place;
+    int result;
+    for (int i = 0; i < CLIENTS; i++)
+        k->clients[i] = -1;
+    k->listener = -1;
+    if (!config_path(address.sun_path, sizeof address.sun_path, "RUNTIME_DIRECTORY", "/run/macsec", name, ".sock")) {
+        message("the path of the control socket is too long");
+        return ENDS_WRONG;
+    }
+    snprintf(place.file, sizeof place.file, "%s.sock", name);
+    result = open_folder(&place, address.sun_path);
+    if (result != 0)
+        return result;
+    result = open_socket(k, &place, &address, c);
+    (void)close(place.folder);
+    return result;
 }
 
 /* ---- Clients ---- */

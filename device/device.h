@@ -377,6 +377,17 @@ bool numbers_close(struct numbers *n, macsec_endpoint *e);
  * used, `raised` is where; else it is 0. */
 uint32_t lines_carry_out(struct numbers *n, macsec_endpoint *e, const char *line, size_t length, uint64_t *raised);
 
+/* ---- journals.c: the journals of the host ---- */
+
+/* Makes the path of the journal of NAME. Returns false, after a message, if it is too long. */
+bool journals_path(char *path, size_t room, const char *name);
+/* Says if the file system does not keep the journal. A new one is refused then if it is lost for certain. Returns 0, or
+ * the exit status. */
+int journals_check_disk(const char *name, bool creates);
+/* Compares the keys under which this NAME sends with the other journals of the host, in the same folder and in those
+ * beside one that has the name of the device. Returns 0, or the exit status after a message. */
+int journals_check_keys(const struct config *c, const char *name);
+
 /* ---- keys.c: the keys that an endpoint has, for one that takes over from it ---- */
 
 /* Allocates locked memory. Returns 0, or the exit status after a message. */
@@ -530,15 +541,15 @@ void waits_client_gone(struct device *d, int client);
 /* ---- control.c: the control socket ---- */
 
 struct control {
-    int listener, folder;
+    int listener;
     int clients[CLIENTS]; /* -1: there is none */
     bool is_root[CLIENTS];
     uint64_t used[CLIENTS]; /* which use of the socket was a client's last one */
     uint64_t uses;
-    char file[IF_NAMESIZE + 8];
 };
 
-/* Opens the socket. Returns 0, or the exit status after a message. */
+/* Opens the socket. It stays when macsecd ends, and the next start replaces it. Returns 0, or the exit status after a
+ * message. */
 int control_open(struct control *k, const char *name, const struct config *c);
 /* Accepts a connection, for which an idle one may end. Returns its index, or -1. */
 int control_accept(struct device *d);
@@ -546,8 +557,6 @@ int control_accept(struct device *d);
 bool control_answer(struct device *d, int index);
 /* Sends an answer to a client. Returns false if the connection has ended; it is closed then. */
 bool control_send(struct device *d, int index, const char *octets, size_t length);
-/* Removes the socket. */
-void control_close(struct control *k);
 
 /* ---- port.c: the controlled port, and the client that owns the device ---- */
 
@@ -578,8 +587,10 @@ struct life {
     bool lost;  /* did the system drop reports since it was asked? */
 };
 
-/* Opens the socket, and gives TAP LINK's carrier. Returns 0, or the exit status after a message. */
+/* Opens the socket. Returns 0, or the exit status after a message. */
 int life_open(struct device *d);
+/* Gives TAP LINK's carrier. Returns 0, or the exit status after a message. */
+int life_begin(struct device *d);
 /* Reads what the system reports. Returns false, after a message, if LINK is gone. */
 bool life_read(struct device *d);
 /* To be called each second: asks for LINK's state, looks at TAP's address, and sets its carrier. Returns false, after a
@@ -599,10 +610,10 @@ void service_notify(const char *assignment);
 int confine_memory(void);
 /* No CAP_SYS_ADMIN: to be called when LINK's namespace was entered. Returns 0, or the exit status after a message. */
 int confine_namespace(void);
-/* The user of the journal's folder if it is root, no capabilities, no new privileges, and no files except in the
- * folders of the journal and the control socket: to be called before the thread of the journal is started. Without
- * Landlock it fails, unless the configuration allows that. All return 0, or the exit status after a message. */
-int confine_rights(int state, int run, bool unconfined);
+/* The user of the journal's folder if it is root, no capabilities, no new privileges, and no files except in the folder
+ * of the journal: to be called before keys are used and the thread of the journal is started. Without Landlock it
+ * fails, unless the configuration allows that. All return 0, or the exit status after a message. */
+int confine_rights(int state, bool unconfined);
 /* Only some system calls: in the thread that has the frames, and in that of the journal, which has other ones. */
 int confine_calls(void);
 int confine_saver(void);

@@ -184,10 +184,13 @@ int life_open(struct device *d) {
     struct sockaddr_nl address = { .nl_family = AF_NETLINK, .nl_groups = RTMGRP_LINK };
     d->life.up = d->life.lost = false;
     d->life.socket = socket(AF_NETLINK, SOCK_RAW | SOCK_NONBLOCK | SOCK_CLOEXEC, NETLINK_ROUTE);
-    if (d->life.socket < 0 || bind(d->life.socket, (const struct sockaddr *)&address, sizeof address) != 0) {
-        message_of_errno("rtnetlink");
-        return ENDS_FAILED;
-    }
+    if (d->life.socket >= 0 && bind(d->life.socket, (const struct sockaddr *)&address, sizeof address) == 0)
+        return 0;
+    message_of_errno("rtnetlink");
+    return ENDS_FAILED;
+}
+
+int life_begin(struct device *d) {
     tap_set_carrier(&d->tap, false);
     if (ask(&d->life, d->link.index) != 0)
         return ENDS_FAILED;

@@ -29,7 +29,8 @@ static int configure(struct device *d) {
     return status == MACSEC_E_MEMORY ? ENDS_FAILED : ENDS_WRONG;
 }
 
-/* Opens everything, and then gives up the rights to open more. */
+/* Opens everything, and then gives up the rights to open more. The endpoint is last: it reserves packet numbers, which
+ * a start that fails again and again would use up. */
 static int start(struct device *d) {
     int result = confine_memory();
     if (result == 0)
@@ -39,7 +40,11 @@ static int start(struct device *d) {
     if (result == 0)
         result = namespace_enter(&d->tap, &d->config, d->name);
     if (result == 0)
+        result = journals_check_disk(d->name, false);
+    if (result == 0)
         result = numbers_open(&d->numbers, d->name, &d->counts);
+    if (result == 0)
+        result = journals_check_keys(&d->config, d->name);
     if (result == 0)
         result = link_open(&d->link, d->config.link);
     if (result == 0)
@@ -47,17 +52,19 @@ static int start(struct device *d) {
     if (result == 0)
         result = keys_open();
     if (result == 0)
-        result = configure(d);
-    if (result == 0)
         result = control_open(&d->control, d->name, &d->config);
     if (result == 0)
         result = life_open(d);
     if (result == 0)
         result = loop_open(d);
     if (result == 0)
-        result = confine_rights(numbers_folder(d->numbers), d->control.folder, d->config.unconfined);
+        result = confine_rights(numbers_folder(d->numbers), d->config.unconfined);
+    if (result == 0)
+        result = configure(d);
     if (result == 0)
         result = numbers_start(d->numbers, d->endpoint); /* the thread of the journal has no other rights either */
+    if (result == 0)
+        result = life_begin(d);
     return result == 0 ? confine_calls() : result;
 }
 
@@ -90,7 +97,6 @@ static int run(struct device *d) {
     service_notify("STOPPING=1");
     if (!numbers_close(d->numbers, d->endpoint) && result == 0)
         result = ENDS_FAILED;
-    control_close(&d->control);
     macsec_free(d->endpoint);
     keys_wipe();
     return result;
@@ -118,6 +124,11 @@ static int print_settings(const char *name) {
     return ENDS_FAILED;
 }
 
+static int create_journal(const char *name) {
+    int result = journals_check_disk(name, true);
+    return result == 0 ? numbers_create(name) : result;
+}
+
 int main(int count, char **words) {
     bool creates = count == 3 && strcmp(words[1], "--create-journal") == 0;
     bool prints = count == 3 && strcmp(words[1], "--settings") == 0;
@@ -131,5 +142,5 @@ int main(int count, char **words) {
     messages_name(device.name);
     if (prints)
         return print_settings(device.name);
-    return creates ? numbers_create(device.name) : run(&device);
+    return creates ? create_journal(device.name) : run(&device);
 }

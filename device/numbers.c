@@ -71,17 +71,10 @@ static void report(const char *what, const struct journal_fault *fault) {
                      fault->status == MACSEC_OK ? "" : macsec_status_name(fault->status));
 }
 
-static bool path_of(char *path, size_t room, const char *name) {
-    if (config_path(path, room, "STATE_DIRECTORY", "/var/lib/macsec", name, ".journal"))
-        return true;
-    message("the path of the journal is too long");
-    return false;
-}
-
 int numbers_create(const char *name) {
     char path[PATH_MAX];
     struct journal_fault fault;
-    if (!path_of(path, sizeof path, name))
+    if (!journals_path(path, sizeof path, name))
         return ENDS_WRONG;
     if (journal_create(path, &fault) == 0)
         return 0;
@@ -108,7 +101,7 @@ int numbers_open(struct numbers **n, const char *name, struct counts *counts) {
     *n = &the_numbers;
     the_numbers.counts = counts;
     the_numbers.amount = JOURNAL_AMOUNT_MIN;
-    if (!path_of(path, sizeof path, name))
+    if (!journals_path(path, sizeof path, name))
         return ENDS_WRONG;
     if (journal_open(&the_numbers.journal, path, NUMBERS_FILE_LENGTH, &fault) == 0) {
         result = read_names(&the_numbers);

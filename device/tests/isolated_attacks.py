@@ -268,7 +268,7 @@ def check_devices(options: Options) -> None:
 
 # ---- A macsecd that was taken over
 
-FORBIDDEN = ["setns", "unshare", "socket", "bind", "SIOCGSKNS", "TUNGETDEVNETNS", "TUNSETIFF"]
+FORBIDDEN = ["setns", "unshare", "socket", "bind", "openat", "SIOCGSKNS", "TUNGETDEVNETNS", "TUNSETIFF"]
 
 
 def build_taken(options: Options) -> pathlib.Path:
@@ -276,11 +276,14 @@ def build_taken(options: Options) -> pathlib.Path:
     source = options.folder / f"taken{next(options.numbers)}"
     shutil.copytree(options.source, source, ignore=shutil.ignore_patterns("built", "tests"))
     shutil.copy(ROOT / "device/tests/isolated_taken.c", source)
-    path, ready = source / "macsecd.c", '    service_notify("READY=1");\n'
-    text = path.read_text()
-    if text.count(ready) != 1:
-        raise Failed("macsecd.c does not report its start once")
-    path.write_text(text.replace(ready, "    extern void taken(struct device *);\n    taken(d);\n" + ready))
+    for name, place, call in (
+        ("macsecd.c", '    service_notify("READY=1");\n', "extern void taken(struct device *); taken(d);"),
+        ("saver.c", "    double began = now();\n", "extern void taken_files(void); taken_files();"),
+    ):
+        text = (source / name).read_text()
+        if text.count(place) != 1:
+            raise Failed(f"{name} has {place!r} {text.count(place)} times")
+        (source / name).write_text(text.replace(place, f"    {call}\n{place}"))
     return build(source / "built", options.library, ["-Wno-error"], source)
 
 
@@ -303,6 +306,24 @@ def reaches(pair: Pair) -> None:
     a.end()
 
 
+def opens(pair: Pair) -> None:
+    """No file of another instance may be opened or removed, although it belongs to the same user."""
+    a = pair.a
+    journal, control = a.folder / "other/other0.journal", a.folder / "run/other0.sock"
+    journal.parent.mkdir()
+    for path in (journal, control):
+        path.write_bytes(bytes(64))
+        path.chmod(0o666)
+    a.start(TAKEN="files", JOURNAL=str(journal), CONTROL=str(control))
+    a.ask(f"A key 7 {'07' * 16} 0")
+    a.ask("A txsa 1 7 1 conf")  # a record, which the thread writes
+    got = [it for it in tries(a.log()) if it[0] in ("openat", "unlinkat")]
+    done = [f"{call} {index}" for call, index, error in got if error != "13"]
+    report(len(got) >= 8 and not done, f"taken: files of another instance: {done}, {len(got)} tries")
+    report(journal.exists() and control.exists(), "taken: a file of another instance was removed")
+    a.end()
+
+
 def check_taken(options: Options) -> None:
     """What it can reach."""
     programs = build_taken(options)
@@ -312,6 +333,7 @@ def check_taken(options: Options) -> None:
         pair.write()
         a.isolate()
         reaches(pair)
+        opens(pair)
         for call in FORBIDDEN:
             a.spawn(TAKEN=call)
             assert a.process is not None

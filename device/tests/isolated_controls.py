@@ -61,6 +61,12 @@ CONTROLS: dict[str, list[Control]] = {
     "taken": [
         Control("`device shared`", None, ("shared",), ("left by another device", "sendto", "sendmmsg", "join")),
         Control(
+            "no restriction of files",
+            ("confine.c", "result = restrict_files(state, unconfined);", "(void)restrict_files;"),
+            (),
+            ("openat 0", "openat 1", "unlinkat 0", "unlinkat 1"),
+        ),
+        Control(
             "no list of system calls",
             ("confine.c", "SECCOMP_RET_KILL_PROCESS", "SECCOMP_RET_ALLOW"),
             (),

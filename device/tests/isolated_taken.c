@@ -3,6 +3,7 @@
 #define _GNU_SOURCE
 #include "device.h"
 #include <errno.h>
+#include <fcntl.h>
 #include <linux/if_packet.h>
 #include <linux/if_tun.h>
 #include <linux/sockios.h>
@@ -42,10 +43,23 @@ static void try_devices(int socket) {
     }
 }
 
+/* The journal and the control socket of another instance, by the thread that writes the journal. */
+void taken_files(void) {
+    const char *what = getenv("TAKEN"), *journal = getenv("JOURNAL"), *control = getenv("CONTROL");
+    if (what == NULL || strcmp(what, "files") != 0)
+        return;
+    say("openat", 0, openat(AT_FDCWD, journal, O_RDONLY));
+    say("openat", 1, openat(AT_FDCWD, journal, O_RDWR));
+    say("unlinkat", 0, unlinkat(AT_FDCWD, journal, 0));
+    say("unlinkat", 1, unlinkat(AT_FDCWD, control, 0));
+}
+
 void taken(struct device *d) {
     const char *what = getenv("TAKEN");
     if (strcmp(what, "devices") == 0)
         try_devices(d->link.socket);
+    else if (strcmp(what, "openat") == 0)
+        say(what, 0, openat(AT_FDCWD, "/etc/passwd", O_RDONLY));
     else if (strcmp(what, "setns") == 0)
         say(what, 0, setns(d->tap.file, CLONE_NEWNET));
     else if (strcmp(what, "unshare") == 0)

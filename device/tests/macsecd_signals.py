@@ -2,7 +2,6 @@
 
 from __future__ import annotations
 
-import os
 import pathlib
 import signal
 import time
@@ -31,7 +30,6 @@ def check_end(world: World, number: int, seconds: float) -> None:
     stream.stop()
     report(status == 0, f"a signal under load: status {status}, {a.log()[-200:]}")
     report(time.monotonic() - began < 8, "macsecd takes more than eight seconds to end")
-    report(not os.path.exists(a.socket), "the control socket is left")
 
 
 def interrupted(out: pathlib.Path, library: pathlib.Path, source: pathlib.Path) -> pathlib.Path:

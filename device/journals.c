@@ -1,0 +1,234 @@
+/* The journals of the host: where the one of a NAME is, whether its file system keeps it, and whether another one has
+ * packet numbers of a key under which this NAME sends. */
+#define _GNU_SOURCE
+#include "device.h"
+#include "journal.h"
+#include <dirent.h>
+#include <errno.h>
+#include <fcntl.h>
+#include <linux/magic.h>
+#include <stdio.h>
+#include <stdlib.h>
+#include <string.h>
+#include <sys/stat.h>
+#include <sys/statfs.h>
+#include <unistd.h>
+
+#define SUFFIX ".journal"
+#define FOLDER "/var/lib/macsec"
+
+/* Network file systems that <linux/magic.h> of some systems lacks. */
+#define CIFS 0xff534d42UL
+#define SMB2 0xfe534d42UL
+
+/* ---- Where it is ---- */
+
+bool journals_path(char *path, size_t room, const char *name) {
+    char folder[sizeof FOLDER + IF_NAMESIZE];
+    snprintf(folder, sizeof folder, "%s/%s", FOLDER, name);
+    if (config_path(path, room, "STATE_DIRECTORY", folder, name, SUFFIX))
+        return true;
+    message("the path of the journal is too long");
+    return false;
+}
+
+/* Why does the file system of a folder not keep a journal? Or NULL. In memory it is lost for certain. */
+static const char *weakness(const char *folder, bool *is_lost) {
+    struct statfs about;
+    *is_lost = false;
+    if (statfs(folder, &about) != 0)
+        return NULL; /* opening the journal says why */
+    switch ((unsigned long)about.f_type & 0xffffffff) {
+    case TMPFS_MAGIC:
+    case RAMFS_MAGIC:
+        *is_lost = true;
+        return "in memory, so the journal is lost when the system ends";
+    case OVERLAYFS_SUPER_MAGIC:
+        return "an overlay, so the journal is lost if its upper file system is";
+    case NFS_SUPER_MAGIC:
+    case CIFS:
+    case SMB2:
+        return "of a network, whose locks and writes are not those of a local disk";
+    default:
+        return NULL;
+    }
+}
+
+int journals_check_disk(const char *name, bool creates) {
+    char path[PATH_MAX];
+    const char *why;
+    bool is_lost;
+    if (!journals_path(path, sizeof path, name))
+        return ENDS_WRONG;
+    *strrchr(path, '/') = '\0';
+    why = weakness(path, &is_lost);
+    if (why != NULL)
+        message("the file system of %s is %s. Packet numbers are used twice then", path, why);
+    return is_lost && creates ? ENDS_WRONG : 0;
+}
+
+/* ---- Keys under which this NAME sends ---- */
+
+/* The keys of the configuration's `txsa` lines, and an endpoint to which another journal is shown. */
+struct keys {
+    const struct config *config;
+    bool sends[MACSEC_KEY_COUNT];
+    const char *own; /* the folder of the own journal, and its name there */
+    const char *name;
+};
+
+/* Takes the next line that the library does not skip. */
+static bool next_line(const char **text, size_t *left, const char **line, size_t *length, struct words *w) {
+    while ((*line = words_line(text, left, length)) != NULL) {
+        words_split(w, *line, *length);
+        if (w->count > 0 && w->at[0][0] != '#')
+            return true;
+    }
+    return false;
+}
+
+static void find_sending(struct keys *k) {
+    const char *text = (const char *)k->config->text, *line;
+    size_t left = k->config->length, length;
+    struct words w;
+    uint64_t number;
+    while (next_line(&text, &left, &line, &length, &w))
+        if (words_is(&w, 0, "A") && words_is(&w, 1, "txsa") && words_number(&w, 3, &number) &&
+            number < MACSEC_KEY_COUNT)
+            k->sends[number] = true;
+}
+
+/* Makes an endpoint with the keys of the configuration beside another journal. A wrong line is reported later. */
+static uint32_t show_journal(const struct keys *k, macsec_endpoint *e, const uint8_t *octets, size_t length) {
+    const char *text = (const char *)k->config->text, *line;
+    size_t left = k->config->length, end;
+    uint32_t number, status;
+    struct words w;
+    if (!next_line(&text, &left, &line, &end, &w))
+        return MACSEC_E_EMPTY;
+    status = macsec_reserve_configure(e, (const uint8_t *)line, end, octets, length, &number);
+    while (status == MACSEC_OK && next_line(&text, &left, &line, &end, &w))
+        if (words_is(&w, 0, "A") && words_is(&w, 1, "key"))
+            (void)macsec_command_line(e, (const uint8_t *)line, end);
+    return status;
+}
+
+/* Does another journal have packet numbers of a key under which this NAME sends? */
+static int compare(const struct keys *k, const char *path, const uint8_t *octets, size_t length) {
+    macsec_endpoint e = MACSEC_ENDPOINT_INIT;
+    uint32_t status = show_journal(k, &e, octets, length);
+    int result = status == MACSEC_E_MEMORY ? ENDS_FAILED : 0;
+    if (result != 0)
+        message("%s: out of memory", path);
+    for (unsigned number = 0; number < MACSEC_KEY_COUNT && status == MACSEC_OK && result == 0; number++) {
+        uint64_t floor = 0;
+        if (!k->sends[number] || macsec_reserve_tx_floor(&e, (uint16_t)number, &floor) != MACSEC_OK || floor == 0)
+            continue;
+        message("key %u has packet numbers in %s too: both would use the same ones. Install new keys at one of the two",
+                number, path);
+        result = ENDS_WRONG;
+    }
+    macsec_free(&e);
+    return result;
+}
+
+/* ---- The other journals ---- */
+
+/* Reads an open file. Returns its octets, which are to be freed, or NULL. */
+static uint8_t *read_file(int file, size_t *length) {
+    struct stat about;
+    uint8_t *octets;
+    ssize_t count = 1;
+    *length = 0;
+    if (fstat(file, &about) != 0 || !S_ISREG(about.st_mode) || about.st_size > (off_t)JOURNAL_MAX)
+        return NULL;
+    octets = malloc((size_t)about.st_size + 1);
+    while (octets != NULL && *length < (size_t)about.st_size && count > 0) {
+        count = pread(file, octets + *length, (size_t)about.st_size - *length, (off_t)*length);
+        if (count < 0 && errno == EINTR)
+            count = 1;
+        else if (count > 0)
+            *length += (size_t)count;
+    }
+    if (count < 0) {
+        free(octets);
+        return NULL;
+    }
+    return octets;
+}
+
+/* Compares with one journal. It can be written meanwhile: whole records are read. */
+static int compare_file(const struct keys *k, const char *folder, const char *name) {
+    char path[PATH_MAX];
+    uint8_t *octets;
+    size_t length;
+    int result = 0, file;
+    if (snprintf(path, sizeof path, "%s/%s", folder, name) >= (int)sizeof path)
+        return 0;
+    file = open(path, O_RDONLY | O_CLOEXEC | O_NOFOLLOW | O_NONBLOCK | O_NOCTTY);
+    octets = file < 0 ? NULL : read_file(file, &length);
+    if (octets == NULL)
+        message("%s can't be read, so keys are not compared with it", path);
+    else
+        result = compare(k, path, octets, length);
+    free(octets);
+    if (file >= 0)
+        (void)close(file); /* it was only read */
+    return result;
+}
+
+static bool is_journal(const char *name) {
+    size_t length = strlen(name), suffix = strlen(SUFFIX);
+    return length > suffix && strcmp(name + length - suffix, SUFFIX) == 0;
+}
+
+/* Compares with the journals of a folder, but for the own one. One that can't be read has none of this user's. */
+static int compare_folder(const struct keys *k, const char *folder) {
+    DIR *entries = opendir(folder);
+    const struct dirent *entry;
+    int result = 0;
+    if (entries == NULL)
+        return 0;
+    while (result == 0 && (entry = readdir(entries)) != NULL)
+        if (is_journal(entry->d_name) && (strcmp(folder, k->own) != 0 || strcmp(entry->d_name, k->name) != 0))
+            result = compare_file(k, folder, entry->d_name);
+    (void)closedir(entries);
+    return result;
+}
+
+/* Compares with the journals in the folders beside the own one, which has the name of the device. */
+static int compare_beside(const struct keys *k, const char *parent) {
+    DIR *entries = opendir(parent);
+    const struct dirent *entry;
+    int result = 0;
+    if (entries == NULL)
+        return 0;
+    while (result == 0 && (entry = readdir(entries)) != NULL) {
+        char folder[PATH_MAX];
+        if (entry->d_name[0] != '.' && snprintf(folder, sizeof folder, "%s/%s", parent, entry->d_name) < PATH_MAX &&
+            strcmp(folder, k->own) != 0)
+            result = compare_folder(k, folder);
+    }
+    (void)closedir(entries);
+    return result;
+}
+
+int journals_check_keys(const struct config *c, const char *name) {
+    static struct keys k; /* some KB */
+    char own[PATH_MAX], parent[PATH_MAX];
+    char *slash;
+    int result;
+    if (!journals_path(own, sizeof own, name))
+        return ENDS_WRONG;
+    slash = strrchr(own, '/');
+    *slash = '\0';
+    k = (struct keys){ .config = c, .own = own, .name = slash + 1 };
+    find_sending(&k);
+    result = compare_folder(&k, own);
+    memcpy(parent, own, sizeof parent);
+    slash = strrchr(parent, '/');
+    if (result != 0 || slash == NULL || slash == parent || strcmp(slash + 1, name) != 0)
+        return result;
+    *slash = '\0';
+    return compare_beside(&k, parent);
+}
