@@ -207,9 +207,9 @@ class Polls:
         self.count = 0
 
     def stop(self) -> float:
-        """Stops it. Returns the slowest answer in seconds."""
+        """Stops it. Returns the slowest answer in seconds. `machine` is how long the machine paused itself."""
         words = self.process.communicate()[0].split()
-        self.count = int(words[0])
+        self.count, self.machine = int(words[0]), float(words[2])
         return float(words[1])
 
 
@@ -289,13 +289,13 @@ def check_slow_disk(
     protected = after["OutPktsEncrypted"] - before["OutPktsEncrypted"]
     report(lost == 0, f"disk: {lost} of {sent} frames were lost for want of a reservation")
     report(protected > sent // 2, f"disk: only {protected} of {sent} frames were protected")
-    report(slowest < slow.answer, f"disk: an answer to `port` took {1000 * slowest:.0f} ms")
+    report(slowest < slow.answer + polls.machine, f"disk: an answer to `port` took {1000 * slowest:.0f} ms")
     report(manager.longest < WATCHDOG, f"disk: {manager.longest:.1f} s between two reports to the service manager")
     report(0.5 < client.slowest < 1.5, f"disk: a request took {client.slowest:.1f} s")
     print(
         f"disk: synchronizations of {slow.seconds} s{' suddenly' * slow.suddenly}, {sent} frames at {rate} a second, {protected} protected, {lost} without a reservation, "
-        f"{dropped(a)} dropped by a full TAP, `port` in {1000 * slowest:.0f} ms of {polls.count}, a request in "
-        f"{client.slowest:.2f} s, watchdog {manager.longest:.2f} s",
+        f"{dropped(a)} dropped by a full TAP, `port` in {1000 * slowest:.0f} ms of {polls.count} (the machine "
+        f"{1000 * polls.machine:.0f} ms), a request in {client.slowest:.2f} s, watchdog {manager.longest:.2f} s",
         flush=True,
     )
     report(a.stop() == 0, f"disk: {a.log()[-300:]}")
@@ -319,9 +319,9 @@ def new_key(client: Client, number: int, key: str, peer: str) -> None:
         client.carry_out(f"A txdel {old}", f"A rxdel {peer} {old}", f"A retire {before}")
 
 
-def use_keys(client: Client, keys: range, sender: pathlib.Path) -> tuple[float, float, int]:
+def use_keys(client: Client, keys: range, sender: pathlib.Path) -> tuple[float, float, Polls]:
     """New keys, one after another. A frame is sent under each, and under some one is received. Returns the seconds, the
-    longest pause and the answers that show it."""
+    longest pause and the polls that show it."""
     injector, polls, began = Packets(client.end.namespace, "macsec0"), Polls(client.end, 0.002), time.monotonic()
     peer = client.end.world.ends[2 - client.end.number].namespace
     for number in keys:
@@ -336,7 +336,7 @@ def use_keys(client: Client, keys: range, sender: pathlib.Path) -> tuple[float, 
             )
     seconds, pause = time.monotonic() - began, polls.stop()
     injector.close()
-    return seconds, pause, polls.count
+    return seconds, pause, polls
 
 
 def take_over(end: End) -> Client:
@@ -358,7 +358,10 @@ def check_many_keys(world: World, sender: pathlib.Path, keys: int, longest: floa
     seconds, pause, polls = use_keys(client, range(keys), sender)
     shown, lacked = json.loads(client.ask("json")), a.counters()["device NoReservation"]
     size = (a.folder / "state/macsec0.journal").stat().st_size
-    report(pause < longest, f"keys: a pause of {1000 * pause:.0f} ms")
+    report(
+        pause < longest + polls.machine,
+        f"keys: a pause of {1000 * pause:.0f} ms, the machine {1000 * polls.machine:.0f}",
+    )
     report(shown["journal_names"] < 300, f"keys: the journal has {shown['journal_names']} names after {keys} keys")
     report(size <= 1 << 18, f"keys: the journal has {size} octets after {keys} keys")
     report(lacked == 0, f"keys: {lacked} frames lacked a reservation")
@@ -374,7 +377,8 @@ def check_many_keys(world: World, sender: pathlib.Path, keys: int, longest: floa
     report(names < 300, f"keys: the journal has {names} names after a restart and 300 keys")
     client.socket.close()
     print(
-        f"keys: {keys} in {seconds:.1f} s, longest pause {1000 * pause:.1f} ms of {polls} answers, "
+        f"keys: {keys} in {seconds:.1f} s, longest pause {1000 * pause:.1f} ms of {polls.count} answers (the "
+        f"machine {1000 * polls.machine:.1f} ms), "
         f"{shown['journal_names']} names, {size} octets, restart {restart:.2f} s, then {names} names",
         flush=True,
     )
