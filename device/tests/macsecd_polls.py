@@ -1,7 +1,7 @@
 #!/usr/bin/env python3
-"""Asks a control socket for the port over and over, until standard input ends. It prints how many answers there were, the
-seconds of the slowest one, and by how many a sleep between was too long. It runs before other processes if it may, so
-that what it sees are pauses of macsecd, or of the machine, which make sleeps too long.
+"""Asks a control socket for the port over and over, until standard input ends. It prints how many answers there were,
+the seconds of the slowest one, and by how many a sleep between was too long. It runs before other processes if it may,
+so that what it sees are pauses of macsecd, or of the machine, which make sleeps too long.
 
 usage: macsecd_polls.py SOCKET INTERVAL"""
 

@@ -293,9 +293,10 @@ def check_slow_disk(
     report(manager.longest < WATCHDOG, f"disk: {manager.longest:.1f} s between two reports to the service manager")
     report(0.5 < client.slowest < 1.5, f"disk: a request took {client.slowest:.1f} s")
     print(
-        f"disk: synchronizations of {slow.seconds} s{' suddenly' * slow.suddenly}, {sent} frames at {rate} a second, {protected} protected, {lost} without a reservation, "
-        f"{dropped(a)} dropped by a full TAP, `port` in {1000 * slowest:.0f} ms of {polls.count} (the machine "
-        f"{1000 * polls.machine:.0f} ms), a request in {client.slowest:.2f} s, watchdog {manager.longest:.2f} s",
+        f"disk: synchronizations of {slow.seconds} s{' suddenly' * slow.suddenly}, {sent} frames at {rate} a second, "
+        f"{protected} protected, {lost} without a reservation, {dropped(a)} dropped by a full TAP, `port` in "
+        f"{1000 * slowest:.0f} ms of {polls.count} (the machine {1000 * polls.machine:.0f} ms), a request in "
+        f"{client.slowest:.2f} s, watchdog {manager.longest:.2f} s",
         flush=True,
     )
     report(a.stop() == 0, f"disk: {a.log()[-300:]}")
