@@ -87,10 +87,10 @@ fn assert_opened_case(rt: &impl Abort, secy: &mut Secy, case: &Case) -> bool {
 #[test]
 fn frames_opened_before_a_command(rt: HostRuntime) {
     let mut secy = receiver(&rt, rt.alloc());
-    let mut count = 0;
+    let mut count = 0_u8;
     for case in &CASES {
         if assert_opened_case(&rt, &mut secy, case) {
-            count += 1;
+            count = count.wrapping_add(1);
         }
     }
     assert!(rt; count == 3);
