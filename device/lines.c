@@ -1,7 +1,6 @@
 /* Lines for the endpoint that begin and end associations. An association must not begin at a packet number that was
  * used under its key, or accepted, whether in this run or in an earlier one. */
 #include "device.h"
-#include <stdio.h>
 #include <stdlib.h>
 
 /* A line that begins an association, in its words. */
@@ -27,14 +26,14 @@ static bool begins(struct beginning *b, const struct words *w) {
 /* Carries out the line with another packet number. Its words are short, since the library has taken them. */
 static uint32_t begin_at(macsec_endpoint *e, const struct beginning *b, uint64_t number) {
     char line[WORDS * WORD];
-    size_t length = 0;
-    for (unsigned i = 0; i < b->words.count && length + WORD < sizeof line; i++) {
+    struct text t = { line, 0, sizeof line, false };
+    for (unsigned i = 0; i < b->words.count; i++) {
         if (i == b->number_at)
-            length += (size_t)snprintf(line + length, WORD, "%llx ", (unsigned long long)number);
+            text_add(&t, "%llx ", (unsigned long long)number);
         else
-            length += (size_t)snprintf(line + length, WORD, "%.*s ", (int)b->words.length[i], b->words.at[i]);
+            text_add(&t, "%.*s ", (int)b->words.length[i], b->words.at[i]);
     }
-    return macsec_command_line(e, (const uint8_t *)line, length);
+    return t.full ? MACSEC_E_LINE_LONG : macsec_command_line(e, (const uint8_t *)line, t.length);
 }
 
 /* ---- Above the numbers that were used ---- */
