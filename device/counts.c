@@ -5,7 +5,7 @@
 static const char *const names[COUNT_OF_COUNTS] = {
     "LinkIn",      "LinkLost", "LinkTooShort",  "LinkTooLong",   "NoEndpoint", "LinkOut",
     "LinkRefused", "TapIn",    "TapTooShort",   "TapTooLong",    "TapOut",     "TapRefused",
-    "PortOut",     "PortIn",   "NoReservation", "JournalFailed", "Requests",
+    "PortOut",     "PortIn",   "NoReservation", "JournalFailed", "Requests",   "LinkFloods",
 };
 
 const char *counts_name(size_t index) {

@@ -98,6 +98,8 @@ CONTROLS: dict[str, list[tuple[str, str, str]]] = {
     "losses": [("link.c", "c->link_lost += lost.tp_drops;", "c->link_lost += lost.tp_drops / 2;"),
                ("link.c", "return BUSY;", "remove_waiting(1);"),
                ("frames.c", "++*too_long;", ";")],
+    "flood": [("link.c", "if (l->full < FLOOD ||", "if (true ||"),
+              ("loop.c", "    link_look_again(&d->link);\n", "")],
     "service": [("loop.c", "    service_notify(\"WATCHDOG=1\");\n", "")],
     "rights": [("confine.c", "    result = leave_root(state);\n", "    result = 0;\n    (void)leave_root;\n"),
                ("confine.c", "return unconfined ? 0 : ENDS_WRONG;", "return 0;"),
