@@ -86,24 +86,23 @@ def _after(length: int) -> int:
 
 def _with_sets(made: Mkpdu, sets: bytes) -> Mkpdu | None:
     """An MKPDU with its other parameter sets; None if one of them does not end within it."""
-    while sets:
-        length = _length(sets)
-        if len(sets) < 4 or sets[0] == _ICV:
-            break
-        if len(sets) < 4 + length:
+    at = 0
+    while at < len(sets) and sets[at] != _ICV and len(sets) - at >= 4:
+        length = _length(sets[at : at + 4])
+        if len(sets) - at < 4 + length:
             return None
-        body = sets[4 : 4 + length]
-        if sets[0] == _LIVE:
-            members = tuple(body[at : at + 12] for at in range(0, length - _PEER_OCTETS + 1, _PEER_OCTETS))
-            made = made._replace(live=members, first_ssci=sets[1])
-        elif sets[0] == _SAK_USE and length >= 40:
-            numbers = tuple((body[at : at + 12], int.from_bytes(body[at + 12 : at + 16], "big")) for at in (0, 20))
+        kind, octet, body = sets[at], sets[at + 1], sets[at + 4 : at + 4 + length]
+        if kind == _LIVE:
+            members = tuple(body[it : it + 12] for it in range(0, length - _PEER_OCTETS + 1, _PEER_OCTETS))
+            made = made._replace(live=members, first_ssci=octet)
+        elif kind == _SAK_USE and length >= 40:
+            numbers = tuple((body[it : it + 12], int.from_bytes(body[it + 12 : it + 16], "big")) for it in (0, 20))
             made = made._replace(used=tuple(it for it in numbers if any(it[0])))
-        elif sets[0] == _DISTRIBUTED_SAK:
-            made = made._replace(sak=_sak(sets[1], body))
-        elif sets[0] == _XPN and length >= 8:
+        elif kind == _DISTRIBUTED_SAK:
+            made = made._replace(sak=_sak(octet, body))
+        elif kind == _XPN and length >= 8:
             made = made._replace(uppers=(int.from_bytes(body[:4], "big"), int.from_bytes(body[4:8], "big")))
-        sets = sets[_after(length) :]
+        at += _after(length)
     return made
 
 

@@ -186,6 +186,12 @@ class Distribution(InFolder):
         self.assertLessEqual(len(it._keys), 512)
         self.assertLess(time.process_time() - begun, 30)
 
+    def test_many_parameter_sets(self) -> None:
+        """The longest EAPOL frames that there can be, of the shortest sets of an unknown type, with a SAK at the end."""
+        server = Member("0200000000010001")
+        frame = server.frame(b"\x09\x00\x00\x00" * 16_000, server.sak(CAK, Suite.gcm128))
+        self.assertEqual(len(learned([frame], Cak(CAK)).saks), 1)
+
     def test_texts(self) -> None:
         settings = "network={\n\tmka_cak=" + CAK.hex() + "\n\tmka_ckn=" + CKN.hex() + "\n}\n"
         for text in (f"# one\n{CAK.hex()} {CKN.hex()}\n", settings):
