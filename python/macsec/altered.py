@@ -24,7 +24,7 @@ def cut_of(frame: bytes) -> Change | None:
 
 
 def altered(frame: bytes, setting: Setting) -> Change | None:
-    """What is wrong with a frame whose data are those of an IP or ARP packet under a setting, although its ICV is wrong:
+    """What is wrong with a frame whose data begin as an IP or ARP packet under a setting, although its ICV is wrong:
     the key and the IV are right, so what the ICV covers was altered. None if they are not."""
     tag = read_tag(frame)
     if tag is None or len(frame) < tag.end + ICV_OCTETS:

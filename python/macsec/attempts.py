@@ -249,7 +249,7 @@ def _usual(argument: KeyArgument, key: Key, frame: Frame, known: Known, place: P
 
 
 def _other_scis(argument: KeyArgument, key: Key, frame: Frame, known: Known) -> Iterator[Attempt]:
-    """SCIs that a tag does not carry: the key's, those of other senders, and the usual ports of the source address."""
+    """SCIs that a tag does not carry: the key's, the other senders', and the usual ports of the source address."""
     scis = [argument.sci] if argument.sci else [*(frame.address + bytes([0, it]) for it in _USUAL_PORTS), *known.scis]
     for sci in dict.fromkeys(scis):
         if frame.names_nobody:

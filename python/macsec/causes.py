@@ -244,7 +244,7 @@ class Search:
         return change._replace(text=f"{change.text}; packet numbers are hex, and decimal {digits} is {int(digits):x}")
 
     def _refused(self, sci: bytes, an: int) -> tuple[Command, Refusal] | None:
-        """The first refused line without which there is no such association: that of its key, its channel or itself."""
+        """The first refused line without which there is no such association: for its key, its channel or itself."""
         refusals = {it.line: it for it in self.configuration.refusals}
         wanted = [it for it in self.configuration.commands if it.keyword == "rxsa" and it.values[:2] == (sci, an)]
         keys = [it.values[2] for it in wanted]
@@ -256,8 +256,8 @@ class Search:
         return None
 
     def _likely(self, sci: bytes, an: int, rows: Sequence[tuple[bytes, int, RxSa]]) -> Iterator[Setting]:
-        """Settings for an association that CONFIG lacks: those of its own line if that is refused, then those of the
-        other ones, of the same SCI or AN first."""
+        """Settings for an association that CONFIG lacks: from its own line if that is refused, then from the other
+        lines, the same SCI or AN first."""
         refused = self.configuration.refused_keys()
         lines = {**{it.number: it for it in refused}, **self.configuration.keys}
         for it in self.configuration.commands:

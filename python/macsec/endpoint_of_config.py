@@ -84,7 +84,7 @@ class Configuration:
         return secy
 
     def refused_keys(self) -> list[KeyLine]:
-        """The keys that have another length than those of their suite, as keys of the suite that fits."""
+        """The keys whose length does not fit their suite, as keys of the suite that it fits."""
         refused = {it.line for it in self.refusals if it.name == "KeyLength"}
         lines = [key_line(it, self.suite) for it in self.commands if it.keyword == "key" and it.line in refused]
         return [it._replace(suite=_OTHER_LENGTH[it.suite]) for it in lines]

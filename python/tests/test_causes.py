@@ -233,7 +233,7 @@ class Causes(InFolder):
 
 class Packets(unittest.TestCase):
     def test_what_data_begin_as(self) -> None:
-        """The length is that of the packet with its EtherTypes. Other data are not taken for a packet."""
+        """The length counts the packet and its EtherTypes. Other data are not taken for a packet."""
         ip = ip_frames(1)[0][12:]
         arp = bytes.fromhex("080600010800060400010200000000010a090001000000000000") + b"\x0a\x09\0\x02"
         ipv6 = bytes.fromhex("86dd6000000000103a40") + bytes(32) + bytes(16)
