@@ -9,6 +9,7 @@ from typing import NamedTuple
 
 from .errors import UsageError
 from .mka import AGILITY, Mkpdu, read_mkpdu
+from .summary import ranges
 from .trial import KeyArgument
 
 _MISSING = (
@@ -105,6 +106,9 @@ class KeyAgreements:
         self._keys: dict[tuple[bytes, bytes], tuple[bytes, bytes]] = {}
         self._members: dict[bytes, bytes] = {}
         self._octets: set[bytes] = set()
+        # The keys that valid MKPDUs call in use, and those that they distribute: key server and key number.
+        self._in_use: dict[tuple[bytes, int], None] = {}
+        self._distributed: set[tuple[bytes, int]] = set()
         self.saks: list[Sak] = []
         # Numbers of MKPDUs: all, those whose ICV is valid, those with a name that no CAK has, those with another ICV.
         self.seen, self.valid, self.unnamed, self.invalid = 0, 0, 0, 0
@@ -132,10 +136,15 @@ class KeyAgreements:
         if self._cryptography is None:
             return None
         kek = self._kek(it)
+        if kek is not None and len(self._in_use) < _MOST_SAKS:
+            self._in_use.update(dict.fromkeys(it.used))
         if kek is None or it.sak is None or it.sak.suite is None or len(self.saks) >= _MOST_SAKS:
             return None
         octets = self._cryptography.unwrapped(kek, it.sak.wrapped)
-        if octets is None or len(octets) != it.sak.suite.key_octets or octets in self._octets:
+        if octets is None or len(octets) != it.sak.suite.key_octets:
+            return None
+        self._distributed.add((it.member, it.sak.number))
+        if octets in self._octets:
             return None
         self._octets.add(octets)
         suite = it.sak.suite
@@ -195,6 +204,9 @@ class KeyAgreements:
             found.append(f"{mkpdus_text(self.invalid)} with another ICV: another CAK, or altered")
         if self.unnamed:
             found.append(f"{mkpdus_text(self.unnamed)} of another CAK name")
+        earlier = sorted(number for server, number in self._in_use if (server, number) not in self._distributed)
+        if earlier and self.saks:
+            found.append(f"key number {ranges(earlier)} is in use, and was distributed before the capture")
         if self.valid and not self.saks:
             found.append(
                 f"{mkpdus_text(self.valid)} with a valid ICV, none with a SAK: capture from before the keys are agreed"

@@ -36,8 +36,8 @@ class WrappedSak(NamedTuple):
 
 class Mkpdu(NamedTuple):
     """An MKPDU. `covered` is what its ICV covers, from the destination address on. `live` are the member identifiers of
-    the live peers, `first_ssci` the SSCI of the key server (0: none is given), `uppers` the upper halves of the packet
-    numbers that its sender names, of the latest key and the one before."""
+    the live peers, `first_ssci` the SSCI of the key server (0: none is given). Of the latest key and the one before,
+    `used` are the key servers and key numbers, `uppers` the upper halves of the packet numbers."""
 
     covered: bytes
     icv: bytes

@@ -135,6 +135,12 @@ class Distribution(InFolder):
             self.assertEqual(len(it.saks), 1, length)
         self.assertIn("from before the keys are agreed", learned(frames[:2], cak).notes()[0])
 
+    def test_a_capture_that_begins_late(self) -> None:
+        (cak,) = caks_of_file(str(DATA / "cak-linux.cak"))
+        it = learned(frames_of("cak-linux")[8:], cak)
+        self.assertEqual(len(it.saks), 4)
+        self.assertEqual(it.notes(), ["key number 1 is in use, and was distributed before the capture"])
+
     def test_no_octet_can_be_altered(self) -> None:
         (cak,) = caks_of_file(str(DATA / "cak-rekeys.cak"))
         frame = next(it for it in frames_of("cak-rekeys") if (found := read_mkpdu(it)) and found.sak)
