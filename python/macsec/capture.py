@@ -6,6 +6,7 @@ import gzip
 import os
 import struct
 import tempfile
+import zlib
 from collections.abc import Iterable, Iterator
 from typing import BinaryIO, NamedTuple, cast
 
@@ -13,6 +14,12 @@ from .errors import CaptureError
 
 ETHERNET = 1
 MOST_OCTETS = 262_144
+# The limits of a pcapng file: the octets of a block that is read (others are skipped), the options of a block, the
+# interfaces of a section, and how many blocks without a packet can follow each other.
+MOST_BLOCK, MOST_OPTIONS, MOST_INTERFACES, MOST_WITHOUT_PACKET = 16 << 20, 1000, 4096, 1 << 16
+_PIECE = 1 << 16
+# The blocks that have a packet: obsolete, simple and enhanced.
+_PACKETS = (2, 3, 6)
 _MAGIC = {0xA1B2C3D4: 1000, 0xA1B23C4D: 1}
 
 
@@ -33,19 +40,43 @@ class Packet(NamedTuple):
         return self.link_type == ETHERNET and len(self.frame) >= self.length
 
 
-def read(path: str) -> Iterator[Packet]:
-    """The records of a capture file. A fault raises CaptureError after the records before it."""
-    with open(path, "rb") as plain:
-        file = cast(BinaryIO, gzip.GzipFile(fileobj=plain)) if plain.read(2) == b"\x1f\x8b" else plain
-        plain.seek(0)
-        try:
+def read(source: str | BinaryIO) -> Iterator[Packet]:
+    """The records of a capture file, which is named or open. A fault raises CaptureError after the records before it.
+
+    Of an open file no more is read than is needed for the next record, so that it can be a pipe.
+    """
+    if isinstance(source, str):
+        with open(source, "rb") as named:
+            yield from read(named)
+        return
+    file, start = source, source.read(4)
+    try:
+        if start[:2] == b"\x1f\x8b":
+            file = cast(BinaryIO, gzip.GzipFile(fileobj=cast(BinaryIO, _PutBack(source, start))))
             start = file.read(4)
-            if start == b"\x0a\x0d\x0d\x0a":
-                yield from _read_pcapng(file, start)
-            else:
-                yield from _read_pcap(file, start)
-        except (gzip.BadGzipFile, EOFError) as why:
-            raise CaptureError(f"{path}: {why}") from None
+        if start == b"\x0a\x0d\x0d\x0a":
+            yield from _read_pcapng(file, start)
+        else:
+            yield from _read_pcap(file, start)
+    except EOFError:
+        raise CaptureError("the compressed file is cut") from None
+    except (gzip.BadGzipFile, zlib.error) as why:
+        raise CaptureError(f"the compressed file is damaged: {why}") from None
+
+
+class _PutBack:
+    """A file whose first octets were read already, and which cannot be read again."""
+
+    def __init__(self, file: BinaryIO, start: bytes) -> None:
+        self._file, self._start = file, start
+
+    def read(self, count: int = -1) -> bytes:
+        start, self._start = self._start, b""
+        if count < 0:
+            return start + self._file.read()
+        if len(start) > count:
+            start, self._start = start[:count], start[count:]
+        return start + self._file.read(count - len(start))
 
 
 def _exactly(file: BinaryIO, count: int, what: str) -> bytes:
@@ -53,6 +84,11 @@ def _exactly(file: BinaryIO, count: int, what: str) -> bytes:
     if len(octets) != count:
         raise CaptureError(f"the file ends within {what}")
     return octets
+
+
+def _skip(file: BinaryIO, count: int, what: str) -> None:
+    while count:
+        count -= len(_exactly(file, min(count, _PIECE), what))
 
 
 def _read_pcap(file: BinaryIO, start: bytes) -> Iterator[Packet]:
@@ -86,22 +122,25 @@ class _Interface(NamedTuple):
     fcs: int
 
 
-def _options(octets: bytes, order: str) -> dict[int, bytes]:
-    """The options of a block: of a repeated one, the first."""
+def _options(octets: bytes, at: int, order: str) -> dict[int, bytes]:
+    """The options of a block from an offset on: of a repeated one, the first."""
     found: dict[int, bytes] = {}
-    at = 0
-    while at + 4 <= len(octets):
+    for _ in range(MOST_OPTIONS):
+        if at + 4 > len(octets):
+            break
         code, size = struct.unpack_from(order + "HH", octets, at)
         if code == 0:
             break
         found.setdefault(code, octets[at + 4 : at + 4 + size])
         at += 4 + (size + 3) // 4 * 4
+    else:
+        raise CaptureError(f"a block has more than {MOST_OPTIONS} options")
     return found
 
 
 def _interface(body: bytes, order: str) -> _Interface:
     link_type, _, snap = struct.unpack_from(order + "HHI", body)
-    options = _options(body[8:], order)
+    options = _options(body, 8, order)
     resolution = (options.get(9) or b"\x06")[0]
     units = 2 ** (resolution & 0x7F) if resolution & 0x80 else 10**resolution
     offset = struct.unpack(order + "q", options[14])[0] if len(options.get(14, b"")) == 8 else 0
@@ -109,7 +148,7 @@ def _interface(body: bytes, order: str) -> _Interface:
 
 
 def _read_pcapng(file: BinaryIO, start: bytes) -> Iterator[Packet]:
-    order, interfaces, number = "<", cast(list[_Interface], []), 0
+    order, interfaces, number, without = "<", cast(list[_Interface], []), 0, 0
     while start:
         if len(start) < 4:
             raise CaptureError("the file ends within a block")
@@ -120,21 +159,37 @@ def _read_pcapng(file: BinaryIO, start: bytes) -> Iterator[Packet]:
             if body not in (b"\x4d\x3c\x2b\x1a", b"\x1a\x2b\x3c\x4d"):
                 raise CaptureError("a section's byte-order magic is wrong")
             interfaces = []
-        size = struct.unpack(order + "I", size_octets)[0]
-        if size < 12 + len(body) or size % 4 or size > 2**28:
-            raise CaptureError(f"a block has the length {size}")
-        body += _exactly(file, size - 12 - len(body), "a block")
-        _exactly(file, 4, "a block")
-        kind = struct.unpack(order + "I", start)[0]
+        kind, size = struct.unpack(order + "II", start + size_octets)
+        body = _block(file, kind, size, body)
+        without += 1
         try:
             if kind == 1:
                 interfaces.append(_interface(body, order))
-            elif kind in (2, 3, 6):
+            elif kind in _PACKETS:
                 yield _packet(number, kind, body, order, interfaces)
-                number += 1
+                number, without = number + 1, 0
         except (struct.error, IndexError):
             raise CaptureError(f"record {number}: its block is at fault") from None
+        if len(interfaces) > MOST_INTERFACES:
+            raise CaptureError(f"the file has more than {MOST_INTERFACES} interfaces")
+        if without > MOST_WITHOUT_PACKET:
+            raise CaptureError(f"the file has more than {MOST_WITHOUT_PACKET} blocks without a packet in a row")
         start = file.read(4)
+
+
+def _block(file: BinaryIO, kind: int, size: int, start: bytes) -> bytes:
+    """The body of a block, whose first octets may be read already; nothing of one that is skipped."""
+    rest = size - 12 - len(start)
+    if rest < 0 or size % 4:
+        raise CaptureError(f"a block has the length {size}")
+    if kind != 1 and kind not in _PACKETS:
+        _skip(file, rest + 4, "a block")
+        return b""
+    if size > MOST_BLOCK:
+        raise CaptureError(f"a block has {size} octets, at most {MOST_BLOCK} expected")
+    body = _exactly(file, rest, "a block")
+    _skip(file, 4, "a block")
+    return body
 
 
 def _packet(number: int, kind: int, body: bytes, order: str, interfaces: list[_Interface]) -> Packet:
@@ -142,17 +197,17 @@ def _packet(number: int, kind: int, body: bytes, order: str, interfaces: list[_I
     time = 0
     if kind == 3:
         of, at, length = interfaces[0], 4, struct.unpack_from(order + "I", body)[0]
-        captured, options = min(length, of.snap or length), b""
+        captured, options = min(length, of.snap or length), len(body)
     else:
         which, high, low, captured, length = struct.unpack_from(order + ("IIIII" if kind == 6 else "HxxIIII"), body)
         of, at = interfaces[which], 20
         time = (high << 32 | low) * 10**9 // of.units + of.offset * 10**9
-        options = body[at + (captured + 3) // 4 * 4 :]
+        options = at + (captured + 3) // 4 * 4
         if not 0 <= time < 10**9 << 32:
             raise CaptureError(f"record {number}: its time is before 1970 or after 2106")
     if captured > MOST_OCTETS or at + captured > len(body):
         raise CaptureError(f"record {number} has more octets than its block")
-    flags = _options(options, order).get(2, b"")
+    flags = _options(body, options, order).get(2, b"")
     fcs = struct.unpack(order + "I", flags)[0] >> 5 & 15 if len(flags) == 4 else 0
     return Packet(number, time, body[at : at + captured], length, of.link_type, fcs or of.fcs)
 
@@ -177,24 +232,15 @@ def write_pcap(path: str, packets: Iterable[tuple[int, bytes]], unit: int = 1) -
             file.write(pcap_record(time, frame, unit))
 
 
-class PcapngFile:
-    """A new pcapng file, which appears under its name only when `close` is called.
+class PcapngWriter:
+    """Writes frames as pcapng to a file that is open."""
 
-    Until then it is a file of another name in the same folder; `discard` removes that. It can be read by its owner
-    alone, since what it holds was protected.
-    """
-
-    def __init__(self, path: str) -> None:
-        self._path = path
-        if os.path.lexists(path):
-            raise FileExistsError(f"{path} exists: name a new file")
-        handle, self._temporary = tempfile.mkstemp(prefix=".macsec-", dir=os.path.dirname(os.path.abspath(path)))
-        self._file: BinaryIO | None = os.fdopen(handle, "wb")
+    def __init__(self, file: BinaryIO) -> None:
+        self._file = file
         self._interfaces: dict[int, int] = {}
         self._put(0x0A0D0D0A, struct.pack("<IHHq", 0x1A2B3C4D, 1, 0, -1))
 
     def _put(self, kind: int, body: bytes) -> None:
-        assert self._file is not None
         body += bytes(-len(body) % 4)
         size = struct.pack("<I", 12 + len(body))
         self._file.write(struct.pack("<I", kind) + size + body + size)
@@ -211,25 +257,69 @@ class PcapngFile:
         self._put(6, head + frame + bytes(-len(frame) % 4) + options)
 
     def close(self) -> None:
+        """Writes what is buffered. The file stays open."""
+        self._file.flush()
+
+    def discard(self) -> None:
+        """What was written stays."""
+
+
+class PcapngStream(PcapngWriter):
+    """The same, to a pipe: the reader has each frame at once."""
+
+    def __init__(self, file: BinaryIO) -> None:
+        super().__init__(file)
+        # The reader learns the link type before the first frame comes.
+        self._interfaces[ETHERNET] = 0
+        self._put(1, struct.pack("<HHIHHBxxxI", ETHERNET, 0, 0, 9, 1, 9, 0))
+        self._file.flush()
+
+    def write(self, time: int, frame: bytes, length: int, comment: str = "", link_type: int = ETHERNET) -> None:
+        super().write(time, frame, length, comment, link_type)
+        self._file.flush()
+
+
+class PcapngFile(PcapngWriter):
+    """A new pcapng file, which appears under its name only when `close` is called.
+
+    Until then it is a file of another name in the same folder; `discard` removes that. It can be read by its owner
+    alone, since what it holds was protected.
+    """
+
+    def __init__(self, path: str) -> None:
+        self._path = path
+        if os.path.lexists(path):
+            raise FileExistsError(f"{path} exists: name a new file")
+        try:
+            handle, self._temporary = tempfile.mkstemp(prefix=".macsec-", dir=os.path.dirname(os.path.abspath(path)))
+        except OSError as why:
+            # The name that was asked for, not that of the temporary file.
+            raise OSError(why.errno, why.strerror, path) from None
+        self._is_there = True
+        self._file = os.fdopen(handle, "wb")
+        super().__init__(self._file)
+
+    def close(self) -> None:
         """Gives the file its name. A file of that name, made meanwhile, raises FileExistsError."""
-        if self._file is None:
+        if not self._is_there:
             return
         self._file.close()
-        self._file = None
         try:
             os.link(self._temporary, self._path)
         except FileExistsError:
+            self.discard()
             raise FileExistsError(f"{self._path} exists: name a new file") from None
         except OSError:  # a file system without links
             os.rename(self._temporary, self._path)
-            return
-        finally:
-            if os.path.exists(self._path) and os.path.lexists(self._temporary):
-                os.unlink(self._temporary)
+            self._is_there = False
+        self.discard()
 
     def discard(self) -> None:
         """Removes what was written, unless the file has its name."""
-        if self._file is not None:
+        if not self._is_there:
+            return
+        try:
             self._file.close()
-            self._file = None
+        finally:
             os.unlink(self._temporary)
+            self._is_there = False

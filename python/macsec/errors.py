@@ -2,6 +2,8 @@
 
 from __future__ import annotations
 
+import re
+
 from .names import Status
 
 MEANINGS = {
@@ -90,6 +92,15 @@ class CaptureError(Exception):
 
 class UsageError(Exception):
     """The arguments of a command, or a text that it was given, cannot be used."""
+
+
+def without_keys(text: str) -> str:
+    """A text of somebody's file without what can be a key: words of 20 and more letters and digits.
+
+    >>> without_keys("on key 01 000102030405060708090a0b0c0d0e0f")
+    'on key 01 (32 characters)'
+    """
+    return re.sub("[0-9A-Za-z]{20,}", lambda it: f"({len(it[0])} characters)", text)
 
 
 def error(status: int, line: int | None = None) -> MacsecError:

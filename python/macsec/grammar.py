@@ -10,6 +10,8 @@ import difflib
 from collections.abc import Sequence
 from typing import Any, Callable, NamedTuple
 
+from .errors import without_keys
+
 MOST_OCTETS, MOST_LINES, LONGEST_LINE = 1_048_576, 65_536, 20_000
 BYTE_ORDER_MARK = b"\xef\xbb\xbf".decode("latin-1")
 HEX_DIGITS = frozenset("0123456789abcdefABCDEF")
@@ -53,7 +55,8 @@ _OTHER_NAMES = {
 
 
 def _quoted(word: str) -> str:
-    return repr(word if len(word) <= 40 else word[:37] + "...")
+    """A word for a message, unless it can be a key in a wrong place."""
+    return repr(without_keys(word if len(word) <= 40 else word[:37] + "..."))
 
 
 def _suggestion(word: str, choices: Sequence[str]) -> str:

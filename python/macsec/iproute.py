@@ -8,7 +8,7 @@ import shlex
 from collections.abc import Sequence
 from typing import Any
 
-from .errors import UsageError
+from .errors import UsageError, without_keys
 from .names import Suite
 from .plan import Plan, PlannedSa
 from .trial import KeyArgument
@@ -18,6 +18,10 @@ CIPHERS = {
     "gcm-aes-xpn-128": Suite.xpn128, "gcm-aes-xpn-256": Suite.xpn256,
 }  # fmt: skip
 _NAMES = {suite: name for name, suite in CIPHERS.items() if name != "default"}
+# What a text of others can raise that is not as it should be. RecursionError: JSON that is nested too deeply.
+_FAULTS = (ValueError, LookupError, TypeError, AttributeError, OverflowError, RecursionError)
+# No command of `ip` has more characters. The time that shlex takes for a word grows with the square of its length.
+_LONGEST = 4096
 # The options of `type macsec` that have a value.
 _OPTIONS = (
     "address port sci cipher icvlen encrypt send_sci end_station scb protect replay window validate encodingsa offload"
@@ -40,11 +44,13 @@ def _commands(text: str) -> list[tuple[int, list[str]]]:
     for part in joined.split("\n"):
         for each in re.split(r";|&&|\|\|", part.replace("\x00", " ")):
             try:
-                words = shlex.split(each, comments=True)
+                words = shlex.split(each, comments=True) if len(each) <= _LONGEST else []
             except ValueError:
                 words = []
             while words[:1] and words[0] != "ip" and words[0] in ("sudo", "doas"):
                 words.pop(0)
+            if words[:1] in (["link"], ["macsec"]):  # a line for ip -batch
+                found.append((line, words))
             if words[:1] == ["ip"]:
                 words.pop(0)
                 while words and words[0].startswith("-"):
@@ -133,8 +139,9 @@ class Devices:
                     self._link(words[1:])
                 elif words[:1] == ["macsec"]:
                     self._macsec(words[1:])
-            except (ValueError, IndexError, KeyError) as why:
-                raise UsageError(f"line {line}: ip {' '.join(words)[:60]}: {why or 'a word is missing'}") from None
+            except _FAULTS as why:
+                told = without_keys(f"{' '.join(words)[:60]}: {why or 'a word is missing'}")
+                raise UsageError(f"line {line}: ip {told}") from None
 
     def _link(self, words: list[str]) -> None:
         at = words.index("type") if "type" in words else len(words)
@@ -200,6 +207,12 @@ class Devices:
         chosen = self.devices.get(name) if name else next(iter(self.devices.values()))
         if chosen is None:
             raise UsageError(f"no command makes {name}")
+        try:
+            return self._plan(chosen, mtu)
+        except _FAULTS as why:
+            raise UsageError(f"a value of the commands is at fault: {without_keys(str(why))}") from None
+
+    def _plan(self, chosen: _Device, mtu: int) -> Plan:
         options = chosen.options
         cipher = options.get("cipher", "default").lower()
         if cipher not in CIPHERS:
@@ -230,7 +243,10 @@ def _form_of(options: dict[str, str]) -> str:
 def _planned(plan: Plan, sa: dict[str, str]) -> PlannedSa:
     if "key" not in sa:
         raise UsageError("an association has no key")
-    key = plan.key_of(bytes.fromhex(sa["key"]), bytes.fromhex(sa.get("salt", "00" * 12).replace("0x", "")))
+    octets, salt = bytes.fromhex(sa["key"]), bytes.fromhex(sa.get("salt", "00" * 12).replace("0x", ""))
+    if len(octets) not in (16, 32) or len(salt) != 12:
+        raise UsageError("a key of 32 or 64 digits and a salt of 24 expected")
+    key = plan.key_of(octets, salt)
     return PlannedSa(
         key, int(sa.get("xpn", sa.get("pn", "1")), 0), sa.get("state") == "on", int(sa.get("ssci", "0"), 16)
     )
@@ -240,8 +256,17 @@ def _switch(flag: bool) -> str:
     return "on" if flag else "off"
 
 
+def _name_of(device: str) -> str:
+    """A device's name, if it is one that stays a single word."""
+    if not re.fullmatch(r"[A-Za-z0-9_.:@-]{1,15}", device):
+        raise UsageError("a device has a name of at most 15 letters, digits and . _ : @ -")
+    return device
+
+
 def commands_of(plan: Plan, device: str, name: str) -> list[str]:
-    """The commands of `ip` that make an endpoint. What has no counterpart is a comment."""
+    """The lines for `ip -batch` that make an endpoint. They hold keys, which must not be arguments of a command, since
+    `ps` shows these. What has no counterpart is a comment."""
+    device, name = _name_of(device), _name_of(name)
     port = int.from_bytes(plan.sci[6:], "big")
     notes = []
     if plan.form == "sci":
@@ -259,7 +284,7 @@ def commands_of(plan: Plan, device: str, name: str) -> list[str]:
     encoding = plan.encoding if plan.encoding is not None else min(plan.tx, default=0)
     window = f" window {plan.window}" if plan.replay else ""
     lines = [
-        f"ip link add link {device} {name} type macsec {address} cipher {_NAMES[plan.suite]} "
+        f"link add link {device} {name} type macsec {address} cipher {_NAMES[plan.suite]} "
         f"encrypt {_switch(plan.encrypt)} {form} protect {_switch(plan.protect)} replay {_switch(plan.replay)}{window} "
         f"validate {plan.validate} encodingsa {encoding}"
     ]
@@ -270,11 +295,11 @@ def commands_of(plan: Plan, device: str, name: str) -> list[str]:
         return f"{number} {_switch(sa.on)} key {sa.key:02x} {key.octets.hex()}"
 
     for an, sa in sorted(plan.tx.items()):
-        lines.append(f"ip macsec add {name} tx sa {an} {sa_words(sa)}")
+        lines.append(f"macsec add {name} tx sa {an} {sa_words(sa)}")
     for sci, sas in plan.rx.items():
-        lines.append(f"ip macsec add {name} rx sci {sci.hex()}")
-        lines += [f"ip macsec add {name} rx sci {sci.hex()} sa {an} {sa_words(sa)}" for an, sa in sorted(sas.items())]
-    return [*notes, *lines, f"ip link set {name} up"]
+        lines.append(f"macsec add {name} rx sci {sci.hex()}")
+        lines += [f"macsec add {name} rx sci {sci.hex()} sa {an} {sa_words(sa)}" for an, sa in sorted(sas.items())]
+    return [*notes, *lines, f"link set {name} up"]
 
 
 def _is_on(value: Any) -> bool:
@@ -284,9 +309,14 @@ def _is_on(value: Any) -> bool:
 def plan_of_json(text: str, keys: Sequence[KeyArgument], name: str | None = None, mtu: int = 1500) -> Plan:
     """The endpoint of a device in the output of `ip -j macsec show`, which shows identifiers in place of keys."""
     try:
-        shown = [it for it in json.loads(text) if it]
-    except ValueError as why:
-        raise UsageError(f"this is not the output of ip -j macsec show: {why}") from None
+        return _plan_of_json(text, keys, name, mtu)
+    except _FAULTS as why:
+        told = "it is nested too deeply" if isinstance(why, RecursionError) else without_keys(f"{why}")
+        raise UsageError(f"this is not the output of ip -j macsec show: {told}") from None
+
+
+def _plan_of_json(text: str, keys: Sequence[KeyArgument], name: str | None, mtu: int) -> Plan:
+    shown = [it for it in json.loads(text) if it]
     found = [it for it in shown if name in (None, it.get("ifname"))]
     if len(found) != 1:
         raise UsageError(f"{len(found)} macsec devices; choose one by --name")

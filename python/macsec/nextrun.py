@@ -10,7 +10,7 @@ from .errors import UsageError
 
 def _results(text: str) -> dict[int, str]:
     """What the text says of CONFIG's lines."""
-    return {int(it[1]): it[2] for it in re.finditer(r"^(\d+) (done|refused \d+ \w+)$", text, re.M)}
+    return {int(it[1]): it[2] for it in re.finditer(r"^(\d{1,9}) (done|refused \d{1,3} \w{1,30})$", text, re.M)}
 
 
 def next_config(config: bytes, text: str) -> bytes:
@@ -19,7 +19,7 @@ def next_config(config: bytes, text: str) -> bytes:
     The text has to be the whole one, of a run of this CONFIG with status 0: otherwise take a new key.
     """
     configuration = Configuration(config)
-    counts = {it[1]: int(it[2]) for it in re.finditer(r"^end (OutPkts\w+) (\d+)$", text, re.M)}
+    counts = {it[1]: int(it[2]) for it in re.finditer(r"^end (OutPkts\w{1,30}) (\d{1,20})$", text, re.M)}
     if not {"OutPktsProtected", "OutPktsEncrypted"} <= counts.keys():
         raise UsageError(
             "the text does not end with the counters of macsec protect: the run did not end; use a new key"

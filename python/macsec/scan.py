@@ -4,7 +4,7 @@ from __future__ import annotations
 
 import collections
 from collections import Counter
-from collections.abc import Sequence
+from collections.abc import Iterable, Sequence
 from typing import NamedTuple
 
 from . import capture
@@ -28,16 +28,17 @@ class _Use(NamedTuple):
 class Scan:
     """What a capture has."""
 
-    def __init__(self, path: str, opener: Opener) -> None:
+    def __init__(self, packets: Iterable[capture.Packet], opener: Opener) -> None:
         self.forms: dict[tuple[bytes, int], Counter[str]] = {}
         self.numbers: dict[tuple[bytes, int], list[int]] = {}
         self.others: Counter[str] = collections.Counter()
+        # Senders whose tags mean another SCI than their IVs have.
+        self.without_config: set[tuple[bytes, int]] = set()
         self.uses: dict[tuple[bytes, int], list[_Use]] = {}
         self.vlan, self.fcs, self.partial = 0, 0, 0
         self.unopened: list[int] = []
-        # The senders whose tags mean another SCI than their IVs have, with that one.
-        self.other_ivs: dict[tuple[bytes, int], str] = {}
-        for packet in capture.read(path):
+        self.other_ivs: dict[str, None] = {}
+        for packet in packets:
             if not packet.is_whole:
                 self.partial += 1
                 continue
@@ -57,7 +58,8 @@ class Scan:
         live = opener.last
         if live and live.trial.sci_of_iv is not None:
             # No CONFIG opens such a frame.
-            self.other_ivs[live.trial.sci, tag.an] = opened.sci
+            self.other_ivs[opened.sci] = None
+            self.without_config.add((live.trial.sci, tag.an))
             live = None
         place = live.trial.sci if live else sender_of(plain, tag), tag.an
         self.forms.setdefault(place, collections.Counter())[tag.flags] += 1
@@ -108,7 +110,7 @@ class Scan:
         if self.unopened:
             found.append(f"not opened by any key: record {ranges(self.unopened)}")
         if self.other_ivs:
-            named = ", ".join(list(dict.fromkeys(self.other_ivs.values()))[:8])
+            named = ", ".join(list(self.other_ivs)[:8])
             found.append(f"tags with ES or SCB whose IVs have SCI {named}: no CONFIG opens these; macsec-decrypt does")
         return found + self.hints
 
@@ -139,22 +141,22 @@ class Scan:
 def _without_keys(plan: Plan, scan: Scan, own: bytes | None) -> None:
     """Says which associations have no key."""
     for sci, an in scan.forms:
-        if (sci, an) not in scan.uses and (sci, an) not in scan.other_ivs and sci != own:
+        if (sci, an) not in scan.uses and (sci, an) not in scan.without_config and sci != own:
             plan.notes.append(
                 f"A rxsc {sci.hex()}, A rxsa {sci.hex()} {an} N 1, A rxon {sci.hex()} {an}: key N is not known"
             )
 
 
 def scan(
-    path: str,
+    packets: Iterable[capture.Packet],
     keys: Sequence[KeyArgument],
     suite: Suite | None = None,
     offset: int | None = None,
     caks: Sequence[Cak] = (),
 ) -> Scan:
-    """Reads a capture under keys, and under those that its frames of MKA distribute."""
+    """Reads the records of a capture under keys, and under those that its frames of MKA distribute."""
     opener = Opener(keys, suite, offset, caks=caks)
     try:
-        return Scan(path, opener)
+        return Scan(packets, opener)
     finally:
         opener.close()

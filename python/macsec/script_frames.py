@@ -41,4 +41,4 @@ def frames_of_text(text: str) -> Iterator[tuple[int, bytes]]:
         try:
             yield number, bytes.fromhex(words[-1])
         except ValueError:
-            raise UsageError(f"line {number}: {words[-1][:40]!r} is not hex") from None
+            raise UsageError(f"line {number}: the last word is not hex") from None

@@ -193,14 +193,13 @@ class KeyArgument(NamedTuple):
 
 
 def _hex(text: str, what: str, *lengths: int) -> bytes:
-    try:
-        octets = bytes.fromhex(text)
-    except ValueError:
-        raise UsageError(f"--key: {what} {text!r} is not hex") from None
-    if len(octets) not in lengths:
+    """Octets in hex. A message never has the digits, which can be those of a key."""
+    if not all(it in "0123456789abcdefABCDEF" for it in text):
+        raise UsageError(f"--key: {what} is not hex: digits alone expected, without 0x, colons and spaces")
+    if len(text) not in [2 * it for it in lengths]:
         expected = " or ".join(str(2 * it) for it in lengths)
         raise UsageError(f"--key: {what} has {len(text)} digits, {expected} expected")
-    return octets
+    return bytes.fromhex(text)
 
 
 def key_argument(text: str) -> KeyArgument:
@@ -225,7 +224,7 @@ def key_argument(text: str) -> KeyArgument:
     upper = int.from_bytes(_hex(parts[3].zfill(8), "the upper half", 4), "big") if len(parts) > 3 else None
     sci_text, slash, an_text = whose.partition("/")
     if slash and an_text not in ("0", "1", "2", "3"):
-        raise UsageError(f"--key: the association number {an_text!r} is not 0 to 3")
+        raise UsageError("--key: the association number after / is not 0 to 3")
     an = int(an_text) if slash else None
     if sci_text and not slash and len(sci_text) != 16:
         return KeyArgument(octets, salt, ssci, id=sci_text.lower().ljust(32, "0"), upper=upper)

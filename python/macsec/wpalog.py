@@ -3,7 +3,8 @@
 from __future__ import annotations
 
 import re
-from typing import NamedTuple
+from collections.abc import Iterable, Iterator
+from typing import BinaryIO, NamedTuple
 
 from .errors import UsageError
 from .names import Suite
@@ -11,14 +12,21 @@ from .plan import Plan, PlannedSa
 
 # What the key server and its peers log of a key, and what either logs of the association around it.
 _KEY = re.compile(
-    r"(generated new SAK|AES Key Unwrap of SAK|macsec_linux: SA key)[.:]* - hexdump\(len=\d+\):"
+    r"(generated new SAK|AES Key Unwrap of SAK|macsec_linux: SA key)[.:]* - hexdump\(len=\d{1,9}\):"
     r"((?: [0-9a-f]{2})+| \[REMOVED\])"
 )
-_AN = re.compile(r"Distributed AN\.*: (\d)")
-_OFFSET = re.compile(r"Confidentiality Offset\.*: (\d)")
+# No line of interest is longer.
+_LONGEST_LINE = 4096
+_AN = re.compile(r"Distributed AN\.*: ([0-3])")
+_OFFSET = re.compile(r"Confidentiality Offset\.*: ([0-9])")
 # What the driver for Linux logs: the number and the SCI of an association, and options. The key comes on a later line.
-_SA = re.compile(r"create_(transmit|receive)_sa -> (\d) on ([0-9a-f:]{17})::([0-9a-f]+) \(.*next_pn=(\d+)\)")
-_OPTION = re.compile(r"try_commit (protect_frames|encrypt|encoding_sa|replay_protect)=(\d+)(?: replay_window=(\d+))?")
+_SA = re.compile(
+    r"create_(transmit|receive)_sa -> ([0-3]) on ((?:[0-9a-f]{2}:){5}[0-9a-f]{2})::([0-9a-f]{1,4}) "
+    r"\([^)]*next_pn=([0-9]{1,20})\)"
+)
+_OPTION = re.compile(
+    r"try_commit (protect_frames|encrypt|encoding_sa|replay_protect)=([0-9]{1,20})(?: replay_window=([0-9]{1,20}))?"
+)
 # The offsets by their numbers in MKA; 0 is integrity alone.
 _OFFSETS = {"0": 0, "1": 0, "2": 30, "3": 50}
 
@@ -31,17 +39,29 @@ class LoggedKey(NamedTuple):
     offset: int
 
 
-def keys_of(log: str) -> list[LoggedKey]:
-    """The keys of a log, each once.
+def lines_of(log: BinaryIO) -> Iterator[str]:
+    """The lines of a log. Of one that is too long for any key, its start."""
+    while True:
+        line = log.readline(_LONGEST_LINE)
+        if not line:
+            return
+        yield line.decode(errors="replace").rstrip("\r\n")
+        while len(line) == _LONGEST_LINE and not line.endswith(b"\n"):
+            line = log.readline(_LONGEST_LINE)
 
-    >>> log = "\\tDistributed AN........: 1\\n\\tAES Key Unwrap of SAK.: - hexdump(len=16):" + " 0f" * 16
+
+def keys_of(log: Iterable[str]) -> list[LoggedKey]:
+    """The keys in the lines of a log, each once.
+
+    >>> log = ["\\tDistributed AN........: 1", "\\tAES Key Unwrap of SAK.: - hexdump(len=16):" + " 0f" * 16]
     >>> keys_of(log)[0].an
     1
     """
     found: list[LoggedKey] = []
+    seen: set[bytes] = set()
     an: int | None = None
     offset, waits = 0, False
-    for line in log.splitlines():
+    for line in log:
         told = _OFFSET.search(line)
         offset = _OFFSETS.get(told[1], 0) if told else offset
         told = _AN.search(line)
@@ -58,20 +78,21 @@ def keys_of(log: str) -> list[LoggedKey]:
         if "REMOVED" in told[2]:
             raise UsageError("the log does not show keys: run wpa_supplicant with -dK")
         octets = bytes.fromhex(told[2])
-        if len(octets) in (16, 32) and all(it.octets != octets for it in found):
+        if len(octets) in (16, 32) and octets not in seen:
+            seen.add(octets)
             # The server logs the association after its key, a peer before.
             waits = told[1].startswith("generated")
             found.append(LoggedKey(octets, None if waits else an, offset))
     return found
 
 
-def plan_of_log(log: str, mtu: int = 1500) -> Plan:
+def plan_of_log(log: Iterable[str], mtu: int = 1500) -> Plan:
     """The endpoint that wpa_supplicant made by the driver for Linux: of each association the last key."""
     sas: dict[tuple[bool, bytes, int], tuple[bytes, int]] = {}
     waits: tuple[bool, bytes, int, int] | None = None
     options: dict[str, int] = {}
     replaced = 0
-    for line in log.splitlines():
+    for line in log:
         told = _OPTION.search(line)
         if told:
             options[told[1]] = int(told[2])

@@ -3,24 +3,126 @@
 from __future__ import annotations
 
 import os
+import re
+import signal
 import sys
-from typing import Callable
+from types import FrameType
+from typing import BinaryIO, Callable
 
 from ..errors import CaptureError, MacsecError, UsageError
 
+# Everything that a terminal could take for a command: control characters, but for tab and line feed.
+_CONTROL = re.compile("[\x00-\x08\x0b-\x1f\x7f-\x9f]")
+_SIGNALS = (signal.SIGTERM, signal.SIGHUP)
+
+
+class _Ended(BaseException):
+    """A signal asks the command to end."""
+
+    def __init__(self, number: int) -> None:
+        super().__init__(number)
+        self.number = number
+
+
+def shown(text: str) -> str:
+    r"""A text without the control characters that a file put into it.
+
+    >>> shown("\x1b]0;title\x07\n")
+    '\\x1b]0;title\\x07\n'
+    """
+    return _CONTROL.sub(lambda it: f"\\x{ord(it[0]):02x}", text)
+
+
+def say(text: str) -> None:
+    """Prints a text, and nothing that a terminal takes for a command."""
+    sys.stdout.write(shown(text))
+
+
+def say_octets(octets: bytes) -> None:
+    """Writes octets of a file as they are; on a terminal as text."""
+    buffer = getattr(sys.stdout, "buffer", None)
+    if buffer is None or sys.stdout.isatty():
+        say(octets.decode(errors="replace"))
+    else:
+        sys.stdout.flush()
+        buffer.write(octets)
+
+
+def open_octets(path: str) -> BinaryIO:
+    """A file for reading; standard input if the path is `-`."""
+    if path != "-":
+        return open(path, "rb")
+    if sys.stdin is None:
+        raise OSError("standard input is closed")
+    return open(sys.stdin.fileno(), "rb", closefd=False)
+
+
+def warn(name: str, text: object) -> None:
+    """Prints a line on standard error, if that is open."""
+    if sys.stderr is not None:
+        print(f"{name}: {shown(str(text))}", file=sys.stderr, flush=True)
+
 
 def run(name: str, work: Callable[[], int]) -> int:
-    """Does the work of a command. A fault is one line on standard error, and status 1 for files, 2 for arguments."""
+    """Does the work of a command. A fault is one line on standard error, and status 1 for files, 2 for arguments.
+
+    A signal ends the command after it has removed its temporary files.
+    """
+    before = _catch_signals()
     try:
+        return _status(name, work)
+    except _Ended as it:
+        return _end_by(it.number)
+    except KeyboardInterrupt:
+        return _end_by(signal.SIGINT)
+    finally:
+        for number, handler in before.items():
+            signal.signal(number, handler)
+
+
+def _status(name: str, work: Callable[[], int]) -> int:
+    try:
+        if sys.stdout is None:
+            raise OSError("standard output is closed")
         status = work()
         sys.stdout.flush()
         return status
     except (UsageError, MacsecError) as why:
-        print(f"{name}: {why}", file=sys.stderr)
+        warn(name, why)
         return 2
     except BrokenPipeError:
         os.dup2(os.open(os.devnull, os.O_WRONLY), sys.stdout.fileno())
         return 1
-    except (CaptureError, OSError, ImportError) as why:
-        print(f"{name}: {why}", file=sys.stderr)
+    except OSError as why:
+        warn(name, f"{why.filename}: {why.strerror}" if why.filename and why.strerror else why.strerror or why)
         return 1
+    except (CaptureError, ImportError) as why:
+        warn(name, why)
+        return 1
+
+
+def _catch_signals() -> dict[int, Callable[[int, FrameType | None], object] | int | None]:
+    """Makes the signals end the work as an exception does. Returns what they did before; nothing if that is none of
+    this thread's."""
+
+    def end(number: int, _: FrameType | None) -> None:
+        for each in _SIGNALS:
+            signal.signal(each, signal.SIG_IGN)
+        raise _Ended(number)
+
+    found: dict[int, Callable[[int, FrameType | None], object] | int | None] = {}
+    try:
+        for each in _SIGNALS:
+            # A signal that is ignored, as by nohup, stays so.
+            if signal.getsignal(each) == signal.SIG_DFL:
+                found[each] = signal.signal(each, end)
+    except ValueError:  # not the main thread
+        pass
+    return found
+
+
+def _end_by(number: int) -> int:
+    """Ends the process by a signal, as it would have ended without a handler."""
+    signal.signal(number, signal.SIG_DFL)
+    os.kill(os.getpid(), number)
+    return 128 + number

@@ -10,6 +10,7 @@ from collections.abc import Sequence
 
 from ..endpoint_of_config import Configuration
 from ..errors import UsageError
+from ..grammar import MOST_OCTETS
 from ..iproute import Devices, address_of, commands_of, plan_of_json
 from ..lint import lint
 from ..names import Suite
@@ -19,11 +20,14 @@ from ..plan import Plan, plan_of
 from ..scan import scan
 from ..secy import sci_of
 from ..trial import KeyArgument
-from ..wpalog import plan_of_log
-from . import run
+from ..wpalog import lines_of, plan_of_log
+from . import open_octets, run, say, say_octets
 from .decrypt import add_key_options, key_arguments
 from .key_agreement import caks_of
+from .reading import Reading
 
+# The octets of a script of `ip`, or of what it shows, that are read.
+_MOST_TEXT = 1 << 20
 _SENDS = (
     "# This end sends. If the same SCI sent these packet numbers under its key before, or another endpoint does, IVs\n"
     "# repeat, which breaks GCM: then use a new key.\n"
@@ -45,7 +49,7 @@ def main(words: Sequence[str] | None = None) -> int:
     )
     source.add_argument("--ip-json", metavar="FILE", help="from the output of ip -j macsec show, and from keys")
     source.add_argument("--lint", metavar="CONFIG", help="say what is wrong with a CONFIG, and where")
-    source.add_argument("--to-ip", metavar="CONFIG", help="print the commands of ip for a CONFIG")
+    source.add_argument("--to-ip", metavar="CONFIG", help="print the lines of ip -batch for a CONFIG")
     source.add_argument(
         "--next", nargs=2, metavar=("TEXT", "CONFIG"), help="CONFIG for the next run, after the one that printed TEXT"
     )
@@ -77,11 +81,18 @@ def main(words: Sequence[str] | None = None) -> int:
     return run("macsec-config", lambda: _config(asked))
 
 
-def _read(path: str) -> bytes:
-    if path == "-":
-        return sys.stdin.buffer.read()
-    with open(path, "rb") as file:
-        return file.read()
+def _read(path: str, most: int = -1) -> bytes:
+    """What is in a file, or comes by standard input."""
+    with open_octets(path) as file:
+        octets = file.read(most + 1 if most >= 0 else -1)
+    if len(octets) > most >= 0:
+        raise UsageError(f"{path} has more than {most} octets")
+    return octets
+
+
+def _read_text(path: str) -> str:
+    """The text of a file that is not in the language of CONFIG."""
+    return _read(path, _MOST_TEXT).decode(errors="replace")
 
 
 def _config(asked: argparse.Namespace) -> int:
@@ -91,7 +102,7 @@ def _config(asked: argparse.Namespace) -> int:
         return _lint(asked)
     if asked.next:
         text = _read(asked.next[0]).decode("latin-1")
-        sys.stdout.write(next_config(_read(asked.next[1]), text).decode("latin-1"))
+        say_octets(next_config(_read(asked.next[1], MOST_OCTETS), text))
         return 0
     if asked.pair:
         ends = end_of(asked.pair[0]), end_of(asked.pair[1])
@@ -100,8 +111,10 @@ def _config(asked: argparse.Namespace) -> int:
             print(path)
         return 0
     if asked.to_ip:
-        plan = plan_of(Configuration(_read(asked.to_ip)))
-        print("\n".join(commands_of(_as(plan, asked.role or "end"), asked.dev, asked.name or "macsec0")))
+        plan = plan_of(Configuration(_read(asked.to_ip, MOST_OCTETS)))
+        say(
+            "".join(f"{it}\n" for it in commands_of(_as(plan, asked.role or "end"), asked.dev, asked.name or "macsec0"))
+        )
         return 0
     if asked.capture:
         return _from_capture(asked)
@@ -113,15 +126,16 @@ def _config(asked: argparse.Namespace) -> int:
                 addresses[device] = address_of(address)
             except ValueError:
                 raise UsageError(f"--address {each}: DEV=MAC expected") from None
-        plan = Devices(_read(asked.ip).decode(), addresses).plan(asked.name, asked.mtu)
+        plan = Devices(_read_text(asked.ip), addresses).plan(asked.name, asked.mtu)
     elif asked.ip_json:
-        plan = plan_of_json(_read(asked.ip_json).decode(), key_arguments(asked), asked.name, asked.mtu)
+        plan = plan_of_json(_read_text(asked.ip_json), key_arguments(asked), asked.name, asked.mtu)
     elif len(asked.wpa) == 1:
-        plan = plan_of_log(_read(asked.wpa[0]).decode(errors="replace"), asked.mtu)
+        with open_octets(asked.wpa[0]) as file:
+            plan = plan_of_log(lines_of(file), asked.mtu)
     else:
         raise UsageError("name a source: --capture, --ip, --ip-json, --wpa, --pair, --to-ip, --next or --lint")
     # A log is of an endpoint that still sends.
-    sys.stdout.write(_text(_as(plan, asked.role or ("observer" if asked.wpa and not asked.ip_json else "end"))))
+    say(_text(_as(plan, asked.role or ("observer" if asked.wpa and not asked.ip_json else "end"))))
     return 0
 
 
@@ -137,7 +151,8 @@ def _text(plan: Plan) -> str:
 def _from_capture(asked: argparse.Namespace) -> int:
     keys: list[KeyArgument] = key_arguments(asked) if asked.key or asked.keys or asked.wpa else []
     suite = Suite[asked.suite] if asked.suite else None
-    made = scan(asked.capture, keys, suite, asked.offset, caks_of(asked))
+    with Reading("macsec-config", asked.capture) as reading:
+        made = scan(reading, keys, suite, asked.offset, caks_of(asked))
     try:
         own = sci_of(asked.own) if asked.own else None
     except ValueError as why:
@@ -145,14 +160,16 @@ def _from_capture(asked: argparse.Namespace) -> int:
     if asked.role in ("end", "peer") and own is None:
         raise UsageError(f"--as {asked.role}: give the SCI of the end by --own")
     plan = made.plan(own, suite)
-    sys.stdout.write(_text(plan.peer() if asked.role == "peer" else plan))
-    return 3 if made.unopened else 0
+    if reading.is_cut:
+        plan.notes.append("the capture is cut, or damaged: this is of the records before that")
+    say(_text(plan.peer() if asked.role == "peer" else plan))
+    return 1 if reading.is_cut else 3 if made.unopened else 0
 
 
 def _lint(asked: argparse.Namespace) -> int:
-    found = lint(_read(asked.lint))
+    found = lint(_read(asked.lint, _MOST_TEXT))
     for each in found:
-        print(json.dumps(each._asdict()) if asked.json else each)
+        say((json.dumps(each._asdict()) if asked.json else str(each)) + "\n")
     return 3 if any(it.kind != "hint" for it in found) else 0
 
 

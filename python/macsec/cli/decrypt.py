@@ -11,30 +11,41 @@ from collections.abc import Sequence
 
 from .. import capture
 from ..errors import UsageError
-from ..ivs import UsedIvs, dicts_of, lines_of
+from ..ivs import UsedIvs, dicts_of
+from ..ivs import lines_of as lines_of_ivs
 from ..names import Suite
 from ..opener import Opener
 from ..summary import frames_text
 from ..trial import KeyArgument, key_argument
-from ..wpalog import keys_of
-from . import run
+from ..wpalog import keys_of, lines_of
+from . import open_octets, run, say
 from .key_agreement import add_cak_options, caks_of
+from .reading import Reading
 
 
 def key_arguments(asked: argparse.Namespace) -> list[KeyArgument]:
     """The keys of the options --key, --keys and --wpa."""
     found = [key_argument(it) for it in asked.key]
     for path in asked.keys:
-        with open(path, encoding="utf-8") as file:
-            lines = [it.strip() for it in file]
-        found += [key_argument(it) for it in lines if it and not it.startswith("#")]
+        with open_octets(path) as file:
+            for number, line in enumerate(map(str.strip, lines_of(file)), 1):
+                if line and not line.startswith("#"):
+                    found.append(_key_of_file(line, f"{path}:{number}"))
     for path in asked.wpa:
-        with open(path, encoding="utf-8", errors="replace") as file:
-            found += [KeyArgument(it.octets) for it in keys_of(file.read())]
+        with open_octets(path) as file:
+            found += [KeyArgument(it.octets) for it in keys_of(lines_of(file))]
     distinct = list(dict.fromkeys(found))
     if not distinct and not (asked.cak or asked.cak_file):
         raise UsageError("no key: give one by --key, --keys or --wpa, or a CAK by --cak or --cak-file")
     return distinct
+
+
+def _key_of_file(line: str, where: str) -> KeyArgument:
+    """The key of a line. Its faults name the file and the line, and not the option of the same form."""
+    try:
+        return key_argument(line)
+    except UsageError as why:
+        raise UsageError(str(why).replace("--key", where, 1)) from None
 
 
 def add_key_options(parser: argparse.ArgumentParser) -> None:
@@ -93,13 +104,15 @@ def _decrypt(asked: argparse.Namespace) -> int:
         lines = [*map(json.dumps, dicts_of(twice)), *(json.dumps({"sak": it.as_dict()}) for it in made.saks)]
         lines += [*made.records, *(json.dumps({"hint": " ".join(it.split())}) for it in made.hints)]
     else:
-        lines = lines_of(twice)
+        lines = lines_of_ivs(twice)
         lines += [str(it) for it in made.saks]
         lines += [f"record {it.record}: SCI {it.sci} AN {it.an} under {it.key}" for it in made.events]
         counts = made.counts.items()
         lines.append("; ".join(f"{frames_text(count)} {state}" for state, count in counts) or "0 frames")
         lines += [f"hint: {it}" for it in made.hints]
-    sys.stdout.write("".join(f"{it}\n" for it in lines))
+    say("".join(f"{it}\n" for it in lines))
+    if made.is_cut:
+        return 1
     return 3 if made.counts["not opened"] or twice else 0
 
 
@@ -114,16 +127,17 @@ class _Made:
         self._asked = asked
         opener = Opener(keys, Suite[asked.suite] if asked.suite else None, asked.offset, ivs, caks_of(asked))
         # The input is opened first, so that a wrong name leaves no file.
-        with open(asked.capture, "rb"):
+        with Reading("macsec-decrypt", asked.capture) as reading:
             self.out = capture.PcapngFile(asked.out)
-        try:
-            for packet in capture.read(asked.capture):
-                self._add(opener, packet)
-        except BaseException:
-            self.out.discard()
-            raise
-        finally:
-            opener.close()
+            try:
+                for packet in reading:
+                    self._add(opener, packet)
+            except BaseException:
+                self.out.discard()
+                raise
+            finally:
+                opener.close()
+        self.is_cut = reading.is_cut
         self.events, self.saks, self.hints = opener.events, opener.agreements.saks, opener.hints()
 
     def _add(self, opener: Opener, packet: capture.Packet) -> None:

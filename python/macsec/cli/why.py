@@ -6,8 +6,8 @@ import argparse
 import collections
 import json
 import sys
-from collections.abc import Sequence
-from typing import NamedTuple, Optional
+from collections.abc import Iterable, Sequence
+from typing import Counter, NamedTuple, Optional
 
 from .. import capture
 from ..cak import Cak, KeyAgreements
@@ -15,14 +15,16 @@ from ..causes import Search
 from ..endpoint_of_config import Configuration
 from ..errors import FrameFault, UsageError
 from ..frames import SecTag, ethertype, read_tag, without_vlan
+from ..grammar import MOST_OCTETS
 from ..ivs import UsedIvs, UsedTwice, dicts_of, lines_of
 from ..names import Verdict
 from ..secy import Received
 from ..settings import Change, Found, Setting
 from ..summary import Summary, frames_text, ranges
 from ..trial import OPENED, key_argument, whole_number
-from . import run
+from . import run, say
 from .key_agreement import add_cak_options, caks_of
+from .reading import Reading
 
 _DELIVERED_AS_SENT = (Verdict.OK, Verdict.Delayed)
 # How many frames of a kind, and of all kinds, other settings are searched for; and how many of a kind are kept.
@@ -47,6 +49,7 @@ class Group(NamedTuple):
     records: list[int]
     changes: tuple[Change, ...]
     note: str = ""
+    more: int = 0  # frames that nobody looked at, in place of records
 
     def as_dict(self) -> dict[str, object]:
         causes = [{key: value for key, value in it._asdict().items() if value is not None} for it in self.changes]
@@ -54,11 +57,14 @@ class Group(NamedTuple):
         if self.an is None:
             named = {"ethertype": self.sender}
         note = {"note": self.note} if self.note else {}
-        return {"verdict": self.verdict.name, **named, "records": self.records, "causes": causes, **note}
+        more = {"more": self.more} if self.more else {}
+        return {"verdict": self.verdict.name, **named, "records": self.records, "causes": causes, **note, **more}
 
     def lines(self) -> list[str]:
         of = f"EtherType {self.sender}" if self.an is None else f"SCI {self.sender} AN {self.an}"
         found = [f"record {ranges(self.records)} {self.verdict.name} ({frames_text(len(self.records))}), {of}:"]
+        if self.more:
+            found = [f"{self.more} more frames {self.verdict.name}, {of}:"]
         for each in self.changes:
             found.append(f"  {each.cause}: " + (f"line {each.line}: " if each.line else "") + each.text)
         return found + ([f"  {self.note}"] if self.note else [])
@@ -110,7 +116,12 @@ class Run:
     """What `macsec validate` makes of a capture, and the frames that it did not open."""
 
     def __init__(
-        self, configuration: Configuration, search: Search, path: str, only: int | None, caks: Sequence[Cak] = ()
+        self,
+        configuration: Configuration,
+        search: Search,
+        packets: Iterable[capture.Packet],
+        only: int | None,
+        caks: Sequence[Cak] = (),
     ) -> None:
         self.summary = Summary()
         self.agreements = KeyAgreements(caks)
@@ -118,11 +129,13 @@ class Run:
         self.accepted: dict[int, int] = {}
         self.ivs = Ivs(configuration, search, only)
         self.unopened: dict[_Kind, list[Seen]] = {}
+        # How many more frames of a kind there are than are kept.
+        self.more: Counter[_Kind] = collections.Counter()
         self.first_opened: dict[tuple[str, int | None], int] = {}
         self.others: dict[str, list[int]] = collections.defaultdict(list)
         self.only: capture.Packet | None = None
         self.only_verdict = ""
-        for packet in capture.read(path):
+        for packet in packets:
             self._show(search, packet)
             verdict = self._add(configuration, packet, only)
             if packet.number == only:
@@ -168,6 +181,8 @@ class Run:
             kept = self.unopened.setdefault((verdict, *of), [])
             if len(kept) < _MOST_FRAMES:
                 kept.append(Seen(packet.number, packet.frame))
+            else:
+                self.more[(verdict, *of)] += 1
         return verdict.name
 
 
@@ -230,6 +245,9 @@ class Explanation:
         self._run, self._search, self._searches = run_, search, 0
         for kind, seen in run_.unopened.items():
             self._explain(kind, seen)
+            if run_.more[kind]:
+                note = f"the first {_MOST_FRAMES} were looked at"
+                self.groups.append(Group(*kind, [], (), note, run_.more[kind]))
 
     def _explain(self, kind: _Kind, seen: list[Seen]) -> None:
         """Explains the frames of a kind: those that one setting opens together."""
@@ -303,12 +321,13 @@ def main(words: Sequence[str] | None = None) -> int:
 
 def _why(asked: argparse.Namespace) -> int:
     with open(asked.config, "rb") as file:
-        configuration = Configuration(file.read())
+        configuration = Configuration(file.read(MOST_OCTETS + 1))
     search = Search(configuration)
     for place, text in enumerate(asked.key, 1):
         search.add_key(key_argument(text), f"--key {place}")
-    made = Run(configuration, search, asked.capture, asked.record, caks_of(asked))
-    groups = Explanation(made, search).groups
+    with Reading("macsec-why", asked.capture) as reading:
+        made = Run(configuration, search, reading, asked.record, caks_of(asked))
+        groups = Explanation(made, search).groups
     search.trials.close()
     made.summary.note_keys(made.ivs.keys)
     twice = made.ivs.twice
@@ -323,7 +342,9 @@ def _why(asked: argparse.Namespace) -> int:
         lines += _record_lines(made.only, made.only_verdict) if made.only else made.summary.lines()
         lines += [f"record {ranges(records)}: {name}" for name, records in made.others.items()]
         lines += [line for it in groups for line in it.lines()]
-    sys.stdout.write("".join(f"{it}\n" for it in lines))
+    say("".join(f"{it}\n" for it in lines))
+    if reading.is_cut:
+        return 1
     return 3 if twice or any(it.an is not None or it.changes for it in groups) else 0
 
 
