@@ -39,7 +39,7 @@ DEVICE_SOURCES := $(filter-out device/macsecctl.c,$(wildcard device/*.c))
 # The checks that make a program or a library first, and the others.
 OVER_PROGRAM := altered-frames conformance conformance-controls peer planted stored-runs
 OVER_LIBRARY := c-programs isolated isolated-controls isolated-unit journal macsecd macsecd-controls macsecd-isolated \
-    pages python
+    pages python readers
 CHECKS := $(OVER_PROGRAM) $(OVER_LIBRARY) against allocators any-order c-cost c-header controls device-kernel edits \
     failures fuzz kept-frames kernel-captures lanes-used mka moves needed packages style table version
 
