@@ -41,7 +41,7 @@ OVER_PROGRAM := altered-frames conformance conformance-controls peer planted sto
 OVER_LIBRARY := c-programs isolated isolated-controls isolated-unit journal macsecd macsecd-controls macsecd-isolated \
     pages python readers
 CHECKS := $(OVER_PROGRAM) $(OVER_LIBRARY) against allocators any-order c-cost c-header controls device-kernel edits \
-    failures fuzz kept-frames kernel-captures lanes-used mka moves needed packages style table version
+    failures fuzz kept-frames kernel-captures lanes-used live mka moves needed packages style table version
 
 .PHONY: all try test run lib kept device install install-device install-python dist check pictures reference bench \
     toolchain clean help $(CHECKS)

@@ -2,6 +2,7 @@
 
 from __future__ import annotations
 
+import re
 from typing import NamedTuple
 
 from .errors import Refused, UsageError, error
@@ -48,11 +49,20 @@ def key_line(command: Command, default: Suite) -> KeyLine:
     return KeyLine(command.line, number, octets, offset, suite, int.from_bytes(ssci, "big"), salt)
 
 
+def without_device_lines(text: bytes) -> bytes:
+    """A text in which the lines of macsecd's own, as in NAME.conf, are comments. The others keep their numbers.
+
+    >>> without_device_lines(b" device link eth0\\nend A\\ndevices\\n")
+    b' #evice link eth0\\nend A\\ndevices\\n'
+    """
+    return re.sub(rb"^([ \t]*)device(?=[ \t\r]|$)", rb"\1#evice", text, flags=re.M)
+
+
 class Configuration:
-    """A CONFIG that the library has carried out."""
+    """A CONFIG that the library has carried out; or macsecd's file, without what is for the device alone."""
 
     def __init__(self, text: bytes) -> None:
-        self.commands, faults = parse(text)
+        self.commands, faults = parse(without_device_lines(text))
         if faults:
             raise UsageError(str(faults[0]))
         self.text = text
@@ -108,6 +118,12 @@ class Configuration:
             return self._state().rx_sa(sci, an)
         except LookupError:
             return None
+
+    def close(self) -> None:
+        """Frees the endpoints, and the keys in them."""
+        self.secy.close()
+        if self._alone is not None:
+            self._alone.close()
 
     def _state(self) -> SecY:
         """An endpoint that receives nothing."""

@@ -3,6 +3,7 @@
 from __future__ import annotations
 
 import hashlib
+from collections import OrderedDict
 from collections.abc import Sequence
 from typing import NamedTuple
 
@@ -72,10 +73,14 @@ class UsedTwice:
 
 
 class UsedIvs:
-    """The IVs that the frames of a capture use, of each key. A frame that is repeated octet for octet is one use."""
+    """The IVs that the frames of a capture use, of each key. A frame that is repeated octet for octet is one use.
 
-    def __init__(self) -> None:
-        self._first: dict[bytes, dict[bytes, _Use]] = {}
+    Of a capture without an end, the last ones: at most `most`.
+    """
+
+    def __init__(self, most: int | None = None) -> None:
+        self._most = most
+        self._first: OrderedDict[tuple[bytes, bytes], _Use] = OrderedDict()
         self._twice: dict[tuple[bytes, bytes], UsedTwice] = {}
 
     def add(
@@ -86,12 +91,15 @@ class UsedIvs:
         octets, if there is one so far."""
         iv = iv_of(key, sci, ssci, pn)
         use = _Use(record, _digest(frame, tag), key.name, sci, pn)
-        first = self._first.setdefault(key.octets, {}).setdefault(iv, use)
-        found = self._twice.get((key.octets, iv))
+        place = key.octets, iv
+        first = self._first.setdefault(place, use)
+        if self._most is not None and len(self._first) > self._most:
+            self._first.popitem(last=False)
+        found = self._twice.get(place)
         if found is None and first.digest == use.digest:
             return None
         if found is None:
-            found = self._twice[key.octets, iv] = UsedTwice(first)
+            found = self._twice[place] = UsedTwice(first)
         return found, found.add(use)
 
     @property

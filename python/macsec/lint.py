@@ -4,7 +4,7 @@ from __future__ import annotations
 
 from typing import NamedTuple
 
-from .endpoint_of_config import Configuration
+from .endpoint_of_config import Configuration, without_device_lines
 from .grammar import Command, parse
 
 
@@ -32,7 +32,7 @@ def lint(text: bytes) -> list[Finding]:
     line 1, argument 3: 'gcm-aes-128', gcm128, gcm256, xpn128 or xpn256 expected; write gcm128
     line 2, argument 4: 2 digits, 32 or 64 expected
     """
-    commands, faults = parse(text)
+    commands, faults = parse(without_device_lines(text))
     if faults:
         return [Finding("fault", *it) for it in faults]
     configuration = Configuration(text)

@@ -3,6 +3,7 @@ number. The library judges each frame; this chooses what it is asked."""
 
 from __future__ import annotations
 
+from collections import OrderedDict
 from collections.abc import Iterator, Sequence
 from typing import NamedTuple
 
@@ -15,7 +16,8 @@ from .ivs import UsedIvs
 from .names import Suite, Verdict
 from .trial import OPENED, KeyArgument, Trial, Trials
 
-_MOST_LIVE = 8
+# How many associations of a sender, and how many senders with their association numbers, are kept.
+_MOST_LIVE, _MOST_STREAMS = 8, 65_536
 # How many frames of an association that never opened, and of all, are searched widely; and for how many that is more.
 _WIDE_SEARCHES, _WIDE_SEARCHES_OF_ALL, _WIDER_SEARCHES = 3, 20, 1
 _FCS = 4
@@ -93,7 +95,7 @@ class Opener:
         caks: Sequence[Cak] = (),
     ) -> None:
         self._keys = Keys(keys, suite, offset)
-        self._streams: dict[tuple[bytes, bool, int], _Stream] = {}
+        self._streams: OrderedDict[tuple[bytes, bool, int], _Stream] = OrderedDict()
         self._trials = Trials()
         self._effort = Effort(len(keys))
         self._wide_searches = 0
@@ -120,6 +122,10 @@ class Opener:
             state = "not opened" if plain[12:14] == MACSEC else "not protected"
             return Opened(whole, state)
         stream = self._streams.setdefault((tag.sci or plain[6:12], tag.sci is None, tag.an), _Stream())
+        if len(self._streams) > _MOST_STREAMS:
+            # A capture without an end can have any number of senders. One that comes again is searched for again.
+            for live in self._streams.popitem(last=False)[1].live:
+                live.trial.close()
         it = Frame(plain, tag)
         try:
             return self._open(record, stream, it, tags, not is_cut) or self._failed(

@@ -259,7 +259,7 @@ class Ends(InFolder):
         self.put("WHOLE", protected(client_frames(2)))
         self.pipe.write((self.folder / "WHOLE").read_bytes())
         self.pipe.flush()
-        until = time.monotonic() + 20
+        until = time.monotonic() + 60
         while len(self.names()) < 3 and time.monotonic() < until:
             time.sleep(0.02)
         self.assertEqual(len(self.names()), 3, "no temporary file")
@@ -270,7 +270,7 @@ class Ends(InFolder):
             with self.subTest(number):
                 it = self.begun()
                 it.send_signal(number)
-                out, error = it.communicate(timeout=20)
+                out, error = it.communicate(timeout=120)
                 self.assertEqual((it.returncode, out, error, self.names()), (-number, "", "", ["IN", "WHOLE"]))
                 self.pipe.close()
                 os.unlink(self.folder / "IN")
@@ -280,7 +280,7 @@ class Ends(InFolder):
         it.send_signal(signal.SIGHUP)
         time.sleep(0.3)
         self.pipe.close()
-        out, error = it.communicate(timeout=20)
+        out, error = it.communicate(timeout=120)
         self.assertEqual((it.returncode, error, self.names()), (0, "", ["IN", "OUT", "WHOLE"]))
 
     def test_closed_streams(self) -> None:

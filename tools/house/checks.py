@@ -136,6 +136,8 @@ CHECKS: list[Check] = [
           GUEST, 900, None, hand=""),
     Check("kernel-captures", "opens captures of a Linux kernel in a virtual machine", "python/tests/kernel-captures",
           GUEST, 300, None, hand=""),
+    Check("live", "opens frames while they come: tcpdump, tshark and the extcap of Wireshark", "python/tests/live",
+          ROOT_USER, 60, "a macsec-decrypt that is late (--late)", hand=""),
     Check("mka", "runs wpa_supplicant over the device", "integrations/wpa_supplicant/tests/mka", GUEST, 600,
           "ends with mistakes (--controls)", hand=""),
 ]

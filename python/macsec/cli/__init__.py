@@ -7,7 +7,7 @@ import re
 import signal
 import sys
 from types import FrameType
-from typing import BinaryIO, Callable
+from typing import BinaryIO, Callable, TextIO
 
 from ..errors import CaptureError, MacsecError, UsageError
 
@@ -33,9 +33,9 @@ def shown(text: str) -> str:
     return _CONTROL.sub(lambda it: f"\\x{ord(it[0]):02x}", text)
 
 
-def say(text: str) -> None:
-    """Prints a text, and nothing that a terminal takes for a command."""
-    sys.stdout.write(shown(text))
+def say(text: str, to: TextIO | None = None) -> None:
+    """Prints a text on standard output or another stream, and nothing that a terminal takes for a command."""
+    (to or sys.stdout).write(shown(text))
 
 
 def say_octets(octets: bytes) -> None:

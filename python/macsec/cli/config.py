@@ -22,7 +22,7 @@ from ..secy import sci_of
 from ..trial import KeyArgument
 from ..wpalog import lines_of, plan_of_log
 from . import open_octets, run, say, say_octets
-from .decrypt import add_key_options, key_arguments
+from .decrypt import add_key_options, has_keys, key_arguments
 from .key_agreement import caks_of
 from .reading import Reading
 
@@ -43,7 +43,7 @@ def main(words: Sequence[str] | None = None) -> int:
         "1 for a file, 2 for arguments or their texts. The result has keys: keep it as you keep them.",
     )
     source = parser.add_mutually_exclusive_group()
-    source.add_argument("--capture", metavar="IN", help="from a capture, and from keys")
+    source.add_argument("--capture", metavar="IN", help="from a capture, and from keys (-: standard input)")
     source.add_argument(
         "--ip", metavar="FILE", help="from a script of ip link and ip macsec commands (-: standard input)"
     )
@@ -149,7 +149,7 @@ def _text(plan: Plan) -> str:
 
 
 def _from_capture(asked: argparse.Namespace) -> int:
-    keys: list[KeyArgument] = key_arguments(asked) if asked.key or asked.keys or asked.wpa else []
+    keys: list[KeyArgument] = key_arguments(asked) if has_keys(asked) else []
     suite = Suite[asked.suite] if asked.suite else None
     with Reading("macsec-config", asked.capture) as reading:
         made = scan(reading, keys, suite, asked.offset, caks_of(asked))

@@ -10,7 +10,9 @@ from collections import Counter
 from collections.abc import Sequence
 
 from .. import capture
+from ..config_keys import keys_of_config
 from ..errors import UsageError
+from ..grammar import MOST_OCTETS
 from ..ivs import UsedIvs, dicts_of
 from ..ivs import lines_of as lines_of_ivs
 from ..names import Suite
@@ -20,11 +22,20 @@ from ..trial import KeyArgument, key_argument
 from ..wpalog import keys_of, lines_of
 from . import open_octets, run, say
 from .key_agreement import add_cak_options, caks_of
-from .reading import Reading
+from .reading import STDIN, Reading
+
+STDOUT = "-"
+# How many IVs are kept of a capture that comes by a pipe and may have no end. 100,000 take 60 MB.
+_MOST_IVS = 200_000
+
+
+def has_keys(asked: argparse.Namespace) -> bool:
+    """Does an option give keys?"""
+    return bool(asked.key or asked.keys or asked.wpa or asked.config_keys)
 
 
 def key_arguments(asked: argparse.Namespace) -> list[KeyArgument]:
-    """The keys of the options --key, --keys and --wpa."""
+    """The keys of the options --key, --keys, --wpa and --config."""
     found = [key_argument(it) for it in asked.key]
     for path in asked.keys:
         with open_octets(path) as file:
@@ -34,9 +45,12 @@ def key_arguments(asked: argparse.Namespace) -> list[KeyArgument]:
     for path in asked.wpa:
         with open_octets(path) as file:
             found += [KeyArgument(it.octets) for it in keys_of(lines_of(file))]
+    for path in asked.config_keys:
+        with open_octets(path) as file:
+            found += keys_of_config(file.read(MOST_OCTETS + 1))
     distinct = list(dict.fromkeys(found))
     if not distinct and not (asked.cak or asked.cak_file):
-        raise UsageError("no key: give one by --key, --keys or --wpa, or a CAK by --cak or --cak-file")
+        raise UsageError("no key: give one by --key, --keys, --wpa or --config, or a CAK by --cak or --cak-file")
     return distinct
 
 
@@ -58,6 +72,10 @@ def add_key_options(parser: argparse.ArgumentParser) -> None:
         "--keys", action="append", default=[], metavar="FILE", help="a file with such a key on each line"
     )
     parser.add_argument("--wpa", action="append", default=[], metavar="LOG", help="a log of wpa_supplicant -dK")
+    parser.add_argument(
+        "--config", action="append", default=[], dest="config_keys", metavar="FILE",
+        help="a CONFIG, or macsecd's file, with keys",
+    )  # fmt: skip
     suites = [it.name for it in Suite if it]
     parser.add_argument(
         "--suite", choices=suites, help="the suite of all keys; else by length, and extended with a salt"
@@ -70,14 +88,14 @@ def main(words: Sequence[str] | None = None) -> int:
     parser = argparse.ArgumentParser(
         prog="macsec-decrypt",
         description="Opens the frames of IN, of all senders, and writes them to OUT with verdict and packet number as "
-        "comments. OUT is a new pcapng file, which appears when it is complete. Frames that do not open, or are not "
-        "protected, are kept as they are: nobody authenticated them. Frames with other octets that use one IV under "
-        "one key are named first.",
+        "comments. OUT is a new pcapng file, which appears when it is complete, or - for standard output, which has "
+        "each frame as it comes. Frames that do not open, or are not protected, are kept as they are: nobody "
+        "authenticated them. Frames with other octets that use one IV under one key are named first.",
         epilog="Exit status: 0 if every protected frame was opened, 3 if not, or if an IV is used twice; 1 for a file, "
         "2 for arguments.",
     )
-    parser.add_argument("capture", metavar="IN", help="pcap or pcapng, also compressed by gzip")
-    parser.add_argument("out", metavar="OUT", help="a new file")
+    parser.add_argument("capture", metavar="IN", help="pcap or pcapng, also compressed by gzip; - for standard input")
+    parser.add_argument("out", metavar="OUT", help="a new file, or -")
     add_key_options(parser)
     parser.add_argument(
         "--offset", type=int, choices=(0, 30, 50), help="the confidentiality offset; else all are tried"
@@ -90,9 +108,10 @@ def main(words: Sequence[str] | None = None) -> int:
 
 def _decrypt(asked: argparse.Namespace) -> int:
     keys = key_arguments(asked)
-    made = _Made(asked, keys, UsedIvs())
+    is_stream = STDIN in (asked.capture, asked.out)
+    made = _Made(asked, keys, UsedIvs(_MOST_IVS if is_stream else None))
     try:
-        if made.ivs.twice:
+        if made.ivs.twice and not is_stream:
             # Written again, so that each of the frames with one IV names another one, the first of them too.
             made.out.discard()
             made = _Made(asked, keys, made.ivs)
@@ -110,7 +129,7 @@ def _decrypt(asked: argparse.Namespace) -> int:
         counts = made.counts.items()
         lines.append("; ".join(f"{frames_text(count)} {state}" for state, count in counts) or "0 frames")
         lines += [f"hint: {it}" for it in made.hints]
-    say("".join(f"{it}\n" for it in lines))
+    say("".join(f"{it}\n" for it in lines), made.text)
     if made.is_cut:
         return 1
     return 3 if made.counts["not opened"] or twice else 0
@@ -124,11 +143,13 @@ class _Made:
         self.ivs = ivs
         self.counts: Counter[str] = collections.Counter()
         self.records: list[str] = []
+        # Where the text goes: standard output has the frames if that is OUT.
+        self.text = sys.stderr if asked.out == STDOUT else sys.stdout
         self._asked = asked
         opener = Opener(keys, Suite[asked.suite] if asked.suite else None, asked.offset, ivs, caks_of(asked))
         # The input is opened first, so that a wrong name leaves no file.
         with Reading("macsec-decrypt", asked.capture) as reading:
-            self.out = capture.PcapngFile(asked.out)
+            self.out = _new_file(asked.out)
             try:
                 for packet in reading:
                     self._add(opener, packet)
@@ -151,9 +172,26 @@ class _Made:
         self.counts[it.state] += 1
         if self._asked.json:
             about = {key: value for key, value in it._asdict().items() if key != "frame" and value not in (None, "")}
-            self.records.append(json.dumps({"record": packet.number, **about, "length": len(it.frame)}))
+            self._note(json.dumps({"record": packet.number, **about, "length": len(it.frame)}))
         if it.state == "opened" or not self._asked.only_opened:
             self.out.write(packet.time, it.frame, len(it.frame), it.comment)
+
+    def _note(self, line: str) -> None:
+        """Keeps a line of the text for the end; prints it at once if the input has no end yet."""
+        if self._asked.capture == STDIN:
+            say(f"{line}\n", self.text)
+            self.text.flush()
+        else:
+            self.records.append(line)
+
+
+def _new_file(path: str) -> capture.PcapngWriter:
+    """OUT: a new file, or standard output."""
+    if path != STDOUT:
+        return capture.PcapngFile(path)
+    if sys.stdout.isatty():
+        raise UsageError("OUT is -, and standard output is a terminal: give it to a program or a file")
+    return capture.PcapngStream(sys.stdout.buffer)
 
 
 if __name__ == "__main__":

@@ -308,7 +308,7 @@ def main(words: Sequence[str] | None = None) -> int:
         "for arguments or CONFIG.",
     )
     parser.add_argument("config", metavar="CONFIG", help="the configuration of `macsec validate`")
-    parser.add_argument("capture", metavar="IN", help="pcap or pcapng, also compressed by gzip")
+    parser.add_argument("capture", metavar="IN", help="pcap or pcapng, also compressed by gzip; - for standard input")
     parser.add_argument("record", metavar="K", type=int, nargs="?", help="a record alone, from 0")
     parser.add_argument(
         "--key", action="append", default=[], metavar="KEY[:SALT[:SSCI[:UPPER]]]", help="one more key to try, in hex"
