@@ -1,5 +1,6 @@
-# make try           builds the program without proofs, in about a minute, and runs it on the tour; with ARGS='..' on
-#                    those arguments, as in make try ARGS='protect CONFIG IN OUT'
+# make try           builds the program and the library without proofs, in about a minute, and runs the program on the
+#                    tour; with ARGS='..' on those arguments, as in make try ARGS='protect CONFIG IN OUT'. build/try has
+#                    it and the commands in Python
 # make test          builds without proofs and runs most checks, in at most 5 minutes
 # make               proves and builds the program, build/macsec; with CPU=x86-64-v3 build/macsec-x86-64-v3, for
 #                    processors with vectors of 256 bits
@@ -49,7 +50,10 @@ CHECKS := $(OVER_PROGRAM) $(OVER_LIBRARY) against allocators any-order c-cost c-
 all: $(BUILT)
 
 try: toolchain
-	@tools/unproved macsec
+	@tools/unproved macsec libmacsec.a
+	@mkdir -p build/try && ln -sf ../unproved/macsec build/try/macsec
+	@for each in $$(sed -n 's/^\(macsec-[a-z]*\) = .*/\1/p' python/pyproject.toml); do \
+	    install -m 755 python/tried_command.sh "build/try/$$each" || exit 1; done
 	@build/unproved/macsec $(or $(ARGS),run - < examples/scripts/tour.macsec)
 	@echo "make try: nothing of this build is proved; make run proves it" >&2
 
@@ -70,7 +74,7 @@ install: build/macsec build/libmacsec.a
 	install -m 755 build/macsec "$(DESTDIR)$(PREFIX)/bin/macsec"
 	install -m 644 man/macsec.1 "$(DESTDIR)$(PREFIX)/share/man/man1/macsec.1"
 	install -m 644 man/macsec.5 "$(DESTDIR)$(PREFIX)/share/man/man5/macsec.5"
-	install -D -m 644 tools/packaging/completion.bash "$(DESTDIR)$(PREFIX)/share/bash-completion/completions/macsec"
+	tools/completions program --to "$(DESTDIR)$(PREFIX)"
 	install -m 644 include/macsec.h "$(DESTDIR)$(PREFIX)/include/macsec.h"
 	install -m 644 build/libmacsec.a build/libmacsec.so.1 "$(DESTDIR)$(PREFIX)/lib"
 	ln -sfn libmacsec.so.1 "$(DESTDIR)$(PREFIX)/lib/libmacsec.so"
@@ -86,6 +90,7 @@ install-python:
 	for each in $$(sed -n 's/^\(macsec-[a-z]*\) = .*/\1/p' python/pyproject.toml); do \
 	    install -D -m 644 -t "$(DESTDIR)$(PREFIX)/share/man/man1" "man/$$each.1" && \
 	    install -D -m 755 python/installed_command.py "$(DESTDIR)$(PREFIX)/bin/$$each" || exit 1; done
+	tools/completions python --to "$(DESTDIR)$(PREFIX)"
 
 dist: build/macsec build/libmacsec.a build/$(HWCAPS)/libmacsec.a
 	tools/dist
@@ -127,6 +132,7 @@ install-device: device
 	install -D -m 644 -t "$(DESTDIR)$(PREFIX)/share/man/man8" man/macsecd.8 man/macsecctl.8 man/macsec-link.8
 	install -d "$(DESTDIR)$(PREFIX)/lib/systemd/system"
 	sed 's|/usr/local|$(PREFIX)|' device/macsecd@.service > "$(DESTDIR)$(PREFIX)/lib/systemd/system/macsecd@.service"
+	tools/completions device --to "$(DESTDIR)$(PREFIX)"
 
 # The program, proved and then built by LLVM.
 build/macsec: $(SOURCES) | toolchain

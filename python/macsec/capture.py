@@ -11,6 +11,7 @@ from collections.abc import Iterable, Iterator
 from typing import BinaryIO, NamedTuple, cast
 
 from .errors import CaptureError
+from .frames import may_be_protected
 
 ETHERNET = 1
 MOST_OCTETS = 262_144
@@ -38,6 +39,11 @@ class Packet(NamedTuple):
     def is_whole(self) -> bool:
         """Was all of an Ethernet frame captured?"""
         return self.link_type == ETHERNET and len(self.frame) >= self.length
+
+    @property
+    def may_be_protected(self) -> bool:
+        """Can it be a protected frame, as far as it was captured?"""
+        return self.link_type != ETHERNET or may_be_protected(self.frame)
 
 
 def read(source: str | BinaryIO) -> Iterator[Packet]:

@@ -66,6 +66,16 @@ def vlan_octets(frame: bytes) -> int:
     return at - 12
 
 
+def may_be_protected(frame: bytes) -> bool:
+    """Can the frame that begins with these octets have a SecTAG?
+
+    >>> may_be_protected(bytes(12) + MACSEC), may_be_protected(bytes(14)), may_be_protected(bytes(13))
+    (True, False, True)
+    """
+    at = 12 + vlan_octets(frame)
+    return len(frame) < at + 2 or frame[at : at + 2] in (MACSEC, *VLAN)
+
+
 def without_vlan(frame: bytes) -> tuple[bytes, bytes]:
     """A frame without the VLAN tags before a SecTAG, and those tags. Other frames stay as they are."""
     count = vlan_octets(frame)

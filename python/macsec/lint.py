@@ -7,6 +7,9 @@ from typing import NamedTuple
 from .endpoint_of_config import Configuration, without_device_lines
 from .grammar import Command, parse
 
+# How files begin that are no text: pcap in its four forms, pcapng, gzip.
+_CAPTURES = tuple(map(bytes.fromhex, "a1b2c3d4 d4c3b2a1 a1b23c4d 4d3cb2a1 0a0d0d0a 1f8b0800".split()))
+
 
 class Finding(NamedTuple):
     """Something about a line. `kind` is fault, refused or hint, `name` the program's name of a fault or refusal."""
@@ -32,6 +35,8 @@ def lint(text: bytes) -> list[Finding]:
     line 1, argument 3: 'gcm-aes-128', gcm128, gcm256, xpn128 or xpn256 expected; write gcm128
     line 2, argument 4: 2 digits, 32 or 64 expected
     """
+    if text[:4] in _CAPTURES:
+        return [Finding("fault", 0, 0, "Word", "this is a capture, not a CONFIG")]
     commands, faults = parse(without_device_lines(text))
     if faults:
         return [Finding("fault", *it) for it in faults]

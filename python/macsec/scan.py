@@ -38,9 +38,12 @@ class Scan:
         self.vlan, self.fcs, self.partial = 0, 0, 0
         self.unopened: list[int] = []
         self.other_ivs: dict[str, None] = {}
+        # Is there a record that may have a protected frame, and was not captured whole or not from Ethernet?
+        self.has_unseen = False
         for packet in packets:
             if not packet.is_whole:
                 self.partial += 1
+                self.has_unseen = self.has_unseen or packet.may_be_protected
                 continue
             self._add(packet, opener)
         self.saks, self.hints = [str(it) for it in opener.agreements.saks], [

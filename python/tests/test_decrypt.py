@@ -183,7 +183,8 @@ class Files(Opening):
         writer.write(START, b"other", 5, link_type=113)
         writer.write(START, link, len(link), "a comment")
         writer.close()
-        self.assertEqual(self.opened(self.folder / "IN", *self.keys(0)), [link[:40], b"other", *client_frames(1)])
+        opened = self.opened(self.folder / "IN", *self.keys(0), status=3)
+        self.assertEqual(opened, [link[:40], b"other", *client_frames(1)])
         self.assertEqual([it.link_type for it in self.packets], [1, 113, 1])
         self.assertEqual(self.packets[0].length, len(link))
 

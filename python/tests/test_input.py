@@ -138,6 +138,34 @@ class Cut(InFolder):
                 told = main_of(forge.main, "-", "--capture", path)
                 self.assertEqual((told[0], said in told[2], told[1].count("inject")), (1, True, count), told)
 
+    def test_what_is_not_seen_is_not_opened(self) -> None:
+        """Status 3 for a record that can be a protected frame and was cut, or captured from another link."""
+        (link,) = protected(client_frames(1))
+        plain = client_frames(1)[0]
+        tagged = plain[:12] + bytes.fromhex("81000007") + plain[12:]
+        for name, octets, link_type, status in (
+            ("protected", link[:40], 1, 3), ("behind a VLAN tag", link[:12] + bytes.fromhex("8100000788e5"), 1, 3),
+            ("cut within a VLAN tag", tagged[:15], 1, 3), ("cut within the EtherType", link[:13], 1, 3),
+            ("not protected", plain[:40], 1, 0), ("not protected, with a tag", tagged[:40], 1, 0),
+            ("cooked", plain, 113, 3),
+        ):  # fmt: skip
+            with self.subTest(name):
+                writer = capture.PcapngFile(str(self.folder / "IN"))
+                writer.write(0, octets, 2000, "", link_type)
+                writer.write(0, link, len(link))
+                writer.close()
+                path, out = self.folder / "IN", self.folder / "OUT"
+                self.assertEqual(main_of(decrypt.main, path, out, "--key", KEY)[0], status)
+                self.assertEqual(main_of(why.main, self.put("CONFIG", CONFIG), path)[0], status)
+                self.assertEqual(main_of(config.main, "--capture", path, "--key", KEY)[0], status)
+                path.unlink()
+                out.unlink()
+
+    def test_a_capture_is_no_configuration(self) -> None:
+        path = self.put("IN", protected(client_frames(3)))
+        told = main_of(config.main, "--lint", path)
+        self.assertEqual(told, (3, "the text: this is a capture, not a CONFIG\n", ""))
+
     def test_what_is_no_capture_leaves_nothing(self) -> None:
         for octets in (b"", b"text", struct.pack("<I", 0xA1B2C3D4), SECTION[:-1], gzip.compress(b"text")[:-9]):
             path = self.put("IN", octets)

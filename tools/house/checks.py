@@ -105,7 +105,7 @@ CHECKS: list[Check] = [
           LIBRARY, 35, "a journal with mistakes", test="--short --library {library} --seed {seed}",
           gate="--short --seed {seed}", hand="--seed {seed}"),
     Check("python", "tests the Python package and its examples, and makes random calls", "python/tests/run", LIBRARY,
-          25, "a package with mistakes, another text",
+          40, "a package with mistakes, another text",
           test="--library {shared} --program {program} --seed {seed}", gate="--seed {seed}"),
     Check("readers", "gives mutated captures, logs and texts to the commands in Python", "python3 fuzz/readers.py", LIBRARY,
           30, "commands with mistakes, limits of time and memory, too few inputs",

@@ -19,7 +19,7 @@ NAMES = ["libmacsec1", "libmacsec-dev", "macsec", "python3-macsec"]
 DOC, LIBRARIES = "/usr/share/doc", f"/usr/lib/{TRIPLET}"
 # Below /usr: the folder of the package for Python.
 PYTHON = "lib/python3/dist-packages"
-COMPLETION = "/usr/share/bash-completion/completions/macsec"
+COMPLETIONS = "/usr/share/bash-completion/completions"
 # Nothing of the toolchain is on this path.
 ENVIRONMENT = {"PATH": "/usr/sbin:/usr/bin:/sbin:/bin", "LANG": "C.UTF-8"}
 
@@ -35,10 +35,12 @@ COMPLETED = {
     "macsec run fra": "frames.pcap",
     "macsec protect CONFIG IN fra": "frames.pcap",
     "macsec protect CONFIG IN OUT fra": "",
+    "macsec-decrypt IN --only": "--only-opened",
+    "macsec-why --key KEY fra": "frames.pcap",
 }
 COMPLETE = """
 COMP_WORDS=({words}) COMP_CWORD={last}
-_macsec 2> /dev/null
+{function} 2> /dev/null
 echo "${{COMPREPLY[*]}}"
 """
 
@@ -120,7 +122,9 @@ def tried(where: str, do: Callable[..., str], at: str, room: str, flags: list[st
     tried_in_python(where, do, at, room)
     do("touch", f"{room}/frames.pcap")
     for words, expected in COMPLETED.items():
-        script = f"cd {room}\n. {at}{COMPLETION}\n" + COMPLETE.format(words=words, last=len(words.split()) - 1)
+        name, last = words.split()[0], len(words.split()) - 1
+        call = COMPLETE.format(words=words, last=last, function="_" + name.replace("-", "_"))
+        script = f"cd {room}\n. {at}{COMPLETIONS}/{name}\n{call}"
         see(f"{where}, `{words}` is completed", do("bash", "-c", script).strip() == expected)
 
 

@@ -2,14 +2,17 @@
 
 from __future__ import annotations
 
+import argparse
 import os
 import re
 import signal
 import sys
+import textwrap
 from types import FrameType
 from typing import BinaryIO, Callable, TextIO
 
 from ..errors import CaptureError, MacsecError, UsageError
+from ..secy import version
 
 # Everything that a terminal could take for a command: control characters, but for tab and line feed.
 _CONTROL = re.compile("[\x00-\x08\x0b-\x1f\x7f-\x9f]")
@@ -22,6 +25,34 @@ class _Ended(BaseException):
     def __init__(self, number: int) -> None:
         super().__init__(number)
         self.number = number
+
+
+def new_parser(prog: str, usage: str, description: str, status: str, *examples: str) -> argparse.ArgumentParser:
+    """A parser whose help has a usage, a description, statuses, and examples each on a line."""
+    parts = [textwrap.fill(f"exit status: {status}", 100, subsequent_indent="  ")]
+    parts.append("\n".join(["examples:", *(f"  {it}" for it in examples)]))
+    parts.append(f"Manual: man {prog}, man 5 macsec")
+    parser = argparse.ArgumentParser(
+        prog=prog, usage=f"{prog} {usage}", description=textwrap.fill(description, 100), epilog="\n\n".join(parts),
+        formatter_class=argparse.RawDescriptionHelpFormatter,
+    )  # fmt: skip
+    parser.add_argument("--version", action=_Version, help="print the version, and end")
+    return parser
+
+
+class _Version(argparse.Action):
+    """Prints the version of the library that the command uses."""
+
+    def __init__(self, option_strings: list[str], dest: str, help: str | None = None) -> None:
+        super().__init__(option_strings, argparse.SUPPRESS, 0, help=help)
+
+    def __call__(self, parser: argparse.ArgumentParser, *_: object) -> None:
+        def show() -> int:
+            number = version()
+            say(f"{parser.prog} {number // 1_000_000}.{number // 1000 % 1000}.{number % 1000}\n")
+            return 0
+
+        parser.exit(run(parser.prog, show))
 
 
 def shown(text: str) -> str:

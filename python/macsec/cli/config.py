@@ -21,7 +21,7 @@ from ..scan import scan
 from ..secy import sci_of
 from ..trial import KeyArgument
 from ..wpalog import lines_of, plan_of_log
-from . import open_octets, run, say, say_octets
+from . import new_parser, open_octets, run, say, say_octets
 from .decrypt import add_key_options, has_keys, key_arguments
 from .key_agreement import caks_of
 from .reading import Reading
@@ -34,15 +34,20 @@ _SENDS = (
 )
 
 
-def main(words: Sequence[str] | None = None) -> int:
-    """Runs the command, and returns its exit status."""
-    parser = argparse.ArgumentParser(
-        prog="macsec-config",
-        description="Writes a CONFIG to standard output, with what was found as comments; or checks one.",
-        epilog="Exit status: 0; 3 if --lint finds a fault or a refused line, or a frame of --capture does not open; "
-        "1 for a file, 2 for arguments or their texts. The result has keys: keep it as you keep them.",
+def parser() -> argparse.ArgumentParser:
+    """The arguments of the command."""
+    parser = new_parser(
+        "macsec-config",
+        "SOURCE [OPTION]..",
+        "Writes a CONFIG to standard output, with what was found as comments; or checks one. The result has keys: keep "
+        "it as you keep them.",
+        "0; 3 if --lint finds a fault or a refused line, or a frame of --capture does not open; 1 for a file, 2 for "
+        "arguments or their texts.",
+        "macsec-config --capture link.pcap --keys keys > observer.config",
+        "macsec-config --ip macsec-setup.sh --as peer > peer.config",
+        "macsec-config --lint observer.config",
     )
-    source = parser.add_mutually_exclusive_group()
+    source = parser.add_argument_group("SOURCE: one of these, or --wpa").add_mutually_exclusive_group()
     source.add_argument("--capture", metavar="IN", help="from a capture, and from keys (-: standard input)")
     source.add_argument(
         "--ip", metavar="FILE", help="from a script of ip link and ip macsec commands (-: standard input)"
@@ -77,7 +82,12 @@ def main(words: Sequence[str] | None = None) -> int:
         "--offset", type=int, choices=(0, 30, 50), help="the confidentiality offset; else all are tried"
     )
     parser.add_argument("--json", action="store_true", help="with --lint: one JSON object on each line")
-    asked = parser.parse_args(words)
+    return parser
+
+
+def main(words: Sequence[str] | None = None) -> int:
+    """Runs the command, and returns its exit status."""
+    asked = parser().parse_args(words)
     return run("macsec-config", lambda: _config(asked))
 
 
@@ -163,7 +173,7 @@ def _from_capture(asked: argparse.Namespace) -> int:
     if reading.is_cut:
         plan.notes.append("the capture is cut, or damaged: this is of the records before that")
     say(_text(plan.peer() if asked.role == "peer" else plan))
-    return 1 if reading.is_cut else 3 if made.unopened else 0
+    return 1 if reading.is_cut else 3 if made.unopened or made.has_unseen else 0
 
 
 def _lint(asked: argparse.Namespace) -> int:

@@ -20,7 +20,7 @@ from ..opener import Opener
 from ..summary import frames_text
 from ..trial import KeyArgument, key_argument
 from ..wpalog import keys_of, lines_of
-from . import open_octets, run, say
+from . import new_parser, open_octets, run, say
 from .key_agreement import add_cak_options, caks_of
 from .reading import STDIN, Reading
 
@@ -83,16 +83,19 @@ def add_key_options(parser: argparse.ArgumentParser) -> None:
     add_cak_options(parser)
 
 
-def main(words: Sequence[str] | None = None) -> int:
-    """Runs the command, and returns its exit status."""
-    parser = argparse.ArgumentParser(
-        prog="macsec-decrypt",
-        description="Opens the frames of IN, of all senders, and writes them to OUT with verdict and packet number as "
-        "comments. OUT is a new pcapng file, which appears when it is complete, or - for standard output, which has "
-        "each frame as it comes. Frames that do not open, or are not protected, are kept as they are: nobody "
-        "authenticated them. Frames with other octets that use one IV under one key are named first.",
-        epilog="Exit status: 0 if every protected frame was opened, 3 if not, or if an IV is used twice; 1 for a file, "
-        "2 for arguments.",
+def parser() -> argparse.ArgumentParser:
+    """The arguments of the command."""
+    parser = new_parser(
+        "macsec-decrypt",
+        "IN OUT [--keys FILE | --key KEY | --config FILE | --wpa LOG].. [OPTION]..",
+        "Opens the frames of IN, of all senders, and writes them to OUT with verdict and packet number as comments. "
+        "OUT is a new pcapng file, which appears when it is complete, or - for standard output, which has each frame "
+        "as it comes. Frames that do not open, or are not protected, are kept as they are: nobody authenticated them. "
+        "Frames with other octets that use one IV under one key are named first.",
+        "0 if every protected frame was opened, 3 if not, or if an IV is used twice; 1 for a file, 2 for arguments.",
+        "macsec-decrypt link.pcap clear.pcapng --keys keys",
+        "macsec-decrypt link.pcap clear.pcapng --config receiver.config",
+        "tcpdump --immediate-mode -U -i eth0 -w - | macsec-decrypt - - --keys keys | tshark -l -r -",
     )
     parser.add_argument("capture", metavar="IN", help="pcap or pcapng, also compressed by gzip; - for standard input")
     parser.add_argument("out", metavar="OUT", help="a new file, or -")
@@ -102,7 +105,12 @@ def main(words: Sequence[str] | None = None) -> int:
     )
     parser.add_argument("--only-opened", action="store_true", help="leave out what was not opened")
     parser.add_argument("--json", action="store_true", help="print a JSON object for each record")
-    asked = parser.parse_args(words)
+    return parser
+
+
+def main(words: Sequence[str] | None = None) -> int:
+    """Runs the command, and returns its exit status."""
+    asked = parser().parse_args(words)
     return run("macsec-decrypt", lambda: _decrypt(asked))
 
 
@@ -132,7 +140,7 @@ def _decrypt(asked: argparse.Namespace) -> int:
     say("".join(f"{it}\n" for it in lines), made.text)
     if made.is_cut:
         return 1
-    return 3 if made.counts["not opened"] or twice else 0
+    return 3 if made.counts["not opened"] or made.has_unseen or twice else 0
 
 
 class _Made:
@@ -143,6 +151,8 @@ class _Made:
         self.ivs = ivs
         self.counts: Counter[str] = collections.Counter()
         self.records: list[str] = []
+        # Is there a record that may have a protected frame, and was not captured whole or not from Ethernet?
+        self.has_unseen = False
         # Where the text goes: standard output has the frames if that is OUT.
         self.text = sys.stderr if asked.out == STDOUT else sys.stdout
         self._asked = asked
@@ -165,6 +175,7 @@ class _Made:
         """Opens a record, writes it and counts it."""
         if not packet.is_whole:
             self.counts["not whole or not Ethernet"] += 1
+            self.has_unseen = self.has_unseen or packet.may_be_protected
             if not self._asked.only_opened:
                 self.out.write(packet.time, packet.frame, packet.length, "", packet.link_type)
             return

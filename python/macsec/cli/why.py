@@ -22,7 +22,7 @@ from ..secy import Received
 from ..settings import Change, Found, Setting
 from ..summary import Summary, frames_text, ranges
 from ..trial import OPENED, key_argument, whole_number
-from . import run, say
+from . import new_parser, run, say
 from .key_agreement import add_cak_options, caks_of
 from .reading import Reading
 
@@ -133,6 +133,8 @@ class Run:
         self.more: Counter[_Kind] = collections.Counter()
         self.first_opened: dict[tuple[str, int | None], int] = {}
         self.others: dict[str, list[int]] = collections.defaultdict(list)
+        # Is there a record that may have a protected frame, and that the endpoint does not see?
+        self.has_unseen = False
         self.only: capture.Packet | None = None
         self.only_verdict = ""
         for packet in packets:
@@ -164,6 +166,7 @@ class Run:
         if not packet.is_whole:
             name = "partial" if packet.link_type == capture.ETHERNET else f"linktype {packet.link_type}"
             self.others[name].append(packet.number)
+            self.has_unseen = self.has_unseen or packet.may_be_protected
             return name
         try:
             received = configuration.secy.receive(packet.frame)
@@ -298,14 +301,17 @@ def _record_lines(packet: capture.Packet, verdict: str) -> list[str]:
     return [*lines, f"  SecTAG: {tag.flags}, AN {tag.an}, SL {tag.sl}, PN {tag.pn:08x}, SCI {sci}"]
 
 
-def main(words: Sequence[str] | None = None) -> int:
-    """Runs the command, and returns its exit status."""
-    parser = argparse.ArgumentParser(
-        prog="macsec-why",
-        description="Names the frames with other octets that use one IV under one key, and the cause of each verdict "
-        "other than OK and Delayed, and summarizes a capture.",
-        epilog="Exit status: 0 if every protected frame opens, 3 if not, or if an IV is used twice; 1 for a file, 2 "
-        "for arguments or CONFIG.",
+def parser() -> argparse.ArgumentParser:
+    """The arguments of the command."""
+    parser = new_parser(
+        "macsec-why",
+        "CONFIG IN [K] [OPTION]..",
+        "Names the frames with other octets that use one IV under one key, and the cause of each verdict other than OK "
+        "and Delayed, and summarizes a capture.",
+        "0 if every protected frame opens, 3 if not, or if an IV is used twice; 1 for a file, 2 for arguments or "
+        "CONFIG.",
+        "macsec-why receiver.config link.pcap",
+        "macsec-why receiver.config link.pcap 7",
     )
     parser.add_argument("config", metavar="CONFIG", help="the configuration of `macsec validate`")
     parser.add_argument("capture", metavar="IN", help="pcap or pcapng, also compressed by gzip; - for standard input")
@@ -315,7 +321,12 @@ def main(words: Sequence[str] | None = None) -> int:
     )
     add_cak_options(parser)
     parser.add_argument("--json", action="store_true", help="one JSON object on each line")
-    asked = parser.parse_args(words)
+    return parser
+
+
+def main(words: Sequence[str] | None = None) -> int:
+    """Runs the command, and returns its exit status."""
+    asked = parser().parse_args(words)
     return run("macsec-why", lambda: _why(asked))
 
 
@@ -345,7 +356,7 @@ def _why(asked: argparse.Namespace) -> int:
     say("".join(f"{it}\n" for it in lines))
     if reading.is_cut:
         return 1
-    return 3 if twice or any(it.an is not None or it.changes for it in groups) else 0
+    return 3 if twice or made.has_unseen or any(it.an is not None or it.changes for it in groups) else 0
 
 
 if __name__ == "__main__":
