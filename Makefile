@@ -15,8 +15,8 @@
 # make install-device copies the device's programs, their manual pages and the unit for systemd to PREFIX, as make
 #                    install does; the device of CPU becomes macsecd there
 # make install-python copies the Python package to PREFIX/lib/macsec/python, its commands and their manual pages
-# make dist          makes build/dist: macsec-VERSION.tar.gz and the Debian packages macsec, libmacsec1, libmacsec-dev
-#                    and python3-macsec
+# make dist          makes build/dist: macsec-VERSION.tar.gz and the Debian packages macsec, libmacsec1, libmacsec-dev,
+#                    python3-macsec and macsec-doc
 # make check         the gate
 # make pictures      draws docs/pictures again, from crates.txt and docs/PERFORMANCE.md
 # make reference     writes docs/reference again, from the sources

@@ -12,10 +12,11 @@ from pathlib import Path
 from typing import Callable
 
 from house.crates import ROOT
+from house.linked import links
 
 TRIPLET = "x86_64-linux-gnu"
 HWCAPS = "glibc-hwcaps/x86-64-v3"
-NAMES = ["libmacsec1", "libmacsec-dev", "macsec", "python3-macsec"]
+NAMES = ["libmacsec1", "libmacsec-dev", "macsec", "macsec-doc", "python3-macsec"]
 DOC, LIBRARIES = "/usr/share/doc", f"/usr/lib/{TRIPLET}"
 # Below /usr: the folder of the package for Python.
 PYTHON = "lib/python3/dist-packages"
@@ -153,9 +154,32 @@ def tried_below(where: str, root: str) -> None:
     shutil.rmtree(room)
 
 
+def dangling(folder: Path, pages: list[Path]) -> list[str]:
+    """The links of some pages that lead nowhere, or out of a folder."""
+    wrong = []
+    for page in pages:
+        for _, target in links(page.read_text(encoding="utf-8")):
+            path = os.path.normpath(page.parent / target.partition("#")[0])
+            if target[0] != "#" and not (os.path.exists(path) and Path(path).is_relative_to(folder)):
+                wrong.append(f"{page.relative_to(folder)}: {target}")
+    return wrong
+
+
+def linked_pages(root: str) -> None:
+    """Sees that the pages of packages lead to what is there."""
+    folder = Path(f"{root}{DOC}/macsec-doc")
+    pages = list(folder.rglob("*.md"))
+    wrong = dangling(folder, pages)
+    see(f"every link of the {len(pages)} pages of macsec-doc leads to a file of it {wrong[:5] or ''}", not wrong)
+    folder = Path(f"{root}{DOC}/python3-macsec")
+    wrong = dangling(folder, [folder / "docs/PYTHON.md"])
+    see(f"every link of PYTHON leads to a file of python3-macsec {wrong[:5] or ''}", not wrong)
+
+
 def unpacked(names: list[str], root: str) -> None:
     for name in names:
         run("dpkg", "-x", name, root)
+    linked_pages(root)
     tried_below("unpacked", root)
 
 
