@@ -82,6 +82,11 @@ class Event(NamedTuple):
     key: str
 
 
+def _shown_sci(sci: bytes, is_guess: bool) -> str:
+    """An SCI; in parentheses if neither the tag nor the IV has it, so that it is a guess from the source address."""
+    return f"({sci.hex()})" if is_guess else sci.hex()
+
+
 class Opener:
     """Opens frames under keys, and notes their IVs. `ivs` has those of an earlier run over the same capture. Keys of
     `caks` come with the frames of MKA that distribute them."""
@@ -133,7 +138,8 @@ class Opener:
             )
         except FrameFault as why:
             self._hints.add(record, it, why.name, len(self._keys), False, False, False)
-            return Opened(whole, "not opened", why.name, sender_of(plain, tag).hex(), tag.an, tag.pn)
+            shown = _shown_sci(sender_of(plain, tag), not tag.sci and not tag.tci & 0x50)
+            return Opened(whole, "not opened", why.name, shown, tag.an, tag.pn)
 
     def _read_mka(self, record: int, frame: bytes) -> None:
         """Takes a key from a frame of MKA."""
@@ -155,10 +161,13 @@ class Opener:
         trial = attempt.trial(frame)
         self._keys.opened(trial.key.name)
         self._known.note(trial, attempt.upper)
-        event = Event(record, (trial.sci_of_iv or trial.sci).hex(), frame.tag.an, trial.key.name)
-        if self._latest.get(event[1:3]) != event.key:
+        is_guess = frame.names_nobody and trial.key.suite.is_extended
+        event = Event(record, _shown_sci(trial.sci_of_iv or trial.sci, is_guess), frame.tag.an, trial.key.name)
+        # Under an extended suite the SSCI says who sends, whatever the source address is.
+        place = f"{trial.ssci:08x}" if is_guess else event.sci, event.an
+        if self._latest.get(place) != event.key:
             self.events.append(event)
-            self._latest[event[1:3]] = event.key
+            self._latest[place] = event.key
         return self._under(record, Live(trial, cut), stream, frame, tags)
 
     def _under(self, record: int, live: Live, stream: _Stream, frame: Frame, tags: bytes) -> Opened | None:
@@ -182,7 +191,8 @@ class Opener:
         again = self.ivs.add(record, trial.key, sci, trial.ssci, number, octets, tag)
         other = again[1] if again else None
         verdict = received.verdict.name
-        return Opened(client, "opened", verdict, sci.hex(), tag.an, number, trial.key.name, other, note)
+        shown = _shown_sci(sci, frame.names_nobody and trial.key.suite.is_extended)
+        return Opened(client, "opened", verdict, shown, tag.an, number, trial.key.name, other, note)
 
     def _failed(self, record: int, stream: _Stream, whole: bytes, frame: Frame, may_cut: bool) -> Opened:
         """A frame that no key opens: its verdict is that under the first one which it can have."""
@@ -193,7 +203,8 @@ class Opener:
             break
         verdict = found.name if found else Verdict.NoSAError.name
         self._hints.add(record, frame, verdict, len(self._keys), *self._widths)
-        return Opened(whole, "not opened", verdict, frame.meant.hex(), frame.tag.an, frame.tag.pn)
+        shown = _shown_sci(frame.meant, frame.names_nobody)
+        return Opened(whole, "not opened", verdict, shown, frame.tag.an, frame.tag.pn)
 
     # The search.
 

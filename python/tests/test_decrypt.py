@@ -14,7 +14,20 @@ from collections.abc import Iterator
 from macsec import Suite, capture
 from macsec.cli.decrypt import main
 
-from .helpers import CAPTURES, KEYS, LONG_KEY, OTHER, ROOT, SALT, START, InFolder, client_frames, main_of, protected
+from .helpers import (
+    CAPTURES,
+    KEYS,
+    LONG_KEY,
+    OTHER,
+    ROOT,
+    SALT,
+    SENDER,
+    START,
+    InFolder,
+    client_frames,
+    main_of,
+    protected,
+)
 
 
 def mixed(*parts: list[bytes]) -> Iterator[bytes]:
@@ -72,6 +85,24 @@ class Decrypt(Opening):
             extended = f":{SALT.hex()}" if suite.is_extended else ""
             with self.subTest(how=how):
                 self.assertEqual(self.opened(protected(frames, **how), "--key", key + extended), frames)
+
+    def test_an_sci_that_nothing_says_is_marked(self) -> None:
+        """Tags without an SCI: the IV has it, but not under an extended suite, nor if the frame stays closed."""
+        frames = [it[:6] + bytes([2, 0, 0, 0, 9, n]) + it[12:] for n, it in enumerate(client_frames(9))]
+        for how, key, form in (
+            ({"form": "auto", "sci": "0200000009000001"}, KEYS[0].hex(), "0200000009000001"),
+            ({"form": "auto", "suite": Suite.xpn128}, f"{KEYS[0].hex()}:{SALT.hex()}", "(0200000009000001)"),
+            ({"form": "auto"}, KEYS[1].hex(), "(0200000009000001)"),
+            ({"form": "sci"}, KEYS[1].hex(), SENDER),
+        ):  # fmt: skip
+            with self.subTest(how=how, key=key):
+                is_opened = key != KEYS[1].hex()
+                link = protected(frames[:1] if how.get("sci") else frames, **how)
+                self.opened(link, "--key", key, "--json", status=0 if is_opened else 3)
+                self.assertEqual(json.loads(self.text.splitlines()[0])["sci"], form)
+                self.opened(link, "--key", key, status=0 if is_opened else 3)
+                # A sender behind a bridge has frames of many addresses, and is one sender.
+                self.assertEqual(self.text.count("under"), int(is_opened))
 
     def test_extended_numbers_are_shown_whole(self) -> None:
         link = protected(client_frames(4), suite=Suite.xpn128, pn=0x2_FFFF_FFFE)
