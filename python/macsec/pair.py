@@ -23,10 +23,9 @@ _FILE = """\
 # The keys were made for these two files. Never use them elsewhere, nor with a journal that was lost or restored.
 """
 _COMMANDS = """\
-#!/bin/sh
-# {name}, whose peer is {peer}: the macsec device of Linux. Run it once: run again, or after a restart of this host, it
-# would use packet numbers again under the same key, which breaks AES-GCM. Make a new pair then.
-set -e
+# {name}, whose peer is {peer}: the macsec device of Linux, made by `ip -batch {name}.batch`. Run that once: run again, or
+# after a restart of this host, it would use packet numbers again under the same key, which breaks AES-GCM. Make a new
+# pair then.
 """
 
 
@@ -76,35 +75,35 @@ def file_of(plan: Plan, end: End, peer: End, device: str) -> str:
     return f"{head}device link {end.link}\n{plan.text()}"
 
 
-def script_of(plan: Plan, end: End, peer: End, device: str) -> str:
-    """The commands of ip for an end."""
+def lines_of(plan: Plan, end: End, peer: End, device: str) -> str:
+    """The lines for `ip -batch` for an end."""
     lines = "\n".join(commands_of(plan, end.link, device))
     return f"{_COMMANDS.format(name=end.name, peer=peer.name)}{lines}\n"
 
 
-def write_new(path: pathlib.Path, text: str, mode: int) -> None:
+def write_new(path: pathlib.Path, text: str) -> None:
     """Writes a file that was not there, and that no one else may read from its first octet on."""
-    with os.fdopen(os.open(path, os.O_WRONLY | os.O_CREAT | os.O_EXCL | os.O_NOFOLLOW, mode), "w") as file:
-        os.fchmod(file.fileno(), mode)
+    with os.fdopen(os.open(path, os.O_WRONLY | os.O_CREAT | os.O_EXCL | os.O_NOFOLLOW, 0o600), "w") as file:
+        os.fchmod(file.fileno(), 0o600)
         file.write(text)
 
 
 def write_pair(
     ends: tuple[End, End], suite: Suite, mtu: int, device: str, by_ip: str | None, folder: pathlib.Path
 ) -> list[pathlib.Path]:
-    """Writes the files of both ends into a folder: NAME.conf for macsecd, or NAME.sh with commands of ip."""
+    """Writes the files of both ends into a folder: NAME.conf for macsecd, or NAME.batch for `ip -batch`."""
     if by_ip is not None and by_ip not in (it.name for it in ends):
         raise UsageError(f"--ip-end {by_ip}: the ends are {ends[0].name} and {ends[1].name}")
     plan = plan_of_pair(*ends, suite, mtu)
     made = []
     for own, peer, planned in ((ends[0], ends[1], plan), (ends[1], ends[0], plan.peer())):
         if own.name == by_ip:
-            made.append((folder / f"{own.name}.sh", script_of(planned, own, peer, device), 0o700))
+            made.append((folder / f"{own.name}.batch", lines_of(planned, own, peer, device)))
         else:
-            made.append((folder / f"{own.name}.conf", file_of(planned, own, peer, device), 0o600))
-    for path, _, _ in made:
+            made.append((folder / f"{own.name}.conf", file_of(planned, own, peer, device)))
+    for path, _ in made:
         if path.exists() or path.is_symlink():
             raise UsageError(f"--pair: {path} is there already")
-    for path, text, mode in made:
-        write_new(path, text, mode)
-    return [path for path, _, _ in made]
+    for path, text in made:
+        write_new(path, text)
+    return [path for path, _ in made]

@@ -56,7 +56,7 @@ class Pair(InFolder):
     def test_an_end_of_linux(self) -> None:
         for suite in filter(None, Suite):
             conf, script = self.made("--suite", suite.name, "--ip-end", "bob", "--name", "sec7")
-            self.assertEqual(stat.S_IMODE(script.stat().st_mode), 0o700)
+            self.assertEqual((script.name, stat.S_IMODE(script.stat().st_mode)), ("bob.batch", 0o600))
             plan = Devices(script.read_bytes().decode(), {}).plan("sec7", 1500)
             alice, bob = endpoint_of(conf.read_text()), Configuration(plan.text().encode())
             self.assertEqual(bob.refusals, [])

@@ -62,7 +62,7 @@ def parser() -> argparse.ArgumentParser:
         "--pair", nargs=2, metavar=("NAME=MAC[@LINK]", "NAME=MAC[@LINK]"),
         help="write the files of two ends, with random keys: NAME.conf for macsecd",
     )  # fmt: skip
-    parser.add_argument("--ip-end", metavar="NAME", help="with --pair: this end gets NAME.sh, with commands of ip")
+    parser.add_argument("--ip-end", metavar="NAME", help="with --pair: this end gets NAME.batch, for ip -batch")
     parser.add_argument("--folder", default=".", metavar="FOLDER", help="with --pair: where to write (.)")
     parser.add_argument(
         "--as",
