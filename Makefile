@@ -39,8 +39,8 @@ DEVICE_SOURCES := $(filter-out device/macsecctl.c,$(wildcard device/*.c))
 
 # The checks that make a program or a library first, and the others.
 OVER_PROGRAM := altered-frames conformance conformance-controls peer planted stored-runs
-OVER_LIBRARY := c-programs isolated isolated-controls isolated-unit journal macsecd macsecd-controls macsecd-isolated \
-    pages python readers
+OVER_LIBRARY := c-programs constant-time isolated isolated-controls isolated-unit journal keys-in-memory macsecd \
+    macsecd-controls macsecd-isolated pages python readers
 CHECKS := $(OVER_PROGRAM) $(OVER_LIBRARY) against allocators any-order c-cost c-header controls device-kernel edits \
     failures fuzz kept-frames kernel-captures lanes-used live mka moves needed packages style table version
 
@@ -120,6 +120,7 @@ fuzz: build/macsec build/macsec-rattle
 failures: build/macsec
 $(OVER_LIBRARY): build/libmacsec.a
 c-programs pages python: build/macsec
+constant-time keys-in-memory: build/$(HWCAPS)/libmacsec.a
 packages: build/macsec build/libmacsec.a build/$(HWCAPS)/libmacsec.a
 controls: build/macsec build/macsec-rattle build/libmacsec.a
 

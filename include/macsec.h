@@ -82,7 +82,9 @@
  * not proved: sizes and stack, that macsec_free frees each block, that memory is overwritten, and which calls allocate.
  * Not proved: this header and
  * its inline functions, which a script compares with the library's source; C's side of what it says; malloc; the
- * compilers. No call takes constant time.
+ * compilers. In macsec_install_key, macsec_send and macsec_receive no branch and no address depends on a key or on data,
+ * except the verdict and the refusal KeyRepeated. The digits of a key in a line or a text decide one branch more: are
+ * all of them hex digits? This is measured on the libraries by tests/library/constant-time, and not proved.
  */
 #ifndef MACSEC_H
 #define MACSEC_H

@@ -45,6 +45,7 @@ class Check(NamedTuple):
 
 BUILT = "--program {program}"
 BOTH = "--program {program} --program {rattle}"
+BOTH_LIBRARIES = "build/libmacsec.a build/glibc-hwcaps/x86-64-v3/libmacsec.a"
 
 # fmt: off
 CHECKS: list[Check] = [
@@ -97,6 +98,12 @@ CHECKS: list[Check] = [
           test="--library {library} --calls 800 --seed {seed}",
           gate="--calls 6000 --seed {seed} --x86-64-v3 build/glibc-hwcaps/x86-64-v3/libmacsec.a",
           hand="--calls {inputs} --seed {seed}"),
+    Check("constant-time", "reports what in the library for C depends on keys or on data", "tests/library/constant-time",
+          LIBRARY, 40, "a table read by index, branches on a key, comparisons that end early",
+          gate=f"--mistakes {BOTH_LIBRARIES}"),
+    Check("keys-in-memory", "looks for keys in the memory of a process that has freed them",
+          "tests/library/keys-in-memory", LIBRARY, 20, "libraries that overwrite no blocks, or no stack",
+          test="{library}", gate=f"--mistakes build/libmacsec_c.a {BOTH_LIBRARIES}"),
     Check("pages", "runs the examples of the pages, and checks their links", "tools/pages", LIBRARY, 10,
           "another output, links that lead nowhere", test=f"{BUILT} --library {{shared}}", gate=""),
     Check("packages", "makes the packages and tries them", "tools/dist --check", LIBRARY, 30,

@@ -1,0 +1,174 @@
+/* Takes keys, uses them, and frees them, and stops after each step: tests/library/keys-in-memory reads its memory then.
+ *
+ * usage: memory WAY SUITE KEYS: WAY is struct, line or config; SUITE 1 to 4; KEYS how many keys come one after another.
+ *
+ * Its standard input has the octets of the last key, for each of two rounds, and an octet for each step. The octets of
+ * a key are in no variable when a step is announced. The endpoints of the second round take memory that those of the
+ * first have freed.
+ */
+#define _DEFAULT_SOURCE
+#include "macsec.h"
+#include <stdio.h>
+#include <stdlib.h>
+#include <string.h>
+#include <unistd.h>
+
+static const uint8_t own[8] = { 2, 0, 0, 0, 0, 1, 0, 1 }, other[8] = { 2, 0, 0, 0, 0, 2, 0, 1 };
+static uint32_t suite;
+static const char *way;
+
+static void must(const char *what, uint32_t status) {
+    if (status != MACSEC_OK) {
+        fprintf(stderr, "%s: %s\n", what, macsec_status_name(status));
+        exit(2);
+    }
+}
+
+static void take(void *octets, size_t length) {
+    for (size_t at = 0; at < length;) {
+        ssize_t got = read(STDIN_FILENO, (uint8_t *)octets + at, length - at);
+        if (got <= 0)
+            exit(3);
+        at += (size_t)got;
+    }
+}
+
+/* Announces a step, and waits until its reader has looked at this memory. */
+static void step(const char *name) {
+    char go;
+    dprintf(STDOUT_FILENO, "%s\n", name);
+    take(&go, 1);
+}
+
+static bool is_xpn(void) {
+    return suite == MACSEC_SUITE_GCM_AES_XPN_128 || suite == MACSEC_SUITE_GCM_AES_XPN_256;
+}
+
+static uint8_t key_length(void) {
+    return suite == MACSEC_SUITE_GCM_AES_128 || suite == MACSEC_SUITE_GCM_AES_XPN_128 ? 16 : 32;
+}
+
+/* The line of a script that installs a key. */
+static size_t key_line(char line[200], const macsec_sak *key, const char *before) {
+    static const char *const names[] = { "", "gcm128", "gcm256", "xpn128", "xpn256" };
+    size_t at = (size_t)sprintf(line, "%sA key %u ", before, key->number);
+    for (unsigned i = 0; i < key->length; i++) {
+        line[at++] = "0123456789abcdef"[key->bytes[i] >> 4];
+        line[at++] = "0123456789abcdef"[key->bytes[i] & 15];
+    }
+    at += (size_t)sprintf(line + at, " 0 %s", names[suite]);
+    if (is_xpn())
+        at += (size_t)sprintf(line + at, " %08x 000000000000000000000000", key->ssci);
+    return at;
+}
+
+static void install(macsec_endpoint *e, const macsec_sak *key) {
+    if (strcmp(way, "struct") == 0) {
+        must("install", macsec_install_key(e, key));
+        return;
+    }
+    char line[200];
+    size_t length = key_line(line, key, "");
+    must("key line", macsec_command_line(e, (const uint8_t *)line, length));
+    explicit_bzero(line, sizeof line);
+}
+
+/* An endpoint without a key, or of a CONFIG that has one. */
+static void make(macsec_endpoint *e, const uint8_t sci[8], const macsec_sak *key) {
+    macsec_config config = { { 0 }, suite, MACSEC_FORM_SCI, 1546 };
+    memcpy(config.sci, sci, sizeof config.sci);
+    if (strcmp(way, "config") != 0) {
+        must("new", macsec_new(e, &config));
+        return;
+    }
+    char text[300], end[100];
+    uint32_t at;
+    sprintf(end, "end A gcm128 0200000000%02x0001 1546 sci\n", sci[5]);
+    size_t length = key_line(text, key, end);
+    must("configure", macsec_configure(e, (const uint8_t *)text, length, &at));
+    explicit_bzero(text, sizeof text);
+}
+
+/* The copies of a key that this program makes are in these, and are overwritten. */
+static uint8_t octets[32];
+static macsec_sak key;
+
+/* Fills in all but a key's octets. Its SSCI is the last octet of the endpoint's address. */
+static void prepare(uint16_t number, const uint8_t sci[8]) {
+    key.number = number;
+    key.suite = suite;
+    key.ssci = is_xpn() ? sci[5] : 0;
+    key.length = key_length();
+}
+
+/* The key that is looked for is number 0. */
+static void take_key(macsec_endpoint *e, const uint8_t sci[8]) {
+    prepare(0, sci);
+    memcpy(key.bytes, octets, key.length);
+    make(e, sci, &key);
+    if (strcmp(way, "config") != 0)
+        install(e, &key);
+    explicit_bzero(&key, sizeof key);
+}
+
+static void take_others(macsec_endpoint *e, const uint8_t sci[8], unsigned count) {
+    for (unsigned number = 1; number < count; number++) {
+        prepare((uint16_t)number, sci);
+        memset(key.bytes, (int)(number & 0xff), sizeof key.bytes);
+        key.bytes[0] = (uint8_t)(number >> 8);
+        must("install another", macsec_install_key(e, &key));
+    }
+}
+
+static void associate(macsec_endpoint *a, macsec_endpoint *b) {
+    must("add", macsec_add_tx_sa(a, 0, 0, 1, true));
+    must("enable", macsec_enable_tx_sa(a, 0));
+    must("rxsc", macsec_add_rx_sc(b, own));
+    must("rxsa", macsec_add_rx_sa(b, own, 0, 0, is_xpn() ? 1 : 0, 1));
+    must("rxon", macsec_enable_rx_sa(b, own, 0));
+}
+
+static void pass_frames(macsec_endpoint *a, macsec_endpoint *b) {
+    uint8_t frame[1400] = { 2 }, link[1500];
+    for (size_t i = 0; i < 100; i++) {
+        macsec_sent sent;
+        macsec_received got;
+        must("send", macsec_send(a, frame, 14 + i * 13, &sent));
+        memcpy(link, sent.frame, sent.length);
+        must("receive", macsec_receive(b, link, sent.length, &got));
+        if (!got.delivered)
+            exit(4);
+    }
+}
+
+static void round_of(unsigned count) {
+    macsec_endpoint a = MACSEC_ENDPOINT_INIT, b = MACSEC_ENDPOINT_INIT;
+    take(octets, key_length());
+    take_key(&a, own);
+    take_key(&b, other);
+    explicit_bzero(octets, sizeof octets);
+    take_others(&a, own, count);
+    take_others(&b, other, count);
+    step("installed");
+    associate(&a, &b);
+    step("associated");
+    pass_frames(&a, &b);
+    step("used");
+    must("disable", macsec_disable_tx_sa(&a, 0));
+    must("delete", macsec_delete_tx_sa(&a, 0));
+    must("retire", macsec_retire_key(&a, 0));
+    step("retired");
+    macsec_free(&a);
+    macsec_free(&b);
+    step("freed");
+}
+
+int main(int words, char **word) {
+    if (words != 4)
+        return 1;
+    way = word[1];
+    suite = (uint32_t)atoi(word[2]);
+    round_of((unsigned)atoi(word[3]));
+    round_of((unsigned)atoi(word[3]));
+    return 0;
+}
