@@ -16,7 +16,7 @@
 #                    install does; the device of CPU becomes macsecd there
 # make install-python copies the Python package to PREFIX/lib/macsec/python, its commands and their manual pages
 # make dist          makes build/dist: macsec-VERSION.tar.gz and the Debian packages macsec, libmacsec1, libmacsec-dev,
-#                    python3-macsec and macsec-doc
+#                    python3-macsec, macsec-doc and macsecd
 # make check         the gate
 # make pictures      draws docs/pictures again, from crates.txt and docs/PERFORMANCE.md
 # make reference     writes docs/reference again, from the sources
@@ -35,7 +35,7 @@ DEVICE_FLAGS := -std=c11 -pthread -Wall -Wextra -Werror -pedantic -Iinclude -O2 
     -fPIE -pie -Wl,-z,relro -Wl,-z,now -Wl,-z,noexecstack
 HWCAPS := glibc-hwcaps/x86-64-v3
 DEVICE := build/macsecd$(if $(filter x86-64-v3,$(CPU)),-x86-64-v3)
-DEVICE_SOURCES := $(filter-out device/macsecctl.c,$(wildcard device/*.c))
+DEVICE_SOURCES := $(sort $(filter-out device/macsecctl.c,$(wildcard device/*.c)))
 
 # The checks that make a program or a library first, and the others.
 OVER_PROGRAM := altered-frames conformance conformance-controls peer planted stored-runs
@@ -44,8 +44,8 @@ OVER_LIBRARY := c-programs constant-time isolated isolated-controls isolated-uni
 CHECKS := $(OVER_PROGRAM) $(OVER_LIBRARY) against allocators any-order c-cost c-header controls device-kernel edits \
     failures fuzz kept-frames kernel-captures lanes-used live mka moves needed packages style table version
 
-.PHONY: all try test run lib kept device install install-device install-python dist check pictures reference bench \
-    toolchain clean help $(CHECKS)
+.PHONY: all try test run lib kept device device-of install install-device install-python dist check pictures reference \
+    bench toolchain clean help $(CHECKS)
 
 all: $(BUILT)
 
@@ -125,6 +125,11 @@ packages: build/macsec build/libmacsec.a build/$(HWCAPS)/libmacsec.a
 controls: build/macsec build/macsec-rattle build/libmacsec.a
 
 device: $(DEVICE) build/macsecctl
+
+# The same in a folder TO, over a library LIBRARY that is there: for the packages.
+device-of:
+	$(CC) $(DEVICE_FLAGS) -o "$(TO)/macsecd" $(DEVICE_SOURCES) "$(LIBRARY)"
+	$(CC) $(DEVICE_FLAGS) -o "$(TO)/macsecctl" device/macsecctl.c
 
 install-device: device
 	install -D -m 755 -t "$(DESTDIR)$(PREFIX)/sbin" build/macsecctl device/macsec-link
