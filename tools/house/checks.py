@@ -126,6 +126,8 @@ CHECKS: list[Check] = [
     Check("any-order", "sees that rt ci accepts what make run leaves", "tests/any-order", ALL, 60, None, gate=""),
     Check("isolated", "runs the device with LINK in a network namespace of its own", "device/tests/isolated",
           ROOT_USER, 50, "the check isolated-controls", gate="--short --seed {seed}", hand="--seed {seed}"),
+    Check("two-hosts", "runs the commands of docs/TWO-HOSTS.md at two simulated hosts", "device/tests/two-hosts", ROOT_USER,
+          12, "pages with another command", gate=""),
     Check("isolated-controls", "plants mistakes in the isolation of LINK", "device/tests/isolated --controls", ROOT_USER,
           900, "it is made of them", hand=""),
     Check("isolated-unit", "runs the unit of macsecd under systemd", "device/tests/isolated-unit", ROOT_USER, 120,
