@@ -150,7 +150,7 @@ static bool read_reports(struct device *d, size_t length) {
 
 /* Reads a message. Returns its length; 0 if none was there, or if it is not the system's; or -1. */
 static ssize_t read_message(struct life *f) {
-    struct sockaddr_nl from;
+    struct sockaddr_nl from = { .nl_pid = UINT32_MAX }; /* nobody's, until the system names the sender */
     socklen_t room = sizeof from;
     ssize_t length;
     do

@@ -62,7 +62,7 @@ static void fill_slots(struct names *n) {
 static bool make_room(struct names *n) {
     size_t room = n->room == 0 ? FIRST : 2 * n->room;
     void *grown;
-    if (n->count < n->room)
+    if (n->at != NULL && n->count < n->room)
         return true;
     grown = realloc(n->at, room * sizeof *n->at);
     if (grown == NULL)

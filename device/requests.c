@@ -96,15 +96,15 @@ bool requests_answer(struct device *d, struct text *t, int client, char *request
     struct words w;
     struct result r = { "Owned", MACSEC_OK, 0 };
     bool loads = length >= sizeof load - 1 && memcmp(request, load, sizeof load - 1) == 0;
+    bool reads;
     link_count_lost(&d->link, &d->counts);
     if (!loads && length > 0 && request[length - 1] == '\n')
         length--;
     words_split(&w, request, length);
-    if (!loads && answer_reader(d, t, &w))
-        length = 0;
-    else if (loads && port_may_change(d, client) && length <= REQUEST_MAX)
+    reads = !loads && answer_reader(d, t, &w);
+    if (loads && port_may_change(d, client) && length <= REQUEST_MAX)
         endpoint_load(d, t, request + sizeof load - 1, length - (sizeof load - 1));
-    else {
+    else if (!reads) {
         if (loads && length > REQUEST_MAX)
             r.fault = "LoadLong";
         else if (port_may_change(d, client))
