@@ -32,7 +32,7 @@ PREFIX ?= /usr/local
 CPU ?= x86-64-v2
 BUILT := build/macsec$(if $(filter x86-64-v3,$(CPU)),-x86-64-v3)
 DEVICE_FLAGS := -std=c11 -pthread -Wall -Wextra -Werror -pedantic -Iinclude -O2 -fstack-protector-strong -D_FORTIFY_SOURCE=2 \
-    -fPIE -pie -Wl,-z,relro -Wl,-z,now -Wl,-z,noexecstack
+    -fstack-clash-protection -fcf-protection -fPIE -pie -Wl,-z,relro -Wl,-z,now -Wl,-z,noexecstack
 HWCAPS := glibc-hwcaps/x86-64-v3
 DEVICE := build/macsecd$(if $(filter x86-64-v3,$(CPU)),-x86-64-v3)
 DEVICE_SOURCES := $(sort $(filter-out device/macsecctl.c,$(wildcard device/*.c)))
@@ -41,8 +41,9 @@ DEVICE_SOURCES := $(sort $(filter-out device/macsecctl.c,$(wildcard device/*.c))
 OVER_PROGRAM := altered-frames conformance conformance-controls peer planted stored-runs
 OVER_LIBRARY := c-programs constant-time isolated isolated-controls isolated-unit journal keys-in-memory macsecd \
     macsecd-controls macsecd-isolated pages python readers two-hosts
-CHECKS := $(OVER_PROGRAM) $(OVER_LIBRARY) against allocators any-order c-cost c-header controls device-kernel edits \
-    failures fuzz kept-frames kernel-captures lanes-used live mka moves needed packages style table version
+CHECKS := $(OVER_PROGRAM) $(OVER_LIBRARY) against allocators any-order c-cost c-header controls device-analyzed \
+    device-kernel edits failures fuzz kept-frames kernel-captures lanes-used live mka moves needed packages style table \
+    version
 
 .PHONY: all try test run lib kept device device-of install install-device install-python dist check pictures reference \
     bench toolchain clean help $(CHECKS)

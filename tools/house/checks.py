@@ -136,6 +136,8 @@ CHECKS: list[Check] = [
           ROOT_USER, 600, "the check macsecd-controls", hand="--seed {seed}"),
     Check("macsecd-controls", "plants mistakes in the device", "device/tests/macsecd --short --controls", ROOT_USER, 600,
           "it is made of them", hand=""),
+    Check("device-analyzed", "runs the analyzers of gcc and clang over the device and the examples in C",
+          "device/tests/device-analyzed", NOTHING, 15, "memory that is read after it was freed", test=""),
     Check("peer", "compares frames with Scapy's and with what tshark reads", "tests/program/peer", PROGRAM, 60, None,
           hand=""),
     Check("against", "measures the program beside OpenSSL", "tests/program/against", PROGRAM, 120, None, hand=""),
