@@ -67,11 +67,13 @@ static bool find_header(struct segments *s, const struct unfinished *u) {
 void segments_begin(struct segments *s, const struct unfinished *u) {
     s->of = *u;
     s->at = 0;
-    s->header = 0;
     if (find_header(s, u)) {
         memcpy(s->head, u->octets, s->header);
         s->at = s->header;
-    } else if (u->lacks_sum && u->sum_start < u->length && (size_t)u->sum_at + 2 <= u->length)
+        return;
+    }
+    s->header = 0; /* there can be one that was found to be wrong */
+    if (u->lacks_sum && u->sum_start < u->length && (size_t)u->sum_at + 2 <= u->length)
         put_sum(u->octets + u->sum_at, add(0, u->octets + u->sum_start, u->length - u->sum_start));
 }
 
