@@ -1,0 +1,68 @@
+#define _GNU_SOURCE
+#include "fuzz.h"
+#include <fcntl.h>
+#include <sanitizer/asan_interface.h>
+#include <stdio.h>
+#include <stdlib.h>
+#include <string.h>
+#include <unistd.h>
+
+size_t input_take(struct input *i, void *to, size_t length) {
+    size_t taken = length < i->left ? length : i->left;
+    memset(to, 0, length);
+    if (taken > 0)
+        memcpy(to, i->at, taken);
+    i->at += taken;
+    i->left -= taken;
+    return taken;
+}
+
+size_t input_number(struct input *i) {
+    uint8_t octets[2];
+    (void)input_take(i, octets, sizeof octets);
+    return (size_t)octets[0] << 8 | octets[1];
+}
+
+size_t fuzz_fill(void *buffer, size_t room, const uint8_t *octets, size_t length, size_t more) {
+    if (length > room)
+        length = room;
+    ASAN_UNPOISON_MEMORY_REGION(buffer, room);
+    if (length > 0)
+        memcpy(buffer, octets, length);
+    if (length + more < room)
+        ASAN_POISON_MEMORY_REGION((char *)buffer + length + more, room - length - more);
+    return length;
+}
+
+void fuzz_require(bool holds, const char *what) {
+    if (holds)
+        return;
+    fprintf(stderr, "WRONG: %s\n", what);
+    abort();
+}
+
+void fuzz_write(const char *variable, const char *file, const uint8_t *octets, size_t length) {
+    char path[256];
+    int descriptor;
+    snprintf(path, sizeof path, "%s/%s", getenv(variable), file);
+    descriptor = open(path, O_WRONLY | O_CREAT | O_TRUNC | O_CLOEXEC, 0600);
+    fuzz_require(descriptor >= 0 && write(descriptor, octets, length) == (ssize_t)length, path);
+    (void)close(descriptor);
+}
+
+struct device *fuzz_device(void) {
+    static struct device device = { .name = "fuzz", .handles = { MACSEC_ENDPOINT_INIT, MACSEC_ENDPOINT_INIT } };
+    struct device *d = &device;
+    messages_name(d->name);
+    fuzz_require(keys_open() == 0 && numbers_create(d->name) == 0, "no journal is made: STATE_DIRECTORY has one");
+    fuzz_require(numbers_open(&d->numbers, d->name, &d->counts) == 0, "the journal can't be opened");
+    d->endpoint = &d->handles[0];
+    d->config.max_frame = MACSEC_FRAME_MAX;
+    d->link = (struct link){ .socket = -1, .index = 1, .mtu = 1500, .name = "link" };
+    d->tap = (struct tap){ -1, "tap" };
+    d->life.socket = -1;
+    for (int i = 0; i < CLIENTS; i++)
+        d->control.clients[i] = -1;
+    port_open(d);
+    return d;
+}
