@@ -1,7 +1,8 @@
 //! Octets per second of AES, GHASH and sealing, each block by block and in lanes.
 
 use crate::plain::PlainKey;
-use macsec_aes::{Key, Schedule, encrypt};
+use crate::table::TableKey;
+use macsec_aes::Key;
 use macsec_aes_lanes::{LaneSchedule, encrypt16};
 use macsec_field128::Block;
 use macsec_gcm::GcmKey;
@@ -46,7 +47,7 @@ type Measured = (Duration, u8);
 /// A measured function.
 #[derive(Clone, Copy)]
 enum Function {
-    Encrypt,
+    Table,
     Encrypt16,
     PlainHash,
     LaneHash,
@@ -56,7 +57,7 @@ enum Function {
 
 /// The functions, in the order of measurement.
 const FUNCTIONS: [Function; 6] = [
-    Function::Encrypt,
+    Function::Table,
     Function::Encrypt16,
     Function::PlainHash,
     Function::LaneHash,
@@ -67,7 +68,7 @@ const FUNCTIONS: [Function; 6] = [
 impl Function {
     fn name(self) -> &'static str {
         match self {
-            Function::Encrypt => "encrypt",
+            Function::Table => "AES with one table",
             Function::Encrypt16 => "encrypt16",
             Function::PlainHash => "PlainHash",
             Function::LaneHash => "LaneHash",
@@ -79,7 +80,7 @@ impl Function {
     /// Runs the function as often as `work` says. Returns an octet of the result.
     fn run(self, keys: &Keys, work: Work) -> u8 {
         match self {
-            Function::Encrypt => encrypted(&keys.schedule, work),
+            Function::Table => encrypted(&keys.table, work),
             Function::Encrypt16 => encrypted16(&keys.lanes, work),
             Function::PlainHash => hashed::<PlainHash>(work),
             Function::LaneHash => hashed::<LaneHash>(work),
@@ -92,7 +93,7 @@ impl Function {
 /// The same key for each function.
 #[derive(Drop)]
 struct Keys {
-    schedule: Schedule,
+    table: TableKey,
     lanes: LaneSchedule,
     plain: PlainKey,
     gcm: GcmKey,
@@ -101,7 +102,7 @@ struct Keys {
 /// Measures each function, and prints how fast it is.
 pub fn report(rt: &HostRuntime) -> io::Result<()> {
     let keys = Keys {
-        schedule: Schedule::expand(&KEY),
+        table: TableKey::new(&KEY),
         lanes: LaneSchedule::expand(&KEY),
         plain: PlainKey::new(&KEY),
         gcm: GcmKey::new(KEY),
@@ -134,11 +135,11 @@ fn line(rt: &HostRuntime, name: &str, work: Work, measured: Measured) -> io::Res
 }
 
 /// Encrypts blocks one after another. Each is the result of the one before.
-fn encrypted(schedule: &Schedule, work: Work) -> u8 {
+fn encrypted(key: &TableKey, work: Work) -> u8 {
     let mut block = [0; 16];
     for _ in 0..work.turns {
         for _ in 0..work.length.div_ceil(16) {
-            block = encrypt(schedule, block);
+            block = key.encrypt(block);
         }
     }
     block[0]

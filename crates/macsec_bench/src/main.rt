@@ -8,6 +8,7 @@ mod cipher;
 mod endpoints;
 mod frames;
 mod plain;
+mod table;
 
 use anyhow::bail;
 use std::env;

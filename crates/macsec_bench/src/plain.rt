@@ -1,6 +1,7 @@
 //! Sealing by AES-GCM (SP 800-38D, 7.1) block by block, for comparison with `macsec_gcm`.
 
-use macsec_aes::{Key, Schedule, encrypt};
+use crate::table::TableKey;
+use macsec_aes::Key;
 use macsec_field128::Block;
 use macsec_gcm::inc32;
 use macsec_ghash::{Hash128, PlainHash};
@@ -8,16 +9,16 @@ use macsec_ghash::{Hash128, PlainHash};
 /// A key that is used block by block.
 #[derive(Drop)]
 pub struct PlainKey {
-    schedule: Schedule,
+    cipher: TableKey,
     subkey: Block,
 }
 
 impl PlainKey {
     /// Expands an AES key.
     pub fn new(key: &Key) -> PlainKey {
-        let schedule = Schedule::expand(key);
-        let subkey = Block(u128::from_be_bytes(encrypt(&schedule, [0; 16])));
-        PlainKey { schedule, subkey }
+        let cipher = TableKey::new(key);
+        let subkey = Block(u128::from_be_bytes(cipher.encrypt([0; 16])));
+        PlainKey { cipher, subkey }
     }
 
     /// Encrypts the text in place, without additional authenticated data. Returns the authentication tag.
@@ -39,7 +40,7 @@ impl PlainKey {
     fn add_stream(&self, first: [u8; 16], text: &mut [u8]) {
         let mut counter = first;
         for piece in text.chunks_mut(16) {
-            let stream = encrypt(&self.schedule, counter);
+            let stream = self.cipher.encrypt(counter);
             for (octet, added) in piece.iter_mut().zip(&stream) {
                 *octet ^= *added;
             }
