@@ -137,7 +137,7 @@ CHECKS: list[Check] = [
     Check("macsecd-controls", "plants mistakes in the device", "device/tests/macsecd --short --controls", ROOT_USER, 600,
           "it is made of them", hand=""),
     Check("device-fuzz", "gives mutated octets to macsecd's readers, under sanitizers", "device/tests/device-fuzz", LIBRARY, 30,
-          "the check device-fuzz-controls", gate="--inputs 2000 --seed {seed}", hand="--minutes 2 --seed {seed}"),
+          "the check device-fuzz-controls", hand="--minutes 2 --seed {seed}"),
     Check("device-fuzz-controls", "plants mistakes in macsecd's readers, which the inputs have to show",
           "device/tests/device-fuzz --controls", LIBRARY, 120, "it is made of them", hand="--seed {seed}"),
     Check("device-analyzed", "runs the analyzers of gcc and clang over the device and the examples in C",
