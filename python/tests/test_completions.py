@@ -44,6 +44,11 @@ printf '%s\\n' "${{COMPREPLY[@]}}"
 """
 
 
+def in_python() -> list[str]:
+    """The names of the commands in Python."""
+    return re.findall("^(macsec-[a-z]+) = ", (ROOT / "python/pyproject.toml").read_text(), re.M)
+
+
 class Completions(unittest.TestCase):
     @classmethod
     def setUpClass(cls) -> None:
@@ -58,23 +63,30 @@ class Completions(unittest.TestCase):
             (cls.work / name).touch()
 
     def test_every_command_has_them(self) -> None:
-        names = ["macsec", "macsecd", "macsecctl", "macsec-link"]
-        names += re.findall("^(macsec-[a-z]+) = ", (ROOT / "python/pyproject.toml").read_text(), re.M)
+        names = ["macsec", "macsecd", "macsecctl", "macsec-link", *in_python()]
         for folder, form in (("bash-completion/completions", "{}"), ("zsh/site-functions", "_{}"),
                              ("fish/vendor_completions.d", "{}.fish")):  # fmt: skip
             self.assertEqual(set(os.listdir(self.folder / "share" / folder)), {form.format(it) for it in names})
 
     def test_every_option_is_there(self) -> None:
         """The help names no option that a completion lacks."""
-        for name in ("decrypt", "why", "config", "forge"):
-            helped = subprocess.run(
-                [sys.executable, "-m", f"macsec.cli.{name}", "--help"], capture_output=True, text=True
-            )
+        self.assertGreater(len(in_python()), 3)
+        for name in in_python():
+            module = f"macsec.cli.{name.removeprefix('macsec-')}"
+            helped = subprocess.run([sys.executable, "-m", module, "--help"], capture_output=True, text=True)
             options = set(re.findall(r"^  .*?(--[a-z-]+)", helped.stdout.split("examples:")[0], re.M))
-            for path in self.folder.rglob(f"*macsec-{name}*"):
+            for path in self.folder.rglob(f"*{name}*"):
                 text = path.read_text()
                 missing = [it for it in options if it not in text and f"-l {it[2:]} " not in text]
                 self.assertEqual((missing, len(options) > 3), ([], True), path)
+
+    def test_every_request_is_there(self) -> None:
+        """Offered are the requests of requests.c, the `A` of lines for the endpoint, `load`, and macsecctl's `watch`."""
+        answered = (ROOT / "device/requests.c").read_text()
+        names = set(re.findall(r'words_(?:is\(w, 0|are\(w, 2), "(\w+)"', answered)) | {"A", "load", "watch"}
+        text = (self.folder / "share/bash-completion/completions/macsecctl").read_text()
+        (offered,) = re.findall(r'compgen -W "([\w ]+)"', text)
+        self.assertEqual((set(offered.split()), len(names) > 10), (names, True))
 
     def test_bash(self) -> None:
         for typed, offered in TYPED.items():
