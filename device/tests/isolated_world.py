@@ -5,6 +5,7 @@ from __future__ import annotations
 import contextlib
 import dataclasses
 import fcntl
+import json
 import os
 import pathlib
 import random
@@ -101,6 +102,10 @@ class Host:
     def link_ip(self, *words: str) -> str:
         """Runs `ip` in LINK's namespace."""
         return self.run("ip", *([] if self.shared else ["-n", "macsec-macsec0"]), *words)
+
+    def arrived(self) -> int:
+        """How many frames LINK has received."""
+        return int(json.loads(self.link_ip("-s", "-j", "link", "show", "link0"))[0]["stats64"]["rx"]["packets"])
 
     def devices(self, is_link: bool = False) -> dict[str, str]:
         """The devices of the host's namespace or of LINK's, and what `ip` shows of them."""
