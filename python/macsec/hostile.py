@@ -12,6 +12,8 @@ MACSEC = b"\x88\xe5"
 BITS = {"V": 0x80, "ES": 0x40, "SC": 0x20, "SCB": 0x10, "E": 0x08, "C": 0x04}
 # SL says the length of data that are shorter than this.
 SHORT = 48
+# The first octet of the destination address of a marked frame: of one station, and locally administered.
+_MARK = b"\x66"
 
 
 class Source(NamedTuple):
@@ -92,6 +94,15 @@ def client_frame(source: Source, data: int = 46) -> bytes:
     """A client's frame from the source's address, with so many octets after the addresses. Its EtherType is one for
     experiments."""
     return (bytes.fromhex("02000000000f") + source.sci[:6] + b"\x88\xb5" + bytes(range(256)) * 40)[: 12 + data]
+
+
+def marked(client: bytes, pn: int) -> bytes:
+    """A client's frame whose destination address has the packet number, so that a device's frames can be told apart.
+
+    >>> marked(bytes(14), 0x1234).hex(":")
+    '66:00:00:00:12:34:00:00:00:00:00:00:00:00'
+    """
+    return _MARK + (pn & 0xFF_FFFF_FFFF).to_bytes(5, "big") + client[6:]
 
 
 class Hostile(NamedTuple):
@@ -205,20 +216,30 @@ CASES = (
 )  # fmt: skip
 
 
-def hostile_frames(source: Source) -> Iterator[Hostile]:
+def hostile_frames(source: Source, is_marked: bool = False) -> Iterator[Hostile]:
     """The list, for a receiver that has one association for the source and takes its packet number. With extended
-    packet numbers above 2^32 number 0 can be Late, or another number in the IV than in the receiver's."""
+    packet numbers above 2^32 number 0 can be Late, or another number in the IV than in the receiver's. Each frame can
+    be `marked` by the packet number in its IV."""
     for number, case in enumerate(CASES):
         pn = source.pn + number
         client = client_frame(source, case.data)
         tag = ordinary_tag(source, pn, case.data)
         shape = case.change(source, tag, Shape(client, tag.octets(), pn))
+        if is_marked:
+            shape = shape._replace(client=marked(shape.client, shape.pn))
         yield Hostile(case.name, case.what, case.verdict_for(source), shape)
 
 
-def hostile_list(source: Source) -> list[tuple[Hostile, bytes]]:
+def unused_number(source: Source) -> Source:
+    """The source with a packet number from which no IV of the list has a lower one, but for number 0."""
+    while any(0 < it.shape.pn < source.pn for it in hostile_frames(source)):
+        source = source._replace(pn=source.pn + 1)
+    return source
+
+
+def hostile_list(source: Source, is_marked: bool = False) -> list[tuple[Hostile, bytes]]:
     """The list with its frames. The last is the first one again."""
-    made = [(it, it.shape.frame(source)) for it in hostile_frames(source)]
+    made = [(it, it.shape.frame(source)) for it in hostile_frames(source, is_marked)]
     first = made[0]
     again = Hostile("again", "the first frame again", Verdict.Late, first[0].shape)
     return [*made, (again, first[1])]

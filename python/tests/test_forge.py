@@ -2,14 +2,17 @@
 
 from __future__ import annotations
 
+import json
 import os
 import re
 import subprocess
 import unittest
+from typing import Any, Callable
 
 import macsec
-from macsec import SecY, Suite, Verdict, capture, hostile, script_frames, seal
+from macsec import SecY, Suite, Verdict, capture, device_trial, hostile, script_frames, seal
 from macsec.cli import forge
+from macsec.number_file import NumberFile
 
 from .helpers import KEYS, LONG_KEY, RECEIVER, ROOT, SALT, SENDER, InFolder, client_frames, main_of, protected
 
@@ -214,6 +217,130 @@ class Command(InFolder):
         self.assertEqual(self.names(), ["config", "odd"])
         taken = self.put("taken", b"")
         self.assertEqual(main_of(forge.main, taken, *key)[0], 1)
+
+
+class Numbers(InFolder):
+    """The file in which packet numbers go on."""
+
+    def path(self) -> str:
+        return str(self.folder / "numbers")
+
+    def test_numbers_go_on(self) -> None:
+        with NumberFile(self.path(), source()) as file:
+            self.assertEqual(file.next, 1)
+            file.reserve(41)
+            # As after a crash: it is on disk before the run ends.
+            self.assertEqual(json.loads((self.folder / "numbers").read_text())["next"], "29")
+            self.assertRaisesRegex(OSError, "another run uses this file", NumberFile, self.path(), source())
+            self.assertRaises(macsec.UsageError, file.reserve, 41)
+        self.assertEqual(os.stat(self.path()).st_mode & 0o777, 0o600)
+        with NumberFile(self.path(), source(pn=7)) as file:
+            self.assertEqual(file.next, 41)
+        self.assertEqual(self.names(), ["numbers"])
+
+    def test_of_another_key(self) -> None:
+        with NumberFile(self.path(), source()) as file:
+            file.reserve(2)
+        text = (self.folder / "numbers").read_text()
+        self.assertNotIn(KEYS[0].hex(), text)
+        others = {"key": KEYS[1]}, {"sci": bytes(8)}, {"ssci": 9}, {"salt": SALT}, {"suite": Suite.xpn128}
+        for it in others:
+            with self.assertRaisesRegex(macsec.UsageError, "of another key"):
+                NumberFile(self.path(), source()._replace(**it))  # type: ignore[arg-type]
+        self.assertEqual((self.folder / "numbers").read_text(), text)
+
+    def test_damaged(self) -> None:
+        for text in ("x", "[]", "{}", '{"form": 1, "key": 2, "next": "3"}', "\0", '{"next": 1}'):
+            with self.assertRaisesRegex(macsec.UsageError, "damaged"):
+                NumberFile(self.put("numbers", text), source())
+
+    def test_no_iv_of_an_earlier_run(self) -> None:
+        """Ten runs of the list: no packet number of an IV is in two frames that differ."""
+        used: dict[int, bytes] = {}
+        first = 1
+        for _ in range(10):
+            of = hostile.unused_number(source(pn=first))
+            for it, frame in hostile.hostile_list(of, True):
+                self.assertEqual(used.setdefault(it.shape.pn, frame), frame)
+                # Below `first`, another list of an earlier run can have used each number.
+                self.assertTrue(it.shape.pn == 0 or it.shape.pn >= first or it.name == "again")
+            first = max(used) + 1
+
+
+class Device:
+    """A device under test, in place of two interfaces."""
+
+    name = "client"
+
+    def __init__(self, change: Callable[[bytes], list[bytes]]) -> None:
+        self.secy = SecY.configure(CONFIG)
+        self.change = change
+        self.out: list[bytes] = []
+
+    def send(self, frame: bytes) -> None:
+        made = self.secy.receive(frame).frame
+        if made is not None:
+            self.out += self.change(made)
+
+    def frames(self, _: float) -> list[bytes]:
+        found, self.out = self.out, []
+        return found
+
+
+class OnAWire(InFolder):
+    """Devices that are as CONFIG says, and others."""
+
+    def run_of(self, change: Callable[[bytes], list[bytes]], is_marked: bool = True) -> tuple[dict[str, str], int]:
+        """What the device did with those frames that differ, and how many frames are for none."""
+        frames = [(it.name, frame) for it, frame in hostile.hostile_list(source(), is_marked)]
+        device: Any = Device(change)
+        with SecY.configure(CONFIG) as secy:
+            judgements = list(device_trial.judged(secy, frames))
+        outcomes, others = device_trial.tried(judgements, device, device, 0)
+        return {it.judged.name: it.device for it in outcomes if not it.agrees}, others
+
+    def test_devices(self) -> None:
+        same = self.run_of(lambda it: [it])
+        self.assertEqual((same, self.run_of(lambda it: [it], False)), (({}, 0), ({}, 0)))
+        self.assertEqual(self.run_of(lambda it: [it.ljust(60, b"\0")]), ({}, 0))
+        # What has no whole EtherType need not come out.
+        self.assertEqual(self.run_of(lambda it: [it] if len(it) > 13 else []), ({}, 0))
+        opened = {it.name for it, _ in hostile.hostile_list(source()) if it.verdict == Verdict.OK}
+        for change, told in (
+            (lambda it: [], "dropped"), (lambda it: [it, it], "delivered 2 times"),
+            (lambda it: [it[:-1] + bytes([it[-1] ^ 1])], "delivered 58, other"), (lambda it: [it + b"\1"], "delivered 59, other"),
+        ):  # fmt: skip
+            found, others = self.run_of(change)
+            self.assertEqual((set(found) | {"one-octet"}, found["ordinary"], others), (opened, told, 0))
+        found, others = self.run_of(lambda it: [bytes(12) + it[12:]])
+        self.assertEqual((found["ordinary"], others), ("dropped", len(opened)))
+
+    def test_passes(self) -> None:
+        def passes(is_marked: bool) -> list[range]:
+            with SecY.configure(CONFIG) as secy:
+                frames = [(it.name, frame) for it, frame in hostile.hostile_list(source(), is_marked)]
+                return list(device_trial.passes(list(device_trial.judged(secy, frames))))
+
+        self.assertEqual(passes(True), [range(0, 35), range(35, 36)])
+        self.assertEqual(passes(False), [range(it, it + 1) for it in range(36)])
+        self.assertEqual(list(device_trial.passes([])), [])
+
+    def test_faults(self) -> None:
+        config = ("--config", self.put("config", CONFIG))
+        to = ("--send", "no-such-1", "--judge", "no-such-2")
+        state = ("--state", str(self.folder / "numbers"))
+        for words in (
+            (*to, *state), (*to, *config), ("out", *to, *config, *state), (*to[:2], *config, *state),
+            (*to[:2], "--judge", "no-such-1", *config, *state), (*to, *config, *state, "--wait", "nan"),
+            (*to, *config, *state, "--wait", -1), ("out", *config, *state), ("out", *config, "--json"), config,
+            (*to, *config, *state, "--text", "x"),
+        ):  # fmt: skip
+            ended, printed, error = main_of(forge.main, *words)
+            self.assertEqual((ended, printed), (2, ""), words)
+            self.assertRegex(error, r"^macsec-forge: [^\n]*\n$")
+        ended, printed, error = main_of(forge.main, *to, *config, *state)
+        self.assertEqual((ended, printed), (1, ""))
+        self.assertRegex(error, r"^macsec-forge: no-such-1: [^\n]*\n$")
 
 
 if __name__ == "__main__":
