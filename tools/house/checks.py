@@ -128,6 +128,8 @@ CHECKS: list[Check] = [
           ROOT_USER, 50, "the check isolated-controls", gate="--short --seed {seed}", hand="--seed {seed}"),
     Check("two-hosts", "runs the commands of docs/TWO-HOSTS.md at two simulated hosts", "device/tests/two-hosts", ROOT_USER,
           12, "pages with another command", gate=""),
+    Check("device-forged", "sends frames of macsec-forge to the device, and judges what it delivers",
+          "device/tests/device-forged", ROOT_USER, 15, "devices that differ from their CONFIG", hand=""),
     Check("isolated-controls", "plants mistakes in the isolation of LINK", "device/tests/isolated --controls", ROOT_USER,
           900, "it is made of them", hand=""),
     Check("isolated-unit", "runs the unit of macsecd under systemd", "device/tests/isolated-unit", ROOT_USER, 120,
