@@ -39,11 +39,12 @@ DEVICE_SOURCES := $(sort $(filter-out device/macsecctl.c,$(wildcard device/*.c))
 
 # The checks that make a program or a library first, and the others.
 OVER_PROGRAM := altered-frames conformance conformance-controls peer planted stored-runs
-OVER_LIBRARY := c-programs constant-time device-forged device-fuzz device-fuzz-controls isolated isolated-controls \
-    isolated-unit journal keys-in-memory macsecd macsecd-controls macsecd-isolated pages python readers two-hosts
+OVER_LIBRARY := c-programs constant-time device-forged device-fuzz device-fuzz-controls isolated \
+    isolated-controls isolated-unit journal keys-in-memory macsecd macsecd-controls macsecd-isolated pages python \
+    readers two-hosts
 CHECKS := $(OVER_PROGRAM) $(OVER_LIBRARY) against allocators any-order c-cost c-header controls device-analyzed \
-    device-kernel edits failures fuzz kept-frames kernel-captures lanes-used live mka moves needed packages style table \
-    version
+    device-forged-linux device-kernel edits failures fuzz kept-frames kernel-captures lanes-used live mka moves \
+    needed packages style table version
 
 .PHONY: all try test run lib kept device device-of install install-device install-python dist check pictures reference \
     bench toolchain clean help $(CHECKS)

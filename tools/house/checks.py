@@ -130,6 +130,8 @@ CHECKS: list[Check] = [
           12, "pages with another command", gate=""),
     Check("device-forged", "sends frames of macsec-forge to the device, and judges what it delivers",
           "device/tests/device-forged", ROOT_USER, 15, "devices that differ from their CONFIG", hand=""),
+    Check("device-forged-linux", "sends them to Linux's own MACsec in a virtual machine",
+          "device/tests/device-forged --linux", GUEST, 30, "the check device-forged", hand=""),
     Check("isolated-controls", "plants mistakes in the isolation of LINK", "device/tests/isolated --controls", ROOT_USER,
           900, "it is made of them", hand=""),
     Check("isolated-unit", "runs the unit of macsecd under systemd", "device/tests/isolated-unit", ROOT_USER, 120,
