@@ -38,25 +38,16 @@ bool config_path(char *path, size_t room, const char *variable, const char *othe
 
 /* ---- The file ---- */
 
-/* Keys are in the file: nobody but its owner may read it. A credential is guarded by the service manager. */
-static int check_file(const struct config *c, int file, bool is_credential, struct stat *status) {
-    if (fstat(file, status) != 0) {
-        message_of_errno("%s", c->path);
-        return ENDS_FAILED;
-    }
-    if (!S_ISREG(status->st_mode)) {
-        message("%s is not a regular file", c->path);
-        return ENDS_WRONG;
-    }
-    if (!is_credential && (status->st_mode & 077) != 0) {
-        message("%s has keys, and others may read or write it: chmod 600 %s", c->path, c->path);
-        return ENDS_WRONG;
-    }
-    if (!is_credential && status->st_uid != geteuid() && status->st_uid != 0) {
-        message("%s has keys, and belongs to another user than root or the one that runs macsecd", c->path);
-        return ENDS_WRONG;
-    }
-    return 0;
+/* Keys are in the file: nobody but its owner may read it. A credential is guarded by the service manager. Returns what
+ * is wrong with the file, or NULL. */
+static const char *fault_of_file(const struct stat *status, bool is_credential) {
+    if (!S_ISREG(status->st_mode))
+        return "it is not a regular file";
+    if (!is_credential && (status->st_mode & 077) != 0)
+        return "it has keys, and others may read or write it: chmod 600";
+    if (!is_credential && status->st_uid != geteuid() && status->st_uid != 0)
+        return "it has keys, and belongs to another user than root or the one that runs macsecd: chown root";
+    return NULL;
 }
 
 /* Reads the text into one block, which has no copy. */
@@ -86,9 +77,13 @@ static int read_text(struct config *c, int file, size_t size) {
     return 0;
 }
 
-/* Opens NAME.conf: the service manager's credential of this name if there is one, else the file. */
+/* Opens NAME.conf: the service manager's credential of this name if there is one, else the file. A name with a slash is
+ * the path of the file. */
 static int open_file(struct config *c, const char *name, bool *is_credential) {
     int file = -1;
+    *is_credential = false;
+    if (strchr(name, '/') != NULL && snprintf(c->path, sizeof c->path, "%s", name) < (int)sizeof c->path)
+        return open(c->path, O_RDONLY | O_CLOEXEC | O_NOFOLLOW | O_NONBLOCK);
     *is_credential = getenv("CREDENTIALS_DIRECTORY") != NULL &&
                      config_path(c->path, sizeof c->path, "CREDENTIALS_DIRECTORY", "", name, ".conf");
     if (*is_credential)
@@ -103,18 +98,32 @@ static int open_file(struct config *c, const char *name, bool *is_credential) {
     return open(c->path, O_RDONLY | O_CLOEXEC | O_NOFOLLOW | O_NONBLOCK);
 }
 
-static int read_file(struct config *c, const char *name) {
+/* Reads the file. One with a fault is read only if `anyhow`, and if it is a regular file. */
+static int read_file(struct config *c, const char *name, bool anyhow, const char **fault) {
     struct stat status;
     bool is_credential;
-    int result, file = open_file(c, name, &is_credential);
+    int result = 0, file = open_file(c, name, &is_credential);
+    *fault = NULL;
     if (file < 0) {
         message_of_errno("cannot open %s", c->path);
         return ENDS_FAILED;
     }
-    result = check_file(c, file, is_credential, &status);
-    if (result == 0)
-        result = read_text(c, file, (size_t)status.st_size);
+    if (fstat(file, &status) != 0) {
+        message_of_errno("%s", c->path);
+        result = ENDS_FAILED;
+    } else {
+        *fault = fault_of_file(&status, is_credential);
+        if (*fault == NULL || (anyhow && S_ISREG(status.st_mode)))
+            result = read_text(c, file, (size_t)status.st_size);
+    }
     (void)close(file); /* it was only read */
+    return result;
+}
+
+int config_look(struct config *c, const char *name, const char **fault) {
+    int result = read_file(c, name, true, fault);
+    if (result != 0)
+        config_wipe(c);
     return result;
 }
 
@@ -153,8 +162,7 @@ static bool take_switch(struct config *c, const struct words *w) {
     return says != NULL;
 }
 
-/* Takes a line of the device. Returns what is wrong with it, or NULL. */
-static const char *take_line(struct config *c, const struct words *w) {
+const char *config_take(struct config *c, const struct words *w) {
     if (words_is(w, 1, "allow"))
         return limits_take(&c->limits, w);
     if (take_switch(c, w))
@@ -184,7 +192,7 @@ static int take_lines(struct config *c) {
         words_split(&w, line, length);
         if (!words_is(&w, 0, "device"))
             continue;
-        wrong = take_line(c, &w);
+        wrong = config_take(c, &w);
         if (wrong != NULL) {
             message("%s: line %u: %s", c->path, number, wrong);
             return ENDS_WRONG;
@@ -194,26 +202,30 @@ static int take_lines(struct config *c) {
     return 0;
 }
 
-/* Do the lines agree? A line that lets frames pass without MACsec must not be hidden by another one, nor hide it. */
-static int check_lines(const struct config *c) {
+/* A line that lets frames pass without MACsec must not be hidden by another one, nor hide it. */
+const char *config_disagreement(const struct config *c) {
     if (c->link[0] == '\0')
-        message("%s has no line `device link NAME`, which names the network device below", c->path);
-    else if (strcmp(c->link, c->tap) == 0)
-        message("%s: LINK and TAP have one name, %s: `device tap` names another TAP", c->path, c->tap);
-    else if (c->shared && (c->isolated || c->alone))
-        message("%s: `device shared` and `device isolate` exclude each other", c->path);
-    else if (c->transient && c->persistent)
-        message("%s: `device transient` and `device persist` exclude each other", c->path);
-    else if (c->transient && !c->shared)
-        message("%s: `device transient` needs `device shared`: the TAP of an isolated LINK stays", c->path);
-    else
-        return 0;
-    return ENDS_WRONG;
+        return "there is no line `device link NAME`, which names the network device below";
+    if (strcmp(c->link, c->tap) == 0)
+        return "LINK and TAP have one name: `device tap` names another TAP";
+    if (c->shared && (c->isolated || c->alone))
+        return "`device shared` and `device isolate` exclude each other";
+    if (c->transient && c->persistent)
+        return "`device transient` and `device persist` exclude each other";
+    if (c->transient && !c->shared)
+        return "`device transient` needs `device shared`: the TAP of an isolated LINK stays";
+    return NULL;
 }
 
-/* Reads the `end` line, the first one that is not skipped: MAX, for the MTU of TAP, and the suite, for the limits. The
- * library judges that line. The text ends with a zero. */
-static void take_end(struct config *c) {
+/* Do the lines agree? */
+static int check_lines(const struct config *c) {
+    const char *wrong = config_disagreement(c);
+    if (wrong != NULL)
+        message("%s: %s", c->path, wrong);
+    return wrong == NULL ? 0 : ENDS_WRONG;
+}
+
+void config_take_end(struct config *c) {
     const char *line = (const char *)c->text;
     unsigned max;
     line += strspn(line, " \t\r\n");
@@ -226,16 +238,21 @@ static void take_end(struct config *c) {
 }
 
 int config_read(struct config *c, const char *name) {
+    const char *fault;
     int result;
     memset(c, 0, sizeof *c);
     memcpy(c->tap, name, strlen(name));
-    result = read_file(c, name);
+    result = read_file(c, name, false, &fault);
+    if (result == 0 && fault != NULL) {
+        message("%s: %s", c->path, fault);
+        result = ENDS_WRONG;
+    }
     if (result == 0)
         result = take_lines(c);
     if (result == 0)
         result = check_lines(c);
     if (result == 0)
-        take_end(c);
+        config_take_end(c);
     else
         config_wipe(c);
     return result;

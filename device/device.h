@@ -105,6 +105,23 @@ bool config_path(char *path, size_t room, const char *variable, const char *othe
 int config_read(struct config *c, const char *name);
 /* Wipes and frees its text, which has keys. */
 void config_wipe(struct config *c);
+/* The parts of config_read, for a look at a configuration that has faults. The first reads the text alone, also that of
+ * a file which macsecd does not take: `fault` is why, or NULL. A name with a slash is a path. Returns 0, or the exit
+ * status after a message. */
+int config_look(struct config *c, const char *name, const char **fault);
+/* Takes a line of the device. Returns what is wrong with it, or NULL. */
+const char *config_take(struct config *c, const struct words *w);
+/* What is wrong with the lines of the device together? Or NULL. */
+const char *config_disagreement(const struct config *c);
+/* Reads the `end` line, the first one that is not skipped: MAX, for the MTU of TAP, and the suite, for the limits. The
+ * library judges that line. The text ends with a zero, and lines of the device are comments. */
+void config_take_end(struct config *c);
+
+/* ---- check.c: `macsecd --check` ---- */
+
+/* Prints every fault of the configuration of this name or path, and what is likely to be a slip. Returns the exit
+ * status. */
+int check_configuration(const char *name);
 
 /* ---- counts.c: what the device counts, in addition to the endpoint ---- */
 

@@ -3,6 +3,7 @@
  *     macsecd NAME
  *     macsecd --create-journal NAME
  *     macsecd --settings NAME
+ *     macsecd --check NAME
  *
  * man/macsecd.8 has the manual. The library of macsec.h judges every frame; this program moves octets. */
 #include "device.h"
@@ -134,8 +135,11 @@ int main(int count, char **words) {
     bool prints = count == 3 && strcmp(words[1], "--settings") == 0;
     if (count == 2 && strcmp(words[1], "--version") == 0)
         return printf("macsecd %s\n", MACSEC_VERSION) < 0 || fflush(stdout) != 0 ? ENDS_FAILED : 0;
+    if (count == 3 && strcmp(words[1], "--check") == 0)
+        return check_configuration(words[2]);
     if ((count != 2 && !creates && !prints) || !config_is_name(words[count - 1])) {
-        message("usage: macsecd NAME, macsecd --create-journal NAME, macsecd --settings NAME, or macsecd --version");
+        message("usage: macsecd NAME, macsecd --check NAME or FILE, macsecd --create-journal NAME, "
+                "macsecd --settings NAME, or macsecd --version");
         return ENDS_WRONG;
     }
     device.name = words[count - 1];
