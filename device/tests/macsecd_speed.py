@@ -105,7 +105,7 @@ def measure(folder: pathlib.Path, library: pathlib.Path, rounds: int = 5, octets
         for name, each in programs.items():
             speed, sent, received = run_tcp(folder / f"{name}{number}", each, octets)
             print(
-                f"speed: {name}: TCP {speed:.1f} million octets a second; with the system, to send a frame takes "
+                f"speed: {name}: TCP {speed:.1f} million octets a second, {speed * 8 / 1000:.2f} Gbit/s; with the system, to send a frame takes "
                 f"{sent:.2f} us, and to receive it {received:.2f} us",
                 flush=True,
             )
