@@ -69,7 +69,8 @@ struct meaning {
 };
 
 static const struct meaning meanings[] = {
-    { MACSEC_E_KEY_LENGTH, "the key has another length than its suite's keys", "gcm128 and xpn128 need 32 digits" },
+    { MACSEC_E_KEY_LENGTH, "the key has another length than its suite's keys",
+      "gcm128 and xpn128 need 32 digits, gcm256 and xpn256 64" },
     { MACSEC_E_OFFSET, "the suite's keys have no such confidentiality offset", "write 0" },
     { MACSEC_E_KEY_NUMBER_USED, "a key of this number was installed before", "write another number" },
     { MACSEC_E_KEY_REPEATED, "a key of these octets was installed before", "make another key" },

@@ -32,6 +32,8 @@ PLANTED: list[tuple[dict[int, str], list[str]]] = [
       "line 6: a word is not a decimal number in its range; expected: A txdel AN",
       "line 8: hint: this association is never enabled, so it receives nothing: A rxon 0200000000020001 0",
       "line 9: too few words or too many; expected: A rxon SCI AN"]),
+    ({4: f"A key 1 {'a5' * 32} 0", 8: "# none", 9: "# none"},
+     ["line 4: refused: the key has another length than its suite's keys; gcm128 and xpn128 need 32 digits"]),
     ({10: "A rxsc 0200000000010001\nA rxon 0200000000030001 0\nA txon 3\nA txsa 0 0 1 conf"},
      ["line 10: refused: the SCI is the endpoint's own; write the peer's", "line 11: refused: there is no such",
       "line 12: refused: there is no such association", "line 13: refused: an association uses the key; name another key"]),
@@ -100,7 +102,7 @@ def check_planted(end: End) -> None:
         report(
             state_of(end.folder) == before and end.ip("-br", "link") == devices, f"--check of {lines} changed something"
         )
-        shown = [it for it in (*end.world.keys, "5a" * 16) if any(it[:8] in line for line in found)]
+        shown = [it for it in (*end.world.keys, "5a" * 16, "a5" * 16) if any(it[:8] in line for line in found)]
         report(not shown, f"--check of {lines} shows a key")
         if faults:
             where = re.match(r"line \d+", faults[0])
@@ -137,6 +139,21 @@ def check_surroundings(end: End) -> None:
     report(ended.returncode == 1 and "nothing0.conf: No such file" in ended.stderr, f"--check of no file: {ended}")
 
 
+def check_isolated(end: End) -> None:
+    """An isolated LINK is in another namespace: its address is that of TAP. Here TAP is an end of another link."""
+    end.write_config()
+    end.config.write_text(end.config.read_text().replace("device shared\ndevice transient\n", ""))
+    end.ip("link", "set", "link0", "name", "other0")
+    status, found = run(end)
+    report(status == 0 and [it[:35] for it in found] == ["line 1: hint: there is no network d"], f"no LINK: {found}")
+    for address, wanted in (("02:00:00:00:00:99", ["line 2: hint: the SCI is not that o"]), ("02:00:00:00:00:01", [])):
+        end.ip("link", "add", "macsec0", "address", address, "type", "veth", "peer", "name", "other1")
+        status, found = run(end)
+        report(status == 0 and [it[:35] for it in found] == wanted, f"an isolated LINK, TAP {address}: {found}")
+        end.ip("link", "del", "macsec0")
+    end.ip("link", "set", "other0", "name", "link0")
+
+
 def check_words() -> None:
     """What it says of a refusal and of a wrong line is what `macsec-config --lint` says."""
     source = (ROOT / "device/check.c").read_text()
@@ -152,4 +169,5 @@ def check_check(end: End) -> None:
     end.ip("link", "set", "link0", "address", "02:00:00:00:00:01")
     check_planted(end)
     check_surroundings(end)
+    check_isolated(end)
     check_words()

@@ -46,6 +46,7 @@ CONTROLS: dict[str, list[tuple[str, str, str]]] = {
               ("check.c", "        c->text_only = status != MACSEC_OK;\n", "        c->text_only = true;\n"),
               ("check.c", "c->config.max_frame != fitting", "false"),
               ("check.c", "about.st_uid != of_folder.st_uid", "false"),
+              ("check.c", "(!c->config.shared && c->config.tap", "(c->config.shared && c->config.tap"),
               ("check.c", "static const char other[] = \"end A gcm128 ", "static const char other[] = \"end A gcm129 ")],
     "journals": [("journals.c", "        *is_lost = true;\n", ""),
                  ("journals.c", "result = compare_folder(&k, own);", "result = 0;"),
