@@ -3,7 +3,6 @@
 #include "device.h"
 #include <ctype.h>
 #include <inttypes.h>
-#include <stdarg.h>
 #include <stdio.h>
 #include <string.h>
 
@@ -23,18 +22,6 @@ static const char *const tx_names[TX] = {
 static const char *const rx_names[RX] = {
     "InPktsOK", "InPktsUnchecked", "InPktsDelayed", "InPktsLate", "InPktsInvalid", "InPktsNotValid",
 };
-
-void text_add(struct text *t, const char *form, ...) {
-    va_list arguments;
-    int length;
-    va_start(arguments, form);
-    length = vsnprintf(t->octets + t->length, t->room - t->length, form, arguments);
-    va_end(arguments);
-    if (length < 0 || (size_t)length >= t->room - t->length)
-        t->full = true;
-    else
-        t->length += (size_t)length;
-}
 
 void sci_text(const uint8_t sci[8], char text[SCI_TEXT]) {
     for (int i = 0; i < 8; i++)

@@ -17,11 +17,16 @@ enum { BATCH = 64 };
 
 struct device;
 
+/* ---- text.c: texts that are composed piece by piece ---- */
+
 struct text {
     char *octets;
     size_t length, room;
     bool full; /* has something been left out? */
 };
+
+/* Adds to it, as printf does. What does not fit is left out. */
+void text_add(struct text *t, const char *form, ...) __attribute__((format(printf, 2, 3)));
 
 /* ---- messages.c: what macsecd says, on standard error ---- */
 
@@ -479,7 +484,6 @@ void handover_take(struct device *d, macsec_endpoint *e);
 
 /* ---- answers.c: the text of answers ---- */
 
-void text_add(struct text *t, const char *form, ...) __attribute__((format(printf, 2, 3)));
 void sci_text(const uint8_t sci[8], char text[SCI_TEXT]);
 /* The answer to a command. */
 void answer_result(struct text *t, const struct result *r);

@@ -45,7 +45,7 @@ def build_numbers(library: pathlib.Path, folder: pathlib.Path) -> pathlib.Path:
     """Builds the sender that reserves as macsecd does. Its file is short, and so are its reservations."""
     folder.mkdir(parents=True, exist_ok=True)
     program = folder / "journal_numbers"
-    parts = ("journal", "journals", "lines", "names", "numbers", "saver", "words", "tests/journal_numbers")
+    parts = ("journal", "journals", "lines", "names", "numbers", "saver", "text", "words", "tests/journal_numbers")
     sizes = ["-DNUMBERS_FILE_LENGTH=320", "-DJOURNAL_AMOUNT_MIN=8"]
     sources = [str(ROOT / f"device/{it}.c") for it in parts]
     command = ["gcc", *FLAGS, "-pedantic", "-pthread", *sizes, "-o", str(program), *sources, str(library)]

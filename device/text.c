@@ -1,0 +1,16 @@
+/* Texts that are composed piece by piece, in a buffer that the caller gives. */
+#include "device.h"
+#include <stdarg.h>
+#include <stdio.h>
+
+void text_add(struct text *t, const char *form, ...) {
+    va_list arguments;
+    int length;
+    va_start(arguments, form);
+    length = vsnprintf(t->octets + t->length, t->room - t->length, form, arguments);
+    va_end(arguments);
+    if (length < 0 || (size_t)length >= t->room - t->length)
+        t->full = true;
+    else
+        t->length += (size_t)length;
+}
