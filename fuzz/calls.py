@@ -9,9 +9,9 @@
 It needs Python 3.9 or later and its standard library alone. The calls go to three handles: with endpoints, without one,
 and freed. Numbers, lengths and frames are of all kinds, also those that nothing has. Statuses, suites, forms, modes,
 fates and verdicts are compared by the names that include/macsec.h gives them, and at the end each of these names must
-have been met at least once. Of the calls that allocate, one in EVERY is first made with each of its allocations
-refused: then it has to answer MACSEC_E_MEMORY and do nothing. Call number N of a seed, which is any text, is the same
-on every machine.
+have been met at least once. Of the calls that allocate, one in EVERY, or each of the rare ones, is first made with each
+of its allocations refused: then it has to answer MACSEC_E_MEMORY and do nothing. Call number N of a seed, which is any
+text, is the same on every machine.
 """
 
 from __future__ import annotations
@@ -36,6 +36,8 @@ from handles import CONSTANTS, ROOT, SUITES, Model, asked, hex_of, without_memor
 ALLOCATING = {"new": "!", "reserve_open": "!", "journal_compacted": "!"}
 ALLOCATING |= dict.fromkeys(("configure", "reserve_configure", "command_line", "answer"), "?")
 EVERY = 8
+# The calls that are made seldom, and often fail before they allocate: of these every one is first made so.
+SELDOM = {"reserve_open", "reserve_configure", "journal_compacted"}
 
 
 class Calls:
@@ -527,12 +529,13 @@ def compare(program, seed, lines, answers):
 
 
 def marked(lines):
-    """These lines, one in EVERY of each call that allocates with the mark for refused allocations."""
+    """These lines; of each call that allocates one in EVERY, or each, has the mark for refused allocations."""
     made = collections.Counter()
     for line in lines:
         name = line.split(" ", 1)[0]
         made[name] += 1
-        yield ALLOCATING[name] + line if name in ALLOCATING and made[name] % EVERY == 1 else line
+        tried = name in SELDOM or name in ALLOCATING and made[name] % EVERY == 1
+        yield ALLOCATING[name] + line if tried else line
 
 
 def compare_with_run(calls, program, run):
