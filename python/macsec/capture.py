@@ -2,10 +2,12 @@
 
 from __future__ import annotations
 
+import contextlib
+import errno
 import gzip
 import os
+import secrets
 import struct
-import tempfile
 import zlib
 from collections.abc import Iterable, Iterator
 from typing import BinaryIO, NamedTuple, cast
@@ -19,6 +21,8 @@ MOST_OCTETS = 262_144
 # interfaces of a section, and how many blocks without a packet can follow each other.
 MOST_BLOCK, MOST_OPTIONS, MOST_INTERFACES, MOST_WITHOUT_PACKET = 16 << 20, 1000, 4096, 1 << 16
 _PIECE = 1 << 16
+# Where a process finds its open files.
+_DESCRIPTORS = "/proc/self/fd"
 # The blocks that have a packet: obsolete, simple and enhanced.
 _PACKETS = (2, 3, 6)
 _MAGIC = {0xA1B2C3D4: 1000, 0xA1B23C4D: 1}
@@ -288,44 +292,88 @@ class PcapngStream(PcapngWriter):
 class PcapngFile(PcapngWriter):
     """A new pcapng file, which appears under its name only when `close` is called.
 
-    Until then it is a file of another name in the same folder; `discard` removes that. It can be read by its owner
-    alone, since what it holds was protected.
+    Until then it has no name, so that nothing is left of it, however the process ends. Where the system has no such
+    files, it has another name in the same folder, which `discard` removes. It can be read by its owner alone, since
+    what it holds was protected.
     """
 
     def __init__(self, path: str) -> None:
-        self._path = path
+        self._path, self._is_there = path, True
         if os.path.lexists(path):
             raise FileExistsError(f"{path} exists: name a new file")
+        folder = os.path.dirname(os.path.abspath(path))
+        self._temporary: str | None = None
         try:
-            handle, self._temporary = tempfile.mkstemp(prefix=".macsec-", dir=os.path.dirname(os.path.abspath(path)))
+            handle = _nameless_file(folder)
+            if handle is None:
+                self._temporary = os.path.join(folder, f".macsec-{secrets.token_hex(8)}")
+                handle = os.open(self._temporary, os.O_CREAT | os.O_EXCL | os.O_WRONLY | os.O_CLOEXEC, 0o600)
+            self._file = os.fdopen(handle, "wb")
+            super().__init__(self._file)
+        except BaseException as why:
+            self._remove()
+            if isinstance(why, OSError):
+                # The name that was asked for, not that of the temporary file.
+                raise OSError(why.errno, why.strerror, path) from None
+            raise
+
+    def _put(self, kind: int, body: bytes) -> None:
+        try:
+            super()._put(kind, body)
         except OSError as why:
-            # The name that was asked for, not that of the temporary file.
-            raise OSError(why.errno, why.strerror, path) from None
-        self._is_there = True
-        self._file = os.fdopen(handle, "wb")
-        super().__init__(self._file)
+            raise OSError(why.errno, why.strerror, self._path) from None
 
     def close(self) -> None:
         """Gives the file its name. A file of that name, made meanwhile, raises FileExistsError."""
         if not self._is_there:
             return
+        try:
+            self._give_name()
+        except FileExistsError:
+            raise FileExistsError(f"{self._path} exists: name a new file") from None
+        except OSError as why:
+            raise OSError(why.errno, why.strerror, self._path) from None
+        finally:
+            self.discard()
+
+    def _give_name(self) -> None:
+        if self._temporary is None:
+            self._file.flush()
+            # Python follows the link only if a descriptor is named too, which an absolute path does not need.
+            handle = self._file.fileno()
+            os.link(f"{_DESCRIPTORS}/{handle}", self._path, src_dir_fd=handle, follow_symlinks=True)
+            return
         self._file.close()
         try:
             os.link(self._temporary, self._path)
         except FileExistsError:
-            self.discard()
-            raise FileExistsError(f"{self._path} exists: name a new file") from None
+            raise
         except OSError:  # a file system without links
             os.rename(self._temporary, self._path)
-            self._is_there = False
-        self.discard()
 
     def discard(self) -> None:
         """Removes what was written, unless the file has its name."""
         if not self._is_there:
             return
-        try:
+        self._is_there = False
+        with contextlib.suppress(OSError):
             self._file.close()
-        finally:
-            os.unlink(self._temporary)
-            self._is_there = False
+        self._remove()
+
+    def _remove(self) -> None:
+        """Removes the name that the file has until it is complete."""
+        if self._temporary is not None:
+            with contextlib.suppress(FileNotFoundError):
+                os.unlink(self._temporary)
+
+
+def _nameless_file(folder: str) -> int | None:
+    """A new file in a folder, without a name and for its owner alone; None if the system has no such files there."""
+    if not hasattr(os, "O_TMPFILE") or not os.path.isdir(_DESCRIPTORS):
+        return None
+    try:
+        return os.open(folder, os.O_TMPFILE | os.O_WRONLY | os.O_CLOEXEC, 0o600)
+    except OSError as why:
+        if why.errno in (errno.EOPNOTSUPP, errno.EISDIR, errno.EINVAL):
+            return None
+        raise

@@ -7,6 +7,7 @@ import random
 import struct
 import sys
 from typing import Any
+from unittest import mock
 
 from macsec import CaptureError, capture
 
@@ -76,6 +77,12 @@ class Reading(InFolder):
 
 class Writing(InFolder):
     def test_what_is_written_is_read(self) -> None:
+        self.check_writing()
+        # On a system that has no files without a name.
+        with mock.patch.object(capture, "_nameless_file", return_value=None):
+            self.check_writing()
+
+    def check_writing(self) -> None:
         path = str(self.folder / "OUT")
         writer = capture.PcapngFile(path)
         for number in range(9):
@@ -90,9 +97,14 @@ class Writing(InFolder):
         )
         octets = (self.folder / "OUT").read_bytes()
         self.assertEqual([it[2] for it in captures.read_capture(octets)[1]], [bytes([n]) * (14 + n) for n in range(9)])
+        self.assertEqual((self.names(), os.stat(path).st_mode & 0o777), (["OUT"], 0o600))
+        os.unlink(path)
 
     def test_a_file_that_appears_meanwhile_is_kept(self) -> None:
-        writer = capture.PcapngFile(str(self.folder / "OUT"))
-        self.put("OUT", "another's")
-        self.assertRaises(FileExistsError, writer.close)
-        self.assertEqual((self.names(), (self.folder / "OUT").read_text()), (["OUT"], "another's"))
+        for made in (mock.DEFAULT, None):
+            with mock.patch.object(capture, "_nameless_file", wraps=capture._nameless_file, return_value=made):
+                writer = capture.PcapngFile(str(self.folder / "OUT"))
+                self.put("OUT", "another's")
+                self.assertRaises(FileExistsError, writer.close)
+            self.assertEqual((self.names(), (self.folder / "OUT").read_text()), (["OUT"], "another's"))
+            os.unlink(self.folder / "OUT")

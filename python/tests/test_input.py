@@ -7,6 +7,8 @@ import gzip
 import io
 import json
 import os
+import pathlib
+import resource
 import signal
 import struct
 import subprocess
@@ -274,11 +276,21 @@ class Terminal(io.StringIO):
         return True
 
 
+# macsec-decrypt where the system has no files without a name.
+NAMED = """import sys
+from macsec import capture
+from macsec.cli import decrypt
+capture._nameless_file = lambda folder: None
+sys.exit(decrypt.main())
+"""
+
+
 class Ends(InFolder):
-    def begun(self, *more: str) -> subprocess.Popen[str]:
-        """A macsec-decrypt that has opened a frame and waits for the next one."""
+    def begun(self, *more: str, named: bool = False) -> subprocess.Popen[str]:
+        """A macsec-decrypt that has made a file for the frames, with a name or without one, and waits for more."""
         os.mkfifo(self.folder / "IN")
-        words = [sys.executable, "-m", "macsec.cli.decrypt", str(self.folder / "IN"), str(self.folder / "OUT")]
+        program = ["-c", NAMED] if named else ["-m", "macsec.cli.decrypt"]
+        words = [sys.executable, *program, str(self.folder / "IN"), str(self.folder / "OUT")]
         it = subprocess.Popen([*more, *words, "--key", KEY], stdout=subprocess.PIPE, stderr=subprocess.PIPE, text=True)
         self.addCleanup(it.communicate)
         self.addCleanup(it.kill)
@@ -288,15 +300,25 @@ class Ends(InFolder):
         self.pipe.write((self.folder / "WHOLE").read_bytes())
         self.pipe.flush()
         until = time.monotonic() + 60
-        while len(self.names()) < 3 and time.monotonic() < until:
+        while not self.made(it.pid) and time.monotonic() < until:
             time.sleep(0.02)
-        self.assertEqual(len(self.names()), 3, "no temporary file")
+        self.assertTrue(self.made(it.pid), "no file for the frames")
+        self.assertEqual(len(self.names()), 3 if named else 2)
         return it
 
+    def made(self, process: int) -> list[str]:
+        """The files of the folder that a process has open and that the test did not make."""
+        found = []
+        for each in pathlib.Path(f"/proc/{process}/fd").iterdir():
+            with contextlib.suppress(FileNotFoundError):
+                found.append(os.readlink(each))
+        return [it for it in found if it.startswith(f"{self.folder}/") and it != f"{self.folder}/IN"]
+
     def test_signals_leave_nothing(self) -> None:
-        for number in (signal.SIGTERM, signal.SIGHUP, signal.SIGINT):
-            with self.subTest(number):
-                it = self.begun()
+        ends = (signal.SIGTERM, signal.SIGHUP, signal.SIGINT)
+        for number, named in [*((it, named) for it in ends for named in (False, True)), (signal.SIGKILL, False)]:
+            with self.subTest(number, named=named):
+                it = self.begun(named=named)
                 it.send_signal(number)
                 out, error = it.communicate(timeout=120)
                 self.assertEqual((it.returncode, out, error, self.names()), (-number, "", "", ["IN", "WHOLE"]))
@@ -328,6 +350,21 @@ class Ends(InFolder):
         ):
             told = main_of(decrypt.main, *words, "--key", KEY)
             self.assertEqual(told, (1, "", f"macsec-decrypt: {text}\n"))
+
+    def test_a_full_disk_is_named(self) -> None:
+        path, out = self.put("IN", protected(client_frames(20))), self.folder / "OUT"
+        most = resource.getrlimit(resource.RLIMIT_FSIZE)
+        # A limit for files fails as a full disk does.
+        resource.setrlimit(resource.RLIMIT_FSIZE, (900, most[1]))
+        try:
+            told = main_of(decrypt.main, path, out, "--key", KEY)
+        finally:
+            resource.setrlimit(resource.RLIMIT_FSIZE, most)
+        self.assertEqual((told, self.names()), ((1, "", f"macsec-decrypt: {out}: File too large\n"), ["IN"]))
+        words = [sys.executable, "-m", "macsec.cli.decrypt", path, str(out), "--key", KEY]
+        with open("/dev/full", "wb") as full:
+            it = subprocess.run(words, stdout=full, stderr=subprocess.PIPE, text=True)
+        self.assertEqual((it.returncode, it.stderr), (1, "macsec-decrypt: standard output: No space left on device\n"))
 
     def test_progress_on_a_terminal(self) -> None:
         def slow(*words: object) -> str:

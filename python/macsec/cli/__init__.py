@@ -3,11 +3,13 @@
 from __future__ import annotations
 
 import argparse
+import contextlib
 import os
 import re
 import signal
 import sys
 import textwrap
+from collections.abc import Iterator
 from types import FrameType
 from typing import BinaryIO, Callable, TextIO
 
@@ -64,9 +66,21 @@ def shown(text: str) -> str:
     return _CONTROL.sub(lambda it: f"\\x{ord(it[0]):02x}", text)
 
 
+@contextlib.contextmanager
+def _named(what: str) -> Iterator[None]:
+    """Names what was written, if an error does not."""
+    try:
+        yield
+    except OSError as why:
+        if why.filename is not None or why.errno is None:
+            raise
+        raise OSError(why.errno, why.strerror, what) from None
+
+
 def say(text: str, to: TextIO | None = None) -> None:
     """Prints a text on standard output or another stream, and nothing that a terminal takes for a command."""
-    (to or sys.stdout).write(shown(text))
+    with _named("standard error" if to is sys.stderr else "standard output"):
+        (to or sys.stdout).write(shown(text))
 
 
 def say_octets(octets: bytes) -> None:
@@ -116,7 +130,8 @@ def _status(name: str, work: Callable[[], int]) -> int:
         if sys.stdout is None:
             raise OSError("standard output is closed")
         status = work()
-        sys.stdout.flush()
+        with _named("standard output"):
+            sys.stdout.flush()
         return status
     except (UsageError, MacsecError) as why:
         warn(name, why)
