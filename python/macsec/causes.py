@@ -285,7 +285,8 @@ class Search:
             setting = self._setting(sci, an, sa)
             found = self.changes(frame, setting, None, 1) if setting else None
             if found:
-                return Found((change, Change("channel", f"SCI {sci.hex()}"), *found.changes), found.setting)
+                which = () if len(channels) == 1 else (Change("channel", f"it opens as a frame of SCI {sci.hex()}"),)
+                return Found((change, *which, *found.changes), found.setting)
         return Found((change,))
 
 
