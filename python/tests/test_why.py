@@ -46,6 +46,12 @@ class Planted(InFolder):
         other = f"A key 1 {KEYS[0].hex()} 0"
         self.assertEqual(self.causes(config(key=KEYS[1], more=other), self.link), {"key"})
         self.assertEqual(self.causes(config(key=KEYS[1]), self.link, "--key", KEYS[0].hex()), {"key"})
+        path = self.put("KEYS", f"# more\n{KEYS[2].hex()}\n{KEYS[0].hex()}\n")
+        self.assertEqual(self.causes(config(key=KEYS[1]), self.link, "--keys", path), {"key"})
+        self.assertIn(
+            "key 2 of ",
+            main_of(main, self.put("CONFIG", config(key=KEYS[1])), self.put("IN", self.link), "--keys", path)[1],
+        )
 
     def test_planted_causes(self) -> None:
         def sent(**how: object) -> list[bytes]:

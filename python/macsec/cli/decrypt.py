@@ -38,10 +38,7 @@ def key_arguments(asked: argparse.Namespace) -> list[KeyArgument]:
     """The keys of the options --key, --keys, --wpa and --config."""
     found = [key_argument(it) for it in asked.key]
     for path in asked.keys:
-        with open_octets(path) as file:
-            for number, line in enumerate(map(str.strip, lines_of(file)), 1):
-                if line and not line.startswith("#"):
-                    found.append(_key_of_file(line, f"{path}:{number}"))
+        found += keys_of_file(path)
     for path in asked.wpa:
         with open_octets(path) as file:
             found += [KeyArgument(it.octets) for it in keys_of(lines_of(file))]
@@ -54,12 +51,18 @@ def key_arguments(asked: argparse.Namespace) -> list[KeyArgument]:
     return distinct
 
 
-def _key_of_file(line: str, where: str) -> KeyArgument:
-    """The key of a line. Its faults name the file and the line, and not the option of the same form."""
-    try:
-        return key_argument(line)
-    except UsageError as why:
-        raise UsageError(str(why).replace("--key", where, 1)) from None
+def keys_of_file(path: str) -> list[KeyArgument]:
+    """The keys of a file, one on each line. A fault names the file and the line, and not the option of the same form."""
+    found = []
+    with open_octets(path) as file:
+        for number, line in enumerate(map(str.strip, lines_of(file)), 1):
+            if not line or line.startswith("#"):
+                continue
+            try:
+                found.append(key_argument(line))
+            except UsageError as why:
+                raise UsageError(str(why).replace("--key", f"{path}:{number}", 1)) from None
+    return found
 
 
 def add_key_options(parser: argparse.ArgumentParser) -> None:

@@ -23,6 +23,7 @@ from ..settings import Change, Found, Setting
 from ..summary import Summary, frames_text, ranges
 from ..trial import OPENED, key_argument, whole_number
 from . import new_parser, run, say
+from .decrypt import keys_of_file
 from .key_agreement import add_cak_options, caks_of
 from .reading import Reading
 
@@ -319,6 +320,9 @@ def parser() -> argparse.ArgumentParser:
     parser.add_argument(
         "--key", action="append", default=[], metavar="KEY[:SALT[:SSCI[:UPPER]]]", help="one more key to try, in hex"
     )
+    parser.add_argument(
+        "--keys", action="append", default=[], metavar="FILE", help="a file with such a key on each line"
+    )
     add_cak_options(parser)
     parser.add_argument("--json", action="store_true", help="one JSON object on each line")
     return parser
@@ -336,6 +340,9 @@ def _why(asked: argparse.Namespace) -> int:
     search = Search(configuration)
     for place, text in enumerate(asked.key, 1):
         search.add_key(key_argument(text), f"--key {place}")
+    for path in asked.keys:
+        for place, key in enumerate(keys_of_file(path), 1):
+            search.add_key(key, f"key {place} of {path}")
     with Reading("macsec-why", asked.capture) as reading:
         made = Run(configuration, search, reading, asked.record, caks_of(asked))
         groups = Explanation(made, search).groups
