@@ -84,6 +84,16 @@ def without_vlan(frame: bytes) -> tuple[bytes, bytes]:
     return frame[:12] + frame[12 + count :], frame[12 : 12 + count]
 
 
+def without_padding(frame: bytes, tag: SecTag) -> bytes:
+    """A frame up to its ICV. If SL says where that is, what follows is padding and is not of the frame.
+
+    >>> frame = bytes(12) + bytes.fromhex("88e50c0200000001") + bytes(2 + 16 + 22)
+    >>> len(frame), len(without_padding(frame, read_tag(frame)))
+    (60, 38)
+    """
+    return frame[: tag.end + tag.sl + ICV_OCTETS] if tag.sl else frame
+
+
 def has_fcs(frame: bytes) -> bool:
     """Are the last four octets the frame check sequence of those before?
 

@@ -7,7 +7,7 @@ from collections import OrderedDict
 from collections.abc import Sequence
 from typing import NamedTuple
 
-from .frames import ICV_OCTETS, SecTag
+from .frames import SecTag, without_padding
 from .summary import ranges
 from .trial import Key
 
@@ -29,9 +29,8 @@ def iv_of(key: Key, sci: bytes, ssci: int, pn: int) -> bytes:
 
 
 def _digest(frame: bytes, tag: SecTag) -> bytes:
-    """What distinguishes the octets of a frame. Padding after the ICV is left out: it is not of the frame."""
-    end = tag.end + tag.sl + ICV_OCTETS if tag.sl else len(frame)
-    return hashlib.blake2b(frame[:end], digest_size=16).digest()
+    """What distinguishes the octets of a frame."""
+    return hashlib.blake2b(without_padding(frame, tag), digest_size=16).digest()
 
 
 class _Use(NamedTuple):

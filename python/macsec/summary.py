@@ -6,9 +6,9 @@ import collections
 from collections import Counter
 from collections.abc import Mapping, Sequence
 
-from .frames import SecTag, ethertype, read_tag, sender_of, without_vlan
+from .frames import SecTag, ethertype, has_fcs, read_tag, sender_of, without_padding, without_vlan
 
-_HALF = 2**31
+_HALF, _FCS = 2**31, 4
 
 
 def ranges(numbers: Sequence[int], most: int = 8) -> str:
@@ -56,7 +56,8 @@ class Association:
             number += 1 << 32
         elif number > self._last + _HALF and number >= 1 << 32:
             number -= 1 << 32
-        octets = hash(frame)
+        # A frame check sequence and padding are no other octets of the frame.
+        octets = hash(without_padding(frame[:-_FCS] if has_fcs(frame) else frame, tag))
         earlier, before = self._seen.setdefault(number, (record, octets))
         if before != octets:
             self._seen[number] = record, octets

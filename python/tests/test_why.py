@@ -4,6 +4,7 @@ from __future__ import annotations
 
 import json
 import unittest
+import zlib
 
 from macsec import SecY, Suite
 from macsec.cli.why import main
@@ -130,6 +131,10 @@ class Untouched(InFolder):
         text = self.put("CONFIG", config())
         _, out, _ = main_of(main, text, self.put("IN", frames[:3] + frames[5:]))
         self.assertIn("7 frames, PN 00000001 to 00000009, 2 missing, 0 repeated: OK 7", out)
+        short = protected(client_frames(1, length=20))[0]
+        padded = short + bytes(60 - len(short))
+        again = [short, padded, padded + zlib.crc32(padded).to_bytes(4, "little")]
+        self.assertIn("2 repeated: ", main_of(main, text, self.put("IN", again))[1].splitlines()[0])
 
     def test_one_record(self) -> None:
         status, out, _ = main_of(main, CAPTURES / "one-sender.config", CAPTURES / "fcs.pcap", 1)
