@@ -52,8 +52,9 @@ class Hints:
             return
         group = self._groups.setdefault(place, _Group(frame, record, verdict, keys))
         group.count, group.keys = group.count + 1, keys
-        group.is_wide |= is_wide
-        group.is_wider |= is_wider
+        # A search that was cut short has not tried all of what it began.
+        group.is_wide |= is_wide and not is_spent
+        group.is_wider |= is_wider and not is_spent
         group.is_spent |= is_spent
 
     def lines(self, keys: Keys) -> list[str]:

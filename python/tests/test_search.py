@@ -236,6 +236,13 @@ class Hints(Decrypted):
         self.assertIn("the search was cut short", found)
         self.assertLess(time.process_time() - begun, 10)
 
+    @mock.patch("macsec.attempts._AT_FIRST", 1000)
+    def test_what_was_cut_short_is_not_said_to_be_tried(self) -> None:
+        found = self.hint(sealed(NONE, FAR), KEY)
+        self.assertIn("the usual ports of the source address", found)
+        self.assertIn("other ports, and SCIs of other addresses (SCI=KEY)", found)
+        self.assertIn("the search was cut short", found)
+
     @mock.patch("macsec.attempts._AT_FIRST", 2000)
     def test_many_keys_in_any_order(self) -> None:
         """60 rekeys under XPN, with the keys in another order: each is found, although all searches together are more
