@@ -3,7 +3,6 @@
 from __future__ import annotations
 
 import hashlib
-from collections import OrderedDict
 from collections.abc import Sequence
 from typing import NamedTuple
 
@@ -12,6 +11,7 @@ from .summary import ranges
 from .trial import Key
 
 _MOST_LINES = 8
+_DIGEST_OCTETS = 8
 
 
 def iv_of(key: Key, sci: bytes, ssci: int, pn: int) -> bytes:
@@ -28,16 +28,21 @@ def iv_of(key: Key, sci: bytes, ssci: int, pn: int) -> bytes:
     return (int.from_bytes(key.salt, "big") ^ (ssci << 64 | pn)).to_bytes(12, "big")
 
 
-def _digest(frame: bytes, tag: SecTag) -> bytes:
+def _pn_of(key: Key, iv: int) -> int:
+    """The packet number in an IV."""
+    return (iv ^ int.from_bytes(key.salt, "big")) % 2**64 if key.suite.is_extended else iv % 2**32
+
+
+def _digest(frame: bytes, tag: SecTag) -> int:
     """What distinguishes the octets of a frame."""
-    return hashlib.blake2b(without_padding(frame, tag), digest_size=16).digest()
+    return int.from_bytes(hashlib.blake2b(without_padding(frame, tag), digest_size=_DIGEST_OCTETS).digest(), "big")
 
 
 class _Use(NamedTuple):
     """A frame that opened: its record and a digest of its octets, the name of the key, SCI and packet number."""
 
     record: int
-    digest: bytes
+    digest: int
     key: str
     sci: bytes
     pn: int
@@ -79,8 +84,12 @@ class UsedIvs:
 
     def __init__(self, most: int | None = None) -> None:
         self._most = most
-        self._first: OrderedDict[tuple[bytes, bytes], _Use] = OrderedDict()
-        self._twice: dict[tuple[bytes, bytes], UsedTwice] = {}
+        # The first frame of each key and IV. A capture can have millions, so both are single numbers: the key's number
+        # and the IV; and the record, the number of the key and SCI, and the digest.
+        self._first: dict[int, int] = {}
+        self._keys: dict[bytes, int] = {}
+        self._senders: dict[tuple[Key, bytes], int] = {}
+        self._twice: dict[int, UsedTwice] = {}
 
     def add(
         self, record: int, key: Key, sci: bytes, ssci: int, pn: int, frame: bytes, tag: SecTag
@@ -88,18 +97,24 @@ class UsedIvs:
         """Adds a frame that opened under a key. `frame` is what the ICV was checked for, without VLAN tags before the
         SecTAG; `pn` is the whole packet number. Returns its IV, and the record of a frame that used it with other
         octets, if there is one so far."""
-        iv = iv_of(key, sci, ssci, pn)
-        use = _Use(record, _digest(frame, tag), key.name, sci, pn)
-        place = key.octets, iv
-        first = self._first.setdefault(place, use)
+        iv = int.from_bytes(iv_of(key, sci, ssci, pn), "big")
+        place = self._keys.setdefault(key.octets, len(self._keys)) << 96 | iv
+        sender = self._senders.setdefault((key, sci), len(self._senders))
+        digest = _digest(frame, tag)
+        first = self._first.setdefault(place, record << 96 | sender << 64 | digest)
         if self._most is not None and len(self._first) > self._most:
-            self._first.popitem(last=False)
+            del self._first[next(iter(self._first))]
         found = self._twice.get(place)
-        if found is None and first.digest == use.digest:
+        if found is None and first % 2**64 == digest:
             return None
         if found is None:
-            found = self._twice[place] = UsedTwice(first)
-        return found, found.add(use)
+            found = self._twice[place] = UsedTwice(self._use(first, iv))
+        return found, found.add(_Use(record, digest, key.name, sci, pn))
+
+    def _use(self, first: int, iv: int) -> _Use:
+        """The first frame of an IV."""
+        key, sci = list(self._senders)[first >> 64 & 0xFFFF_FFFF]
+        return _Use(first >> 96, first % 2**64, key.name, sci, _pn_of(key, iv))
 
     @property
     def twice(self) -> list[UsedTwice]:

@@ -160,7 +160,7 @@ class Runs(Case):
         frames = protected(client_frames(3))
         with mock.patch("macsec.ivs._digest", side_effect=lambda *_: next(numbers)):
             self.assertRaises(AssertionError, self.named, Link(), frames + frames[1:2], {})
-        with mock.patch("macsec.ivs._digest", return_value=b""):
+        with mock.patch("macsec.ivs._digest", return_value=0):
             other = frames + protected(client_frames(4)[3:], pn=2)
             self.assertRaises(AssertionError, self.named, Link(), other, {2: [1, 3]})
         self.named(Link(), other, {2: [1, 3]})

@@ -25,7 +25,7 @@ from .key_agreement import add_cak_options, caks_of
 from .reading import STDIN, Reading
 
 STDOUT = "-"
-# How many IVs are kept of a capture that comes by a pipe and may have no end. 100,000 take 60 MB.
+# How many IVs are kept of a capture that comes by a pipe and may have no end. 100,000 take 16 MB.
 _MOST_IVS = 200_000
 
 
