@@ -1,6 +1,6 @@
 /* `macsecd --check`: every fault of a configuration by its line, and what is legal but likely to be a slip. The library
- * judges each line for the endpoint at an endpoint of its own. Only the file and the journal's folder are read. No
- * message repeats a word of the file other than a number, an SCI or a name, so none shows a key.
+ * judges each line for the endpoint at an endpoint that nothing else uses. Only the file and the journal's folder are
+ * read. No message repeats a word of the file other than a number, an SCI or a name, so none shows a key.
  *
  * `macsec-config --lint` says the same of the lines for the endpoint, in the same words. */
 #define _GNU_SOURCE
@@ -380,7 +380,7 @@ static void check_journal(struct check *c) {
 
 /* ---- The whole ---- */
 
-/* The NAME that a path stands for, as the name of TAP. It may be none. */
+/* The NAME of a configuration at a path, as the name of TAP. It may be none. */
 static void name_tap(struct config *config, const char *name) {
     const char *slash = strrchr(name, '/');
     char copy[IF_NAMESIZE + sizeof ".conf"];

@@ -149,7 +149,7 @@ static const unsigned of_journal[] = {
     SYS_clock_gettime,
     SYS_futex,
     SYS_restart_syscall,
-    /* the journal is written anew */
+    /* the journal is written again */
     SYS_openat,
     SYS_fsync,
     SYS_flock,

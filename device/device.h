@@ -89,7 +89,7 @@ struct config {
     bool has_group;
     bool persistent; /* does a line say that TAP stays when macsecd ends? It does so unless it is transient. */
     bool transient;  /* does TAP end with macsecd? */
-    bool isolated;   /* does a line say that LINK is in a network namespace of its own? It is unless it is shared. */
+    bool isolated;   /* does a line say that LINK is in a separate network namespace? It is unless it is shared. */
     bool alone;      /* are the devices below LINK not in that namespace? */
     bool unconfined; /* does macsecd go on without Landlock? */
     bool shared;     /* is LINK in the host's network namespace? */
@@ -302,7 +302,7 @@ uint64_t names_last(const struct name *name);
 struct name *names_note(struct names *n, const macsec_record *record, uint32_t key, bool sends);
 /* Gives up the names of a key, which will not be installed again. One that came again before stays. */
 void names_give_up(struct names *n, uint32_t key);
-/* The number of the key, or each number if it is NO_KEY, stands for another key from now on. */
+/* The number of this key, or of all keys if it is NO_KEY, will be given to another key: names forget it. */
 void names_detach(struct names *n, uint32_t key);
 /* Writes what has changed to a buffer, and how long that can be. Returns its length. */
 size_t names_changes(struct names *n, uint8_t *out);
@@ -312,7 +312,8 @@ size_t names_all(struct names *n, uint8_t *out);
 size_t names_room(const struct names *n);
 /* How many names stay in it. */
 size_t names_count(const struct names *n);
-/* Writes the header and the greatest record of each name, with these records instead of those of their names. */
+/* Writes the header and the greatest record of each name. A name that one of these records has gets this record
+ * instead. */
 size_t names_copy(const struct names *n, const macsec_record *instead, size_t count, uint8_t *out);
 /* Octets are durable that one of these two calls has written. Those records of transmit associations that say something
  * new are reported. */
@@ -366,11 +367,11 @@ int numbers_folder(const struct numbers *n);
 int numbers_file(const struct numbers *n);
 /* To be called then: reports the records to the endpoint, and has the next ones written. */
 void numbers_go_on(struct numbers *n, macsec_endpoint *e);
-/* Creates the endpoint of an `end` line, beside the journal, where some records stand in place of those of their names.
- * Returns the library's status. */
+/* Creates the endpoint of an `end` line with a copy of the journal, in which these records replace the ones of the same
+ * names. Returns the library's status. */
 uint32_t numbers_configure(const struct numbers *n, macsec_endpoint *e, const char *line, size_t length,
                            const macsec_record *instead, size_t count);
-/* The same beside a journal that reserves nothing. Such an endpoint sends nothing. */
+/* The same with a journal that reserves nothing. Such an endpoint sends nothing. */
 uint32_t numbers_configure_empty(const struct numbers *n, macsec_endpoint *e, const char *line, size_t length);
 /* What was noted for the line of a key, and for its retirement. `passes`: a key agreement has brought the key or
  * retires it, so it is given up. */
@@ -388,7 +389,7 @@ void numbers_tick(struct numbers *n, macsec_endpoint *e);
 /* Saves what the receive associations of a channel have accepted, or all if `sci` is NULL: before one ends, or the
  * endpoint does. One that comes again under its key begins above that. */
 void numbers_save(struct numbers *n, macsec_endpoint *e, const uint8_t *sci);
-/* To be called when an endpoint has ended: the numbers of its keys stand for other keys from now on. */
+/* To be called when an endpoint has ended: the numbers of its keys will be given to other keys. */
 void numbers_forget(struct numbers *n);
 /* The highest packet number that a receive association has accepted, in this run or an earlier one; 0 if none. */
 uint64_t numbers_accepted(const struct numbers *n, const macsec_endpoint *e, const uint8_t sci[8], uint8_t an);
@@ -643,7 +644,7 @@ int confine_namespace(void);
  * of the journal: to be called before keys are used and the thread of the journal is started. Without Landlock it
  * fails, unless the configuration allows that. All return 0, or the exit status after a message. */
 int confine_rights(int state, bool unconfined);
-/* Only some system calls: in the thread that has the frames, and in that of the journal, which has other ones. */
+/* Only some system calls: the first for the thread that has the frames, the second for the thread of the journal. */
 int confine_calls(void);
 int confine_saver(void);
 

@@ -219,7 +219,7 @@ static bool load_lines(struct device *d, macsec_endpoint *copy, line_action acti
     return !fails && !t->full;
 }
 
-/* How many lines can be refused? 2 stands for more. */
+/* How many lines can be refused? 2 means two or more. */
 static unsigned lines_to_do(const char *lines, size_t left) {
     const char *line;
     size_t length;

@@ -39,13 +39,12 @@
  *            that it has reserved, and then drops its frames (MACSEC_FATE_NO_RESERVATION). After a failure, wait a
  *            second before the next call.
  * TORN TAIL  Records are at multiples of 64 octets. The next record overwrites what an interrupted write left.
- * LENGTH     Before a journal is longer than its limit, it is written anew with one record for each name, into a new
+ * LENGTH     Before a journal is longer than its limit, it is written again with one record for each name, into a new
  *            file that takes its place. The limit grows to twice the length of that file, if it was lower. Names of old
  *            keys stay in the journal. If they fill half of JOURNAL_MAX, nothing more can be written (EFBIG): create
  *            another journal, and install new keys.
  * RECORDS    A record is a name of 32 octets, a packet number of 8 with the most significant octet first, and a check
- * of
- *            24. The last record of a name need not be the greatest. Other octets of 64 are skipped.
+ *            of 24. The last record of a name need not be the greatest. Other octets of 64 are skipped.
  * TIME       The library compares each record with each name when it opens or rewrites a journal, and the endpoint
  *            waits for it. Of 1,024 records this took 3 ms of a processor with 2 names, and 24 ms with 512; of 4,096
  *            records with 2,048 names 350 ms (x86-64, an unproved build). So keep the limit low.
@@ -117,7 +116,7 @@ struct journal {
     int folder;
     dev_t device; /* which file it is */
     ino_t inode;
-    bool in_doubt; /* is the journal to be written anew before anything is appended? */
+    bool in_doubt; /* is the journal to be written again before anything is appended? */
     char name[NAME_MAX + 1];
     char new_name[NAME_MAX + 1];
 };
@@ -160,7 +159,7 @@ int journal_reserve(struct journal *journal, macsec_endpoint *e, uint8_t an, uin
 int journal_save(struct journal *journal, macsec_endpoint *e, const uint8_t sci[8], uint8_t an,
                  struct journal_fault *fault);
 
-/* Writes the journal anew, with one record for each name. The calls above do this when it is needed. */
+/* Writes the journal again, with one record for each name. The calls above do this when it is needed. */
 int journal_rewrite(struct journal *journal, struct journal_fault *fault);
 
 /* For a program that keeps the records itself: puts the octets of a whole journal in the place of the file, and makes

@@ -182,7 +182,7 @@ static bool is_journal(const char *name) {
     return length > suffix && strcmp(name + length - suffix, SUFFIX) == 0;
 }
 
-/* Compares with the journals of a folder, but for the own one. One that can't be read has none of this user's. */
+/* Compares with the journals of a folder, except the device's own. One that can't be read has none of this user's. */
 static int compare_folder(const struct keys *k, const char *folder) {
     DIR *entries = opendir(folder);
     const struct dirent *entry;

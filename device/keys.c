@@ -1,5 +1,5 @@
 /* The lines of the keys that an endpoint has and that are not retired. A second endpoint needs them when it takes over,
- * and no call of the library shows a key. They are in memory of their own, which is locked, is in no core file and in
+ * and no call of the library shows a key. They are in separate memory, which is locked, is in no core file and in
  * no forked child, and which is wiped as soon as a key is retired. */
 #define _GNU_SOURCE
 #include "device.h"

@@ -1,10 +1,10 @@
-/* The names in the journal, each with its records, found by a hash table. A name stands for a key of a transmit
- * association, or for a receive association under a key. The library makes the names and the records: a record has the
+/* The names in the journal, each with its records, found by a hash table. A name belongs to a key of a transmit
+ * association, or to a receive association under a key. The library makes the names and the records: a record has the
  * name, its packet number and a check.
  *
  * A mark says that a key agreement has given a key up. The library skips it, since its check is none. The names of the
  * keys that were given up last stay, so that a key which comes again soon goes on above its packet numbers. Older ones
- * leave the journal when it is written anew. */
+ * leave the journal when it is written again. */
 #include "device.h"
 #include <stdlib.h>
 #include <string.h>

@@ -9,7 +9,7 @@
 #include <string.h>
 
 /* A reservation lasts for so many seconds at the highest rate so far. The next one is asked for when half of it is
- * left, and can wait for two synchronizations: one that is under way, and its own. Where they take longer than usual,
+ * left, and can wait for two synchronizations: one that is under way, and the next. Where they take longer than usual,
  * as many seconds, more is reserved in advance: JOURNAL_AMOUNT_MIN for each SLOW-th of a second. */
 enum { LASTS = 32, SLOW = 16, SLOWEST = 30 };
 #define USUAL 0.25
@@ -24,7 +24,7 @@ enum { FORGETS = 64 };
 /* From this part of the journal on, its fill is reported: at so many percent. */
 enum { FILLED = 50 };
 
-/* The octets of the file: it is written anew when it has so many, unless its names need more. A test has fewer. */
+/* The octets of the file: it is written again when it has so many, unless its names need more. A test has fewer. */
 #ifndef NUMBERS_FILE_LENGTH
 #define NUMBERS_FILE_LENGTH ((size_t)1 << 17)
 #endif
@@ -309,7 +309,7 @@ static bool save_sa(struct numbers *n, macsec_endpoint *e, const uint8_t sci[8],
     return true;
 }
 
-/* Saves those of one channel, or of all if there is no SCI. */
+/* Saves what the receive associations of one channel have accepted, or of all channels if there is no SCI. */
 static bool save_all(struct numbers *n, macsec_endpoint *e, const uint8_t *which) {
     bool all = true;
     uint8_t sci[8];

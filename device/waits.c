@@ -9,7 +9,7 @@
 #include <sys/socket.h>
 #include <time.h>
 
-/* How many milliseconds an answer waits. A key agreement that gets none for two seconds begins anew. */
+/* How many milliseconds an answer waits. A key agreement that gets none for two seconds starts again. */
 enum { LONGEST = 1000 };
 
 static int64_t now(void) {

@@ -23,7 +23,7 @@ from house.reporting import Failed, call, until
 from macsecd_world import SALT, connected, hold, inside, let_go
 
 NOBODY = 65534
-# A node of its own, since not every system lets all users open /dev/net/tun.
+# A new node, since not every system lets all users open /dev/net/tun.
 NODE = [
     "unshare",
     "-m",
@@ -35,7 +35,7 @@ NODE = [
 
 
 class Host:
-    """A simulated host, with mount and network namespaces of its own."""
+    """A simulated host, with separate mount and network namespaces."""
 
     def __init__(self, folder: pathlib.Path, number: int, programs: pathlib.Path, source: pathlib.Path) -> None:
         self.number, self.folder, self.programs = number, folder / f"host{number}", programs

@@ -1,4 +1,4 @@
-"""The journals of a host: where they are, on which file systems, and keys that stand in two of them."""
+"""The journals of a host: where they are, on which file systems, and keys that are in two of them."""
 
 from __future__ import annotations
 
@@ -66,7 +66,7 @@ def check_keys(a: End, b: End) -> None:
     own, other = arrange(a)
     try_start(a, "an empty folder beside", other, b)
     used = own.read_bytes()
-    # Another NAME with the same configuration and a journal of its own, which has packet numbers of the key.
+    # Another NAME with the same configuration and another journal, which has packet numbers of the key.
     shutil.copy(own, other)
     text = f"key 0 has packet numbers in {other} too"
     expect(a, "a key of another journal", 2, text)

@@ -197,7 +197,7 @@ def check_last_save(world: World, sender: pathlib.Path) -> None:
 
 
 class Polls:
-    """Asks for the port over and over, in a process of its own, and notes how long the answers take."""
+    """Asks for the port over and over, in a separate process, and notes how long the answers take."""
 
     def __init__(self, end: End, interval: float) -> None:
         words = [sys.executable, str(ROOT / "device/tests/macsecd_polls.py"), end.socket, str(interval)]
@@ -272,7 +272,7 @@ def start_on_disk(a: End, slow: Slow, manager: Manager) -> None:
 def check_slow_disk(
     world: World, programs: pathlib.Path, sender: pathlib.Path, slow: Slow, seconds: int, rate: int
 ) -> None:
-    """A slow disk: no frame is lost for want of it, and nothing else waits."""
+    """A slow disk: it costs no frame, and nothing else waits."""
     world.prepare()
     a, b = world.ends
     a.program = programs / "macsecd"
@@ -287,7 +287,7 @@ def check_slow_disk(
     client.socket.close()
     lost = after["device NoReservation"] - before["device NoReservation"]
     protected = after["OutPktsEncrypted"] - before["OutPktsEncrypted"]
-    report(lost == 0, f"disk: {lost} of {sent} frames were lost for want of a reservation")
+    report(lost == 0, f"disk: {lost} of {sent} frames were lost without a reservation")
     report(protected > sent // 2, f"disk: only {protected} of {sent} frames were protected")
     report(slowest < slow.answer + polls.machine, f"disk: an answer to `port` took {1000 * slowest:.0f} ms")
     report(manager.longest < WATCHDOG, f"disk: {manager.longest:.1f} s between two reports to the service manager")
@@ -410,15 +410,15 @@ def check_given_up(world: World) -> None:
         client.carry_out(f"A key {number} {key} 0", f"A txsa 2 {number} 1 conf", "A txdel 2", f"A retire {number}")
     client.carry_out(f"open {a.sci} gcm128", f"A key 1 {keys[-20]} 0", f"A key 2 {keys[0]} 0", f"A key 3 {lasting} 0")
     answers = [client.ask(f"A txsa {an} {key} 1 conf") for an, key in ((0, 1), (1, 2), (2, 3))]
-    report(answers[0].startswith("ok pn"), f"given up: a recent key begins anew: {answers}")
+    report(answers[0].startswith("ok pn"), f"given up: a recent key begins again at 1: {answers}")
     report(answers[1] == "ok\n", f"given up: an old key has not left the journal: {answers}")
-    report(answers[2].startswith("ok pn"), f"given up: a key that came again before begins anew: {answers}")
+    report(answers[2].startswith("ok pn"), f"given up: a key that came again before begins at 1: {answers}")
     client.socket.close()
     a.stop()
     log = len(a.log())
     a.start()
     number, said = next_of(Client(a), 0), a.log()[log:]
-    report(number > 1000, f"given up: a key of the configuration begins anew, at {number}: {said}")
+    report(number > 1000, f"given up: a key of the configuration begins again, at {number}: {said}")
 
 
 # ---- Threads

@@ -133,7 +133,7 @@ def connected(path: str, seconds: int) -> socket.socket:
     return it
 
 
-# A host of its own in a network namespace: its /run and /sys are not the machine's. It ends with its standard input.
+# A separate host in a network namespace: its /run and /sys are not the machine's. It ends with its standard input.
 HOLD = "mount -t tmpfs none /run && mkdir /run/netns && mount -t sysfs none /sys && echo && exec cat"
 
 
@@ -197,7 +197,7 @@ class Namespace:
 class End(Namespace):
     """A namespace with a macsecd in it."""
 
-    isolated = False  # is LINK in a namespace of its own?
+    isolated = False  # is LINK in a separate namespace?
 
     def __init__(self, world: World, number: int) -> None:
         super().__init__(f"macsecd-{os.getpid()}-{world.folder.name}-{number}", world.folder / str(number))
@@ -228,7 +228,7 @@ class End(Namespace):
         return f"/proc/{self.holder.pid}/root/run/netns/macsec-macsec0"
 
     def isolate(self) -> None:
-        """Moves LINK into a namespace of its own, if it is to be isolated, and makes TAP."""
+        """Moves LINK into a separate namespace, if it is to be isolated, and makes TAP."""
         if not self.isolated:
             return
         if self.holder is None:

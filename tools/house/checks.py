@@ -124,7 +124,7 @@ CHECKS: list[Check] = [
     Check("controls", "sees that the checks report something wrong", "tests/program/controls", ALL, 60,
           "it is made of them", gate=""),
     Check("any-order", "sees that rt ci accepts what make run leaves", "tests/any-order", ALL, 60, None, gate=""),
-    Check("isolated", "runs the device with LINK in a network namespace of its own", "device/tests/isolated",
+    Check("isolated", "runs the device with LINK in a separate network namespace", "device/tests/isolated",
           ROOT_USER, 50, "the check isolated-controls", gate="--short --seed {seed}", hand="--seed {seed}"),
     Check("two-hosts", "runs the commands of docs/TWO-HOSTS.md at two simulated hosts", "device/tests/two-hosts", ROOT_USER,
           12, "pages with another command", gate=""),

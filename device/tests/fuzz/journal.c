@@ -1,4 +1,4 @@
-/* The journal (device/journal.c and names.c). An input is the file. What is read of it is written anew and read again:
+/* The journal (device/journal.c and names.c). An input is the file. What is read of it is written and read again:
  * each name must have the same greatest packet number then, and be given up or not as before. */
 #include "journal.h"
 #include "fuzz.h"
@@ -31,7 +31,7 @@ static bool read_file(struct journal *journal, struct names *names) {
     return status == MACSEC_OK;
 }
 
-/* Writes the journal anew with the names that stay in it. */
+/* Writes the journal again with the names that stay in it. */
 static void write_anew(struct journal *journal, struct names *names) {
     struct journal_fault fault;
     size_t room = names_room(names), length;
