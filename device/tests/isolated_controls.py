@@ -62,7 +62,7 @@ CONTROLS: dict[str, list[Control]] = {
         Control("`device shared`", None, ("shared",), ("left by another device", "sendto", "sendmmsg", "join")),
         Control(
             "no restriction of files",
-            ("confine.c", "result = restrict_files(state, unconfined);", "(void)restrict_files;"),
+            ("confine.c", "result == 0 ? restrict_files(state, unconfined) : result;", "(void)restrict_files, result;"),
             (),
             ("openat 0", "openat 1", "unlinkat 0", "unlinkat 1"),
         ),

@@ -4,8 +4,10 @@ from __future__ import annotations
 
 import pathlib
 import shutil
+from collections.abc import Iterable
 
-from house.reporting import Failed
+from house import ROOT
+from house.reporting import Failed, report
 
 # The name of a check, and its mistakes: a file of device/, a text that is there once, and what is written for it.
 # fmt: off
@@ -116,13 +118,21 @@ CONTROLS: dict[str, list[tuple[str, str, str]]] = {
                ("keys.c", "mlock(keys, octets) != 0", "false"),
                ("config.c", "        explicit_bzero(c->text, c->room);\n", "        c->text[0] = 0;\n"),
                ("confine.c", "syscall(SYS_capset, &header, none) != 0", "0"),
-               ("confine.c", "result = restrict_files(state, run, unconfined);", "(void)restrict_files;")],
+               ("confine.c", "result == 0 ? restrict_files(state, unconfined) : result;",
+                "(void)restrict_files, result;")],
     "soak": [("control.c", "    d->counts.requests++;\n",
               "    d->counts.requests++;\n    answer[0] = *(char *)memset(__builtin_malloc(4096), 1, 4096);\n"),
              ("frames.c", "return got.delivered ?", "return got.delivered && d->counts.link_in % 1000 ?")],
     "hostile": [("control.c", "static char request[REQUEST + 1]", "static char request[64]")],
 }
 # fmt: on
+
+
+def check_edits(edits: Iterable[tuple[str, str, str]]) -> None:
+    """Each mistake can be planted: its text is in the sources once. Else it would be noticed only when all are."""
+    for name, old, _ in edits:
+        count = (ROOT / "device" / name).read_text().count(old)
+        report(count == 1, f"a mistake can't be planted: {name} has {old!r} {count} times")
 
 
 def altered(folder: pathlib.Path, edit: tuple[str, str, str], source: pathlib.Path) -> pathlib.Path:

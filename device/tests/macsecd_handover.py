@@ -246,75 +246,80 @@ def check_numbers(a: End) -> None:
     a.carry_out("A txon 0")
 
 
+def tables_of(end: End) -> str:
+    """The associations, and how many keys the endpoint can still take."""
+    shown = json.loads(end.ask("json"))
+    sas = [(sa["an"], sa["key"], sa["on"]) for sa in shown["transmit"]]
+    rx = [(sc["sci"], [(sa["an"], sa["key"], sa["on"]) for sa in sc["associations"]]) for sc in shown["receive"]]
+    return f"{sas} {rx} {shown['keys_left']}"
+
+
+def check_refused_loads(a: End, load: Callable[..., str], good: list[str]) -> None:
+    """Good lines and a wrong one, at the beginning, between them and at the end: nothing changes."""
+    before, log, number = tables_of(a), a.log(), next_of(a)
+    for wrong, answer in (
+        ("A txon 3", "refused 13 NoSa"),
+        ("A txonn 0", "fault Word"),
+        ("B txon 0", "fault Ends"),
+        (f"A key 1 {secrets.token_hex(16)} 0", "refused 3 KeyNumberUsed"),
+        ("A protect off", "fault NotAllowed"),
+        ("port on", "fault Word"),
+        ("A counters", "fault Ends"),
+        ("x" * 20001, "fault LineLong"),
+    ):
+        for place in (0, 4, len(good)):
+            got = load(*good[:place], wrong, *good[place:])
+            report(got == f"{place + 1} {answer}\n", f"load with {wrong[:30]!r} at {place}: {got!r}")
+            after = tables_of(a)
+            report(after == before, f"load with {wrong[:30]!r} at {place}: {before} became {after}")
+    report(next_of(a) < number + 1000 and ping(a) == 3, "a refused `load` has changed the endpoint")
+    report(a.log() == log, f"messages for a refused `load`: {a.log()[len(log):]}")
+
+
+def check_small_loads(a: End, load: Callable[..., str]) -> None:
+    """Lines that need no second endpoint: they cost no packet numbers."""
+    number = next_of(a)
+    for _ in range(50):
+        report(load("#") == "ok\n" == load(""), "`load` without a command")
+        report(load("A txon 0") == "1 ok\n" == load("#", "A txonn 0").replace("2 fault Word", "1 ok"), "one line")
+        report(load("A txon 0", "", "A txon 0") == "1 ok\n3 ok\n", "`load` of what is so already")
+        report(load("A txoff 0", "#" + "x" * 20000) == "2 fault LineLong\n", "a comment that is too long")
+    report(next_of(a) < number + 30, f"`load` has skipped numbers from {number} to {next_of(a)}")
+    report(ping(a) == 3, "no replies after `load`")
+    report(load("y" * 140000) == "fault LoadLong\n", "`load` that is too long")
+
+
+def check_good_load(a: End, load: Callable[..., str], good: list[str]) -> None:
+    """All lines are carried out, and the counters go on."""
+    peer, before, counters = a.world.ends[2 - a.number], tables_of(a), a.counters()
+    got = load(*good)
+    answers = "".join(f"{n} ok\n" for n, line in enumerate(good, 1) if line.startswith("A "))
+    report(got == answers and tables_of(a) != before, f"load: {got!r}")
+    report(
+        a.ask("numbers").split()[:6:5] == ["tx", "conf"] and a.ask("numbers tx 0") == "fault NotFound\n",
+        f"after `load`: {a.ask('numbers')}",
+    )
+    fell = [name for name, value in counters.items() if a.counters().get(name, value) < value]
+    report(not fell, f"counters have fallen: {fell}")
+    report(f"{peer.sci} 0 InPktsOK" not in a.counters(), "an association that was deleted still counts")
+
+
 def check_load(a: End, macsecctl: list[str]) -> None:
     """Lines that are all carried out, or none is."""
-    peer = a.world.ends[2 - a.number]
+    peer, sci = a.world.ends[2 - a.number], "11" * 8
+    key, other = secrets.token_hex(16), secrets.token_hex(16)
+    good = [f"A key 2 {key} 0", "# a comment", "", "A txsa 1 2 1 conf", f"A rxsc {sci}", f"A rxsa {sci} 0 2 1"]
+    good += [f"A rxdel {peer.sci} 0", "A txdel 0", "A retire 0", "A protect on"]
     with contextlib.closing(connected(a.socket, 5)) as it:
 
         def load(*lines: str) -> str:
             it.send("\n".join(["load", *lines]).encode())
             return it.recv(1 << 20).decode()
 
-        def state() -> str:
-            shown = json.loads(a.ask("json"))
-            sas = [(sa["an"], sa["key"], sa["on"]) for sa in shown["transmit"]]
-            rx = [
-                (sc["sci"], [(sa["an"], sa["key"], sa["on"]) for sa in sc["associations"]]) for sc in shown["receive"]
-            ]
-            return f"{sas} {rx} {shown['keys_left']}"
-
-        key = [secrets.token_hex(16) for _ in range(4)]
-        good = [
-            f"A key 2 {key[0]} 0",
-            "# a comment",
-            "",
-            "A txsa 1 2 1 conf",
-            f"A rxsc {'11' * 8}",
-            f"A rxsa {'11' * 8} 0 2 1",
-            f"A rxdel {peer.sci} 0",
-            "A txdel 0",
-            "A retire 0",
-            "A protect on",
-        ]
-        before, log = state(), a.log()
-        number = next_of(a)
-        for wrong, answer in (
-            ("A txon 3", "refused 13 NoSa"),
-            ("A txonn 0", "fault Word"),
-            ("B txon 0", "fault Ends"),
-            (f"A key 1 {key[1]} 0", "refused 3 KeyNumberUsed"),
-            ("A protect off", "fault NotAllowed"),
-            ("port on", "fault Word"),
-            ("A counters", "fault Ends"),
-            ("x" * 20001, "fault LineLong"),
-        ):
-            for place in (0, 4, len(good)):
-                got = load(*good[:place], wrong, *good[place:])
-                report(got == f"{place + 1} {answer}\n", f"load with {wrong[:30]!r} at {place}: {got!r}")
-                report(state() == before, f"load with {wrong[:30]!r} at {place}: {before} became {state()}")
-        report(next_of(a) < number + 1000 and ping(a) == 3, "a refused `load` has changed the endpoint")
-        report(a.log() == log, f"messages for a refused `load`: {a.log()[len(log):]}")
-        number = next_of(a)
-        for _ in range(50):
-            report(load("#") == "ok\n" == load(""), "`load` without a command")
-            report(load("A txon 0") == "1 ok\n" == load("#", "A txonn 0").replace("2 fault Word", "1 ok"), "one line")
-            report(load("A txon 0", "", "A txon 0") == "1 ok\n3 ok\n", "`load` of what is so already")
-        report(load("A txoff 0", "#" + "x" * 20000) == "2 fault LineLong\n", "a comment that is too long")
-        report(next_of(a) < number + 30, f"`load` has skipped numbers from {number} to {next_of(a)}")
-        report(ping(a) == 3, "no replies after `load`")
-        report(load("y" * 140000) == "fault LoadLong\n", "`load` that is too long")
-        counters = a.counters()
-        got = load(*good)
-        answers = "".join(f"{n} ok\n" for n in (1, 4, 5, 6, 7, 8, 9, 10))
-        report(got == answers and state() != before, f"load: {got!r}")
-        report(
-            a.ask("numbers").split()[:6:5] == ["tx", "conf"] and a.ask("numbers tx 0") == "fault NotFound\n",
-            f"after `load`: {a.ask('numbers')}",
-        )
-        fell = [name for name, value in counters.items() if a.counters().get(name, value) < value]
-        report(not fell, f"counters have fallen: {fell}")
-        report(f"{peer.sci} 0 InPktsOK" not in a.counters(), "an association that was deleted still counts")
-        check_number_again(a, load, key[3])
+        check_refused_loads(a, load, good)
+        check_small_loads(a, load)
+        check_good_load(a, load, good)
+        check_number_again(a, load, other)
     check_macsecctl(a, macsecctl)
 
 

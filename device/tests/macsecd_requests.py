@@ -207,51 +207,54 @@ def has_carrier(end: End) -> bool:
     return "NO-CARRIER" not in end.ip("link", "show", "macsec0")
 
 
+def random_line(rng: random.Random) -> str:
+    """A line for the endpoint, of a few keys, associations and channels."""
+    an, key, sci = rng.randrange(4), rng.randrange(6), rng.choice([f"{'22' * 8}", f"{'33' * 8}"])
+    return rng.choice(
+        [
+            f"A key {key} {rng.randbytes(16).hex()} 0",
+            f"A key {key} {rng.randbytes(32).hex()} 0 gcm256",
+            f"A retire {key}",
+            f"A txsa {an} {key} 1 conf",
+            f"A txon {an}",
+            f"A txoff {an}",
+            f"A txdel {an}",
+            f"A rxsc {sci}",
+            f"A rxscdel {sci}",
+            f"A rxsa {sci} {an} {key} 1",
+            f"A rxon {sci} {an}",
+            f"A rxlow {sci} {an} {rng.randrange(1 << 32):x}",
+            f"A rxdel {sci} {an}",
+            "#",
+            "",
+            "A",
+            "A tag auto",
+        ]
+    )
+
+
+def random_request(end: End, rng: random.Random) -> str:
+    """A line, or a request of the device."""
+    if rng.random() < 0.7:
+        return random_line(rng)
+    return rng.choice(
+        [
+            f"open {end.sci} gcm128",
+            f"open {end.sci} gcm256 auto",
+            "close",
+            f"port {rng.choice(['on', 'off'])}",
+            "json",
+            "numbers",
+            "metrics",
+            "\n".join(["load", *(random_line(rng) for _ in range(rng.randrange(5)))]),
+        ]
+    )
+
+
 def make_sequence(end: End, rng: random.Random, count: int) -> None:
     """Requests in any order: endpoints, keys, associations, and lines at once. Each has to have an answer."""
-    scis, bit = [f"{'22' * 8}", f"{'33' * 8}"], ["on", "off"]
-
-    def line() -> str:
-        an, key, sci = rng.randrange(4), rng.randrange(6), rng.choice(scis)
-        return rng.choice(
-            [
-                f"A key {key} {rng.randbytes(16).hex()} 0",
-                f"A key {key} {rng.randbytes(32).hex()} 0 gcm256",
-                f"A retire {key}",
-                f"A txsa {an} {key} 1 conf",
-                f"A txon {an}",
-                f"A txoff {an}",
-                f"A txdel {an}",
-                f"A rxsc {sci}",
-                f"A rxscdel {sci}",
-                f"A rxsa {sci} {an} {key} 1",
-                f"A rxon {sci} {an}",
-                f"A rxlow {sci} {an} {rng.randrange(1 << 32):x}",
-                f"A rxdel {sci} {an}",
-                "#",
-                "",
-                "A",
-                "A tag auto",
-            ]
-        )
-
     for _ in range(count):
-        request = (
-            line()
-            if rng.random() < 0.7
-            else rng.choice(
-                [
-                    f"open {end.sci} gcm128",
-                    f"open {end.sci} gcm256 auto",
-                    "close",
-                    f"port {rng.choice(bit)}",
-                    "json",
-                    "numbers",
-                    "metrics",
-                    "\n".join(["load", *(line() for _ in range(rng.randrange(5)))]),
-                ]
-            )
-        )
+        request = random_request(end, rng)
         report(end.ask(request or "#") != "", f"no answer to {request!r}")
 
 
