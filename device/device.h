@@ -148,7 +148,7 @@ struct counts {
     uint64_t no_reservation; /* frames of TAP that were dropped: their packet numbers are not reserved */
     uint64_t journal_failed; /* failures to write to the journal */
     uint64_t requests;       /* requests at the control socket */
-    uint64_t link_floods;    /* times that the system dropped frames without MACsec's EtherType, for up to a second */
+    uint64_t link_floods;    /* times that the system dropped a flood of LINK, for up to a second */
 };
 
 enum { COUNT_OF_COUNTS = sizeof(struct counts) / sizeof(uint64_t) };
@@ -166,8 +166,6 @@ struct link {
     uint8_t address[6];
     bool promiscuous;
     uint64_t unreadable; /* frames that the system can't describe, since they were last counted */
-    unsigned full;       /* batches one after another that are full of frames without MACsec's EtherType */
-    bool filtered;       /* does the system drop such frames? */
     char name[IF_NAMESIZE];
 };
 
@@ -201,13 +199,21 @@ unsigned link_waiting(void);
 enum outcome link_flush(struct link *l, struct counts *c);
 /* Adds the frames that LINK's socket has lost since the last call. */
 void link_count_lost(struct link *l, struct counts *c);
-/* If frames without MACsec's EtherType come faster than they are read, has the system drop them, before it copies them.
- * To be called when the endpoint would drop them too. */
-void link_stop_flood(struct link *l, struct counts *c);
-/* To be called each second: reads them again. */
-void link_look_again(struct link *l);
 /* Makes LINK pass frames to any address. */
 void link_make_promiscuous(struct link *l);
+
+/* ---- floods.c: frames of LINK that come faster than they are read, and that the endpoint would drop ---- */
+
+struct floods {
+    unsigned batches; /* one after another that are full of frames without a SecTAG, or with an SCI of no channel */
+    bool filtered;    /* does the system drop such frames? */
+};
+
+/* To be called with each batch of frames: if they come faster than they are read, has the system drop them, before it
+ * copies them. */
+void floods_look(struct device *d, const struct unfinished frames[BATCH], unsigned count);
+/* Reads all frames again: to be called each second, and when the endpoint may have other channels or options. */
+void floods_end(struct device *d);
 
 /* ---- segments.c: frames of LINK that the system has not completed ---- */
 
@@ -666,6 +672,7 @@ struct device {
     struct counts counts;
     struct history history;
     struct link link;
+    struct floods floods;
     struct tap tap;
     struct life life;
     struct control control;

@@ -11,6 +11,7 @@ enum { LINE_LONGEST = 20000 };
  * line does not come again once it is retired. */
 static void note(struct device *d, const struct words *w, bool passes) {
     uint64_t key;
+    floods_end(d);
     keys_note(w);
     totals_note(w);
     if (words_is(w, 0, "A") && words_number(w, 2, &key)) {
@@ -32,6 +33,7 @@ bool endpoint_is_open(const struct device *d) {
 
 void endpoint_close(struct device *d) {
     port_set(d, false);
+    floods_end(d);
     numbers_save(d->numbers, d->endpoint, NULL);
     numbers_forget(d->numbers);
     macsec_free(d->endpoint);

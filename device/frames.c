@@ -64,18 +64,11 @@ static enum outcome receive_one(struct device *d, const struct frame *frame) {
     return got.delivered ? deliver(d, &got) : DONE;
 }
 
-/* Does the endpoint drop each frame that is not protected? */
-static bool is_strict(const struct device *d) {
-    macsec_options options;
-    return macsec_get_options(d->endpoint, &options) == MACSEC_OK && options.mode == MACSEC_MODE_STRICT;
-}
-
 enum outcome frames_from_link(struct device *d) {
     struct unfinished frames[BATCH];
     unsigned count;
     enum outcome outcome = link_read(&d->link, frames, &count);
-    if (d->link.full > 0 && is_strict(d))
-        link_stop_flood(&d->link, &d->counts);
+    floods_look(d, frames, count);
     for (unsigned i = 0; i < count; i++) {
         struct segments s;
         struct frame frame;

@@ -3,7 +3,6 @@
 #include "device.h"
 #include <arpa/inet.h>
 #include <errno.h>
-#include <linux/filter.h>
 #include <linux/if_packet.h>
 #include <linux/virtio_net.h>
 #include <net/ethernet.h>
@@ -194,15 +193,6 @@ static void prepare(struct mmsghdr headers[BATCH], struct iovec parts[BATCH][2])
     }
 }
 
-/* Is the batch full, and most of it without MACsec's EtherType? */
-static bool is_flood(const struct unfinished frames[BATCH], unsigned count) {
-    unsigned without = 0;
-    for (unsigned i = 0; i < count; i++)
-        without +=
-            frames[i].length < TAG_AT + 2 || frames[i].octets[TAG_AT] != 0x88 || frames[i].octets[TAG_AT + 1] != 0xe5;
-    return count == BATCH && without > BATCH / 2;
-}
-
 enum outcome link_read(struct link *l, struct unfinished frames[BATCH], unsigned *count) {
     struct mmsghdr headers[BATCH];
     struct iovec parts[BATCH][2];
@@ -219,36 +209,7 @@ enum outcome link_read(struct link *l, struct unfinished frames[BATCH], unsigned
     for (int i = 0; i < got; i++)
         frames[i] = frame_of(&received[i], headers[i].msg_len - sizeof received[i].about, &headers[i].msg_hdr);
     *count = (unsigned)got;
-    l->full = is_flood(frames, *count) ? l->full + 1 : 0;
     return DONE;
-}
-
-/* ---- A flood of frames without protection ---- */
-
-/* So many batches of such frames, one after another, come faster than they can be read. The socket has space for ten
- * times as many. */
-enum { FLOOD = 8 };
-
-void link_stop_flood(struct link *l, struct counts *c) {
-    static struct sock_filter program[] = {
-        BPF_STMT(BPF_LD | BPF_H | BPF_ABS, TAG_AT), /* the system has taken a VLAN tag out */
-        BPF_JUMP(BPF_JMP | BPF_JEQ | BPF_K, 0x88e5, 0, 1),
-        BPF_STMT(BPF_RET | BPF_K, UINT32_MAX),
-        BPF_STMT(BPF_RET | BPF_K, 0),
-    };
-    const struct sock_fprog filter = { sizeof program / sizeof program[0], program };
-    if (l->full < FLOOD || l->filtered ||
-        setsockopt(l->socket, SOL_SOCKET, SO_ATTACH_FILTER, &filter, sizeof filter) != 0)
-        return;
-    l->filtered = true;
-    c->link_floods++;
-}
-
-void link_look_again(struct link *l) {
-    int none = 0;
-    if (l->filtered && setsockopt(l->socket, SOL_SOCKET, SO_DETACH_FILTER, &none, sizeof none) == 0)
-        l->filtered = false;
-    l->full = 0;
 }
 
 void link_count_lost(struct link *l, struct counts *c) {

@@ -119,7 +119,7 @@ static int on_clock(struct device *d) {
         return GOES_ON;
     numbers_tick(d->numbers, d->endpoint);
     link_count_lost(&d->link, &d->counts);
-    link_look_again(&d->link);
+    floods_end(d);
     port_tick(d);
     service_notify("WATCHDOG=1");
     return life_tick(d) ? GOES_ON : ENDS_FAILED;

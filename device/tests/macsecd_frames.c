@@ -1,8 +1,10 @@
-/* Sends frames at a rate, for the checks `replays` and `disk` of the test macsecd.
+/* Sends frames at a rate, for the checks `replays`, `disk` and `flood` of the test macsecd.
  *
  *     macsecd_frames sealed DEVICE KEY FIRST COUNT RATE AN    frames of 64 channels under one key, which are sealed
  *                                                             here: packet numbers from FIRST on, each by all channels
  *     macsecd_frames plain DEVICE COUNT RATE                  frames of a client
+ *     macsecd_frames forged DEVICE SCI LENGTH COUNT RATE      frames of so many octets with this SCI, association 0, a
+ *                                                             high packet number, and an ICV of zeros
  *
  * The SCI of channel C is 0200000001 C 0001. The same arguments give the same frames, so that they can stand for ones
  * that were recorded. It prints how many frames were sent, and how many the device did not take. */
@@ -18,6 +20,9 @@
 #include <unistd.h>
 
 enum { HEADER = 12, TAG = 16, DATA = 46, ICV = 16, CHANNELS = 64, LENGTH = HEADER + TAG + DATA + ICV };
+
+/* The octets of the longest forged frame, and how many equal frames one call sends. */
+enum { LONGEST = 9216, BATCH = 64 };
 
 static const uint8_t addresses[HEADER] = { 0xff, 0xff, 0xff, 0xff, 0xff, 0xff, 2, 0, 0, 0, 0, 9 };
 static unsigned long sent, refused;
@@ -98,18 +103,51 @@ static void send_sealed(char **words, const struct timespec *began) {
         }
 }
 
+/* Gives the device so many equal frames. */
+static void give_equal(int file, uint8_t *frame, size_t length, unsigned count) {
+    struct mmsghdr headers[BATCH];
+    struct iovec part = { frame, length };
+    memset(headers, 0, sizeof headers);
+    for (unsigned i = 0; i < count; i++) {
+        headers[i].msg_hdr.msg_iov = &part;
+        headers[i].msg_hdr.msg_iovlen = 1;
+    }
+    for (unsigned at = 0; at < count;) {
+        int taken = sendmmsg(file, headers + at, count - at, 0);
+        sent += taken > 0 ? (unsigned)taken : 0;
+        refused += taken <= 0;
+        at += taken > 0 ? (unsigned)taken : 1;
+    }
+}
+
+static void send_equal(const char *device, uint8_t *frame, size_t length, char **words, const struct timespec *began) {
+    unsigned long count = strtoul(words[0], NULL, 10), rate = strtoul(words[1], NULL, 10);
+    int file = open_device(device);
+    for (unsigned long i = 0; i < count; i += BATCH) {
+        wait_for(began, i, rate);
+        give_equal(file, frame, length, count - i < BATCH ? (unsigned)(count - i) : BATCH);
+    }
+}
+
 static void send_plain(char **words, const struct timespec *began) {
     uint8_t frame[HEADER + DATA + 2] = { 0 };
-    unsigned long count = strtoul(words[1], NULL, 10), rate = strtoul(words[2], NULL, 10);
-    int file = open_device(words[0]);
     memcpy(frame, addresses, HEADER);
     frame[HEADER] = 0x88;
     frame[HEADER + 1] = 0xb5;
-    for (unsigned long i = 0; i < count; i++) {
-        if (i % 16 == 0)
-            wait_for(began, i, rate);
-        give(file, frame, sizeof frame);
-    }
+    send_equal(words[0], frame, sizeof frame, words + 1, began);
+}
+
+static void send_forged(char **words, const struct timespec *began) {
+    static uint8_t frame[LONGEST];
+    unsigned long length = strtoul(words[2], NULL, 10), sci = strtoul(words[1], NULL, 16);
+    const uint8_t tag[TAG - 8] = { 0x88, 0xe5, 0x2c, 0, 0xc0 };
+    if (length < LENGTH + 2 || length > LONGEST)
+        exit(2);
+    memcpy(frame, addresses, HEADER);
+    memcpy(frame + HEADER, tag, sizeof tag);
+    for (int i = 0; i < 8; i++)
+        frame[HEADER + TAG - 1 - i] = (uint8_t)(sci >> 8 * i);
+    send_equal(words[0], frame, length, words + 3, began);
 }
 
 int main(int count, char **words) {
@@ -119,6 +157,8 @@ int main(int count, char **words) {
         send_sealed(words + 2, &began);
     else if (count == 5 && strcmp(words[1], "plain") == 0)
         send_plain(words + 2, &began);
+    else if (count == 7 && strcmp(words[1], "forged") == 0)
+        send_forged(words + 2, &began);
     else
         return 2;
     return printf("%lu %lu\n", sent, refused) < 0;

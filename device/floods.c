@@ -1,0 +1,121 @@
+/* Floods of LINK: frames that the endpoint drops unopened come faster than macsecd reads them. Then the system drops
+ * them before it copies them, so that the other frames get through. No counter of the endpoint has them. So this begins
+ * only in a flood, while the endpoint is strict, and ends after a second, and when a line may have changed the
+ * endpoint. */
+#define _GNU_SOURCE
+#include "device.h"
+#include <linux/filter.h>
+#include <string.h>
+#include <sys/socket.h>
+
+/* So many batches of such frames, one after another, come faster than they can be read. The socket has space for ten
+ * times as many. */
+enum { FLOOD = 8 };
+
+/* Where a frame has its EtherType, the TCI of a SecTAG with SC, which says that there is an SCI, and this SCI. */
+enum { TYPE_AT = 12, TYPE = 0x88e5, TCI_AT = 14, SC = 0x20, SCI_AT = 20, SCI = 8 };
+
+/* Instructions of the program: before the channels, of a channel, and after them. */
+enum { BEFORE = 12, EACH = 5, AFTER = 1, PROGRAM = BEFORE + EACH * MACSEC_RX_CHANNEL_COUNT + AFTER };
+
+/* The SCIs of the receive channels. */
+struct channels {
+    uint8_t sci[MACSEC_RX_CHANNEL_COUNT][SCI];
+    unsigned count;
+};
+
+static void find_channels(const struct device *d, struct channels *c) {
+    c->count = 0;
+    while (c->count < MACSEC_RX_CHANNEL_COUNT && macsec_get_rx_sc(d->endpoint, c->count, c->sci[c->count]) == MACSEC_OK)
+        c->count++;
+}
+
+/* Does the endpoint drop each frame that has no SecTAG, or an SCI of no channel? */
+static bool is_strict(const struct device *d) {
+    macsec_options options;
+    return macsec_get_options(d->endpoint, &options) == MACSEC_OK && options.mode == MACSEC_MODE_STRICT;
+}
+
+/* Is it such a frame? A VLAN tag is in it again, and the endpoint looks for no SecTAG after that. */
+static bool is_useless(const struct channels *c, const struct unfinished *frame) {
+    const uint8_t *at = frame->octets;
+    if (frame->length <= TCI_AT || (at[TYPE_AT] << 8 | at[TYPE_AT + 1]) != TYPE)
+        return true;
+    if ((at[TCI_AT] & SC) == 0)
+        return false;
+    for (unsigned i = 0; i < c->count && frame->length >= SCI_AT + SCI; i++)
+        if (memcmp(at + SCI_AT, c->sci[i], SCI) == 0)
+            return false;
+    return true;
+}
+
+/* ---- The filter ---- */
+
+static uint32_t word(const uint8_t *octets) {
+    return (uint32_t)octets[0] << 24 | (uint32_t)octets[1] << 16 | (uint32_t)octets[2] << 8 | octets[3];
+}
+
+static struct sock_filter *put(struct sock_filter *at, unsigned code, uint32_t value) {
+    *at = (struct sock_filter)BPF_STMT((uint16_t)code, value);
+    return at + 1;
+}
+
+/* Skips so many instructions if the value is equal, and so many if not. */
+static struct sock_filter *put_test(struct sock_filter *at, unsigned test, uint32_t value, uint8_t equal,
+                                    uint8_t other) {
+    *at = (struct sock_filter)BPF_JUMP((uint16_t)(BPF_JMP | test | BPF_K), value, equal, other);
+    return at + 1;
+}
+
+/* Makes a program that drops what is_useless finds. A frame that is too short for a value which it loads is dropped. */
+static unsigned short make_program(const struct channels *c, struct sock_filter program[PROGRAM]) {
+    struct sock_filter *at = program;
+    at = put(at, BPF_LD | BPF_B | BPF_ABS, (uint32_t)(SKF_AD_OFF + SKF_AD_VLAN_TAG_PRESENT));
+    at = put_test(at, BPF_JEQ, 0, 0, 2);
+    at = put(at, BPF_LD | BPF_H | BPF_ABS, TYPE_AT);
+    at = put_test(at, BPF_JEQ, TYPE, 1, 0);
+    at = put(at, BPF_RET | BPF_K, 0);
+    at = put(at, BPF_LD | BPF_B | BPF_ABS, TCI_AT);
+    at = put_test(at, BPF_JSET, SC, 1, 0);
+    at = put(at, BPF_RET | BPF_K, UINT32_MAX);
+    for (unsigned half = 0; half < 2; half++) {
+        at = put(at, BPF_LD | BPF_W | BPF_ABS, SCI_AT + 4 * half);
+        at = put(at, BPF_ST, half);
+    }
+    for (unsigned i = 0; i < c->count; i++) {
+        at = put(at, BPF_LD | BPF_MEM, 0);
+        at = put_test(at, BPF_JEQ, word(c->sci[i]), 0, 3);
+        at = put(at, BPF_LD | BPF_MEM, 1);
+        at = put_test(at, BPF_JEQ, word(c->sci[i] + 4), 0, 1);
+        at = put(at, BPF_RET | BPF_K, UINT32_MAX);
+    }
+    at = put(at, BPF_RET | BPF_K, 0);
+    return (unsigned short)(at - program);
+}
+
+void floods_look(struct device *d, const struct unfinished frames[BATCH], unsigned count) {
+    struct sock_filter program[PROGRAM];
+    struct sock_fprog filter = { 0, program };
+    struct channels c;
+    unsigned useless = 0;
+    if (count == BATCH && is_strict(d)) {
+        find_channels(d, &c);
+        for (unsigned i = 0; i < count; i++)
+            useless += is_useless(&c, &frames[i]);
+    }
+    d->floods.batches = useless > BATCH / 2 ? d->floods.batches + 1 : 0;
+    if (d->floods.batches < FLOOD || d->floods.filtered)
+        return;
+    filter.len = make_program(&c, program);
+    if (setsockopt(d->link.socket, SOL_SOCKET, SO_ATTACH_FILTER, &filter, sizeof filter) != 0)
+        return;
+    d->floods.filtered = true;
+    d->counts.link_floods++;
+}
+
+void floods_end(struct device *d) {
+    int none = 0;
+    if (d->floods.filtered && setsockopt(d->link.socket, SOL_SOCKET, SO_DETACH_FILTER, &none, sizeof none) == 0)
+        d->floods.filtered = false;
+    d->floods.batches = 0;
+}
