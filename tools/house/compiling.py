@@ -4,6 +4,7 @@ from __future__ import annotations
 
 import pathlib
 import re
+import shutil
 import subprocess
 import sys
 from typing import Callable
@@ -25,6 +26,20 @@ def run(words: list[str], environment: dict[str, str] | None = None) -> str:
     if ended.returncode or ": false" in ended.stdout:
         sys.exit(f"{' '.join(words)} ended with status {ended.returncode}: {ended.stderr[-300:]}")
     return ended.stderr
+
+
+def altered_library(room: pathlib.Path, archive: pathlib.Path, file: str, old: str, new: str) -> pathlib.Path:
+    """A library for C, made in a new folder of the archive of its crate, in which one text of a file of tools/library is
+    another one."""
+    shutil.copytree(ROOT / "tools/library", room / "tools/library")
+    shutil.copytree(ROOT / "include", room / "include")
+    shutil.copy(ROOT / "tools/merged-library", room / "tools")
+    path = room / "tools/library" / file
+    text = path.read_text(encoding="utf-8")
+    assert old in text, f"{file} has no {old!r}"
+    path.write_text(text.replace(old, new), encoding="utf-8")
+    subprocess.run([room / "tools/merged-library", archive.resolve(), room / "libmacsec.a"], check=True)
+    return room / "libmacsec.a"
 
 
 # The instructions of a frame are the difference between runs over so many frames.

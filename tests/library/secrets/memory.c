@@ -1,16 +1,19 @@
 /* Takes keys, uses them, and frees them, and stops after each step: tests/library/keys-in-memory reads its memory then.
  *
- * usage: memory WAY SUITE KEYS: WAY is struct, line or config; SUITE 1 to 4; KEYS how many keys come one after another.
+ * usage: memory WAY SUITE KEYS: SUITE is 1 to 4. WAY is struct, line or config, and KEYS how many keys come one after
+ * another. Or, as with struct: rekeys, and KEYS is how many changes of keys there are; beside, and a third endpoint
+ * lives on; locked, and the memory is locked.
  *
- * Its standard input has the octets of the last key, for each of two rounds, and an octet for each step. The octets of
- * a key are in no variable when a step is announced. The endpoints of the second round take memory that those of the
- * first have freed.
+ * Its standard input has the octets of the first key, for each of two rounds, those of the next one for each change of
+ * keys, and an octet for each step. The octets of a key are in no variable when a step is announced. The endpoints of
+ * the second round take memory that those of the first have freed.
  */
-#define _DEFAULT_SOURCE
+#define _GNU_SOURCE
 #include "macsec.h"
 #include <stdio.h>
 #include <stdlib.h>
 #include <string.h>
+#include <sys/mman.h>
 #include <unistd.h>
 
 static const uint8_t own[8] = { 2, 0, 0, 0, 0, 1, 0, 1 }, other[8] = { 2, 0, 0, 0, 0, 2, 0, 1 };
@@ -62,8 +65,12 @@ static size_t key_line(char line[200], const macsec_sak *key, const char *before
     return at;
 }
 
+static bool is_way(const char *name) {
+    return strcmp(way, name) == 0;
+}
+
 static void install(macsec_endpoint *e, const macsec_sak *key) {
-    if (strcmp(way, "struct") == 0) {
+    if (!is_way("line")) {
         must("install", macsec_install_key(e, key));
         return;
     }
@@ -77,7 +84,7 @@ static void install(macsec_endpoint *e, const macsec_sak *key) {
 static void make(macsec_endpoint *e, const uint8_t sci[8], const macsec_sak *key) {
     macsec_config config = { { 0 }, suite, MACSEC_FORM_SCI, 1546 };
     memcpy(config.sci, sci, sizeof config.sci);
-    if (strcmp(way, "config") != 0) {
+    if (!is_way("config")) {
         must("new", macsec_new(e, &config));
         return;
     }
@@ -106,7 +113,7 @@ static void take_key(macsec_endpoint *e, const uint8_t sci[8]) {
     prepare(0, sci);
     memcpy(key.bytes, octets, key.length);
     make(e, sci, &key);
-    if (strcmp(way, "config") != 0)
+    if (!is_way("config"))
         install(e, &key);
     explicit_bzero(&key, sizeof key);
 }
@@ -120,12 +127,17 @@ static void take_others(macsec_endpoint *e, const uint8_t sci[8], unsigned count
     }
 }
 
-static void associate(macsec_endpoint *a, macsec_endpoint *b) {
-    must("add", macsec_add_tx_sa(a, 0, 0, 1, true));
-    must("enable", macsec_enable_tx_sa(a, 0));
-    must("rxsc", macsec_add_rx_sc(b, own));
-    must("rxsa", macsec_add_rx_sa(b, own, 0, 0, is_xpn() ? 1 : 0, 1));
-    must("rxon", macsec_enable_rx_sa(b, own, 0));
+static void associate(macsec_endpoint *a, macsec_endpoint *b, uint8_t an, uint16_t number) {
+    must("add", macsec_add_tx_sa(a, an, number, 1, true));
+    must("enable", macsec_enable_tx_sa(a, an));
+    must("rxsa", macsec_add_rx_sa(b, own, an, number, is_xpn() ? 1 : 0, 1));
+    must("rxon", macsec_enable_rx_sa(b, own, an));
+}
+
+static void give_up(macsec_endpoint *a, uint8_t an, uint16_t number) {
+    must("disable", macsec_disable_tx_sa(a, an));
+    must("delete", macsec_delete_tx_sa(a, an));
+    must("retire", macsec_retire_key(a, number));
 }
 
 static void pass_frames(macsec_endpoint *a, macsec_endpoint *b) {
@@ -141,25 +153,75 @@ static void pass_frames(macsec_endpoint *a, macsec_endpoint *b) {
     }
 }
 
+/* Each key is used, and given up at both ends when the next one is there. */
+static void change_keys(macsec_endpoint *a, macsec_endpoint *b, uint16_t changes) {
+    for (uint16_t number = 1; number <= changes; number++) {
+        uint8_t an = number % 4, old = (uint8_t)(number - 1) % 4;
+        take(octets, key_length());
+        prepare(number, own);
+        memcpy(key.bytes, octets, key.length);
+        install(a, &key);
+        key.ssci = is_xpn() ? other[5] : 0;
+        install(b, &key);
+        explicit_bzero(&key, sizeof key);
+        explicit_bzero(octets, sizeof octets);
+        associate(a, b, an, number);
+        pass_frames(a, b);
+        give_up(a, old, (uint16_t)(number - 1));
+        must("rxdel", macsec_delete_rx_sa(b, own, old));
+        must("retire", macsec_retire_key(b, (uint16_t)(number - 1)));
+        if (number % 10 == 0)
+            step("rekeyed");
+    }
+}
+
+/* ---- An endpoint that lives on ---- */
+
+static macsec_endpoint beside = MACSEC_ENDPOINT_INIT;
+
+static void begin_beside(void) {
+    static const uint8_t sci[8] = { 2, 0, 0, 0, 0, 3, 0, 1 };
+    make(&beside, sci, &key);
+    prepare(0, sci);
+    for (unsigned i = 0; i < key.length; i++)
+        key.bytes[i] = (uint8_t)(7 * i + 3);
+    install(&beside, &key);
+    explicit_bzero(&key, sizeof key);
+    must("add", macsec_add_tx_sa(&beside, 0, 0, 1, true));
+    must("enable", macsec_enable_tx_sa(&beside, 0));
+}
+
+static void send_beside(void) {
+    const uint8_t frame[1400] = { 2 };
+    macsec_sent sent;
+    if (is_way("beside"))
+        must("send", macsec_send(&beside, frame, sizeof frame, &sent));
+}
+
+/* ---- Rounds ---- */
+
 static void round_of(unsigned count) {
     macsec_endpoint a = MACSEC_ENDPOINT_INIT, b = MACSEC_ENDPOINT_INIT;
+    uint16_t changes = is_way("rekeys") ? (uint16_t)count : 0;
     take(octets, key_length());
     take_key(&a, own);
     take_key(&b, other);
     explicit_bzero(octets, sizeof octets);
-    take_others(&a, own, count);
-    take_others(&b, other, count);
+    take_others(&a, own, changes == 0 ? count : 0);
+    take_others(&b, other, changes == 0 ? count : 0);
     step("installed");
-    associate(&a, &b);
+    must("rxsc", macsec_add_rx_sc(&b, own));
+    associate(&a, &b, 0, 0);
     step("associated");
     pass_frames(&a, &b);
+    send_beside();
     step("used");
-    must("disable", macsec_disable_tx_sa(&a, 0));
-    must("delete", macsec_delete_tx_sa(&a, 0));
-    must("retire", macsec_retire_key(&a, 0));
+    change_keys(&a, &b, changes);
+    give_up(&a, changes % 4, changes);
     step("retired");
     macsec_free(&a);
     macsec_free(&b);
+    send_beside();
     step("freed");
 }
 
@@ -168,7 +230,12 @@ int main(int words, char **word) {
         return 1;
     way = word[1];
     suite = (uint32_t)atoi(word[2]);
+    if (is_way("locked") && mlockall(MCL_CURRENT | MCL_FUTURE | MCL_ONFAULT) != 0)
+        return 5;
+    if (is_way("beside"))
+        begin_beside();
     round_of((unsigned)atoi(word[3]));
     round_of((unsigned)atoi(word[3]));
+    macsec_free(&beside);
     return 0;
 }
