@@ -7,6 +7,9 @@
 #include <string.h>
 #ifdef __linux__
 #include <sys/mman.h>
+#ifndef MADV_DONTNEED_LOCKED
+#define MADV_DONTNEED_LOCKED 24
+#endif
 #endif
 
 enum { HEAD = 16, PAGE = 4096, LARGE = 1 << 20 };
@@ -25,8 +28,15 @@ static void clear(uint8_t *from, size_t length) {
     __asm__ volatile("" : : "r"(from) : "memory");
 }
 
+#ifdef __linux__
+/* Lets the kernel take pages back. For locked ones there is another call, since Linux 5.18. */
+static int give_back(uint8_t *from, size_t length) {
+    return madvise(from, length, MADV_DONTNEED) == 0 || madvise(from, length, MADV_DONTNEED_LOCKED) == 0;
+}
+#endif
+
 /* The table of keys has space for 4,096 keys, most of it never written. The kernel takes its pages back at once, where
- * clearing them would first make them resident. Pages that are locked are cleared, and pages that are shared, where
+ * clearing them would first make them resident. Pages that it refuses are cleared, and pages that are shared, where
  * the mark stays. */
 static void overwrite(uint8_t *from, size_t length) {
 #ifdef __linux__
@@ -34,7 +44,7 @@ static void overwrite(uint8_t *from, size_t length) {
         size_t before = -(uintptr_t)from % PAGE, whole = (length - before) / PAGE * PAGE;
         volatile uint8_t *mark = from + before;
         *mark = 1;
-        if (madvise(from + before, whole, MADV_DONTNEED) == 0 && *mark == 0) {
+        if (give_back(from + before, whole) && *mark == 0) {
             clear(from, before);
             clear(from + before + whole, length - before - whole);
             return;
