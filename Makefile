@@ -121,7 +121,7 @@ $(OVER_PROGRAM): build/macsec
 fuzz: build/macsec build/macsec-rattle
 failures: build/macsec
 $(OVER_LIBRARY): build/libmacsec.a
-c-programs pages python: build/macsec
+c-programs constant-time pages python: build/macsec
 constant-time keys-in-memory: build/$(HWCAPS)/libmacsec.a
 packages: build/macsec build/libmacsec.a build/$(HWCAPS)/libmacsec.a
 controls: build/macsec build/macsec-rattle build/libmacsec.a
