@@ -10,7 +10,6 @@
 #include <linux/if_tun.h>
 #include <linux/landlock.h>
 #include <linux/seccomp.h>
-#include <malloc.h>
 #include <stddef.h>
 #include <sys/ioctl.h>
 #include <sys/mman.h>
@@ -20,13 +19,8 @@
 #include <sys/syscall.h>
 #include <unistd.h>
 
-/* The blocks of an endpoint, which have keys, return to the system when they are freed. */
-enum { OWN_PAGES = 1 << 16 };
-
 int confine_memory(void) {
     const struct rlimit none = { 0, 0 };
-    if (mallopt(M_MMAP_THRESHOLD, OWN_PAGES) == 0)
-        message("mallopt: freed keys may stay in the memory");
     if (setrlimit(RLIMIT_CORE, &none) == 0 && prctl(PR_SET_DUMPABLE, 0, 0, 0, 0) == 0)
         return 0;
     message_of_errno("core files can't be forbidden");

@@ -640,6 +640,12 @@ int service_open(void);
 /* Sends it an assignment, such as READY=1. */
 void service_notify(const char *assignment);
 
+/* ---- memory.c: memory that is not swapped ---- */
+
+/* Locks the stack, the variables and the heap, which is then large enough for what is allocated later. To be called
+ * before keys are read, and while macsecd has capabilities. If the system refuses it, a message says so. */
+void memory_lock(void);
+
 /* ---- confine.c: what macsecd gives up ---- */
 
 /* No core files, and no access to the memory by other processes of the same user: to be called before keys are read. */

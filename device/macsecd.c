@@ -34,6 +34,7 @@ static int configure(struct device *d) {
  * a start that fails again and again would use up. */
 static int start(struct device *d) {
     int result = confine_memory();
+    memory_lock();
     if (result == 0)
         result = service_open();
     if (result == 0)
@@ -87,6 +88,7 @@ static int run(struct device *d) {
         result = start(d);
     if (result != 0) {
         config_wipe(&d->config);
+        macsec_free(d->endpoint);
         keys_wipe();
         return result;
     }

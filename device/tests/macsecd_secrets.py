@@ -1,0 +1,199 @@
+"""Keys in the memory of macsecd, which is read from outside: after new keys, lines that are all carried out, a second
+endpoint, `close`, and when macsecd ends."""
+
+from __future__ import annotations
+
+import ctypes
+import os
+import pathlib
+import secrets
+import signal
+from collections.abc import Iterable, Iterator
+
+from house.compiling import altered_library
+from house.memory import NOTHING, Region, hits, mappings, parts_of, regions
+from house.reporting import Failed, report
+from macsecd_world import LIBC, SALT, End, Packets, World, hand_over_lines, ping
+
+SEIZE, DETACH, STOPS_AT_EXIT, AT_EXIT = 0x4206, 17, 0x40, signal.SIGTRAP | 6 << 8
+PLAIN = bytes.fromhex("ffffffffffff02000000000988b5")
+# A retired key stays in its endpoint.
+STAYS = True
+# Octets that may be unlocked: the stack of a thread that has no keys.
+LEFT = 512 << 10
+# Fewer parts of what was prepared from a key than this: it was not found.
+FEWEST = 50
+
+
+class Secrets:
+    """The keys that a macsecd has had, and parts of what was prepared from them."""
+
+    def __init__(self, end: End) -> None:
+        assert end.process is not None
+        self.end, self.number = end, end.process.pid
+        self.parts: dict[bytes, set[bytes]] = {}
+
+    def note(self, *keys: str) -> None:
+        """Notes keys that the endpoint has. Each must be found, in locked memory and not on the stack."""
+        memory = regions(self.number)
+        for key in map(bytes.fromhex, keys):
+            self.parts[key] = parts_of(memory, key)
+            for other, parts in self.parts.items():
+                if other != key:  # what the rows of two keys have is prepared from neither
+                    same = parts & self.parts[key]
+                    self.parts[other], self.parts[key] = parts - same, self.parts[key] - same
+            report(len(self.parts[key]) >= FEWEST, f"a key is not found, or only {len(self.parts[key])} parts")
+            for it in memory:
+                found = hits([it], key)
+                is_guarded = "lo" in it.flags and it.place != "[stack]"
+                report(found == NOTHING or is_guarded, f"a key in {it.place}, {sorted(it.flags)}: {found}")
+
+    def add(self, *keys: str) -> None:
+        """Notes keys without their parts."""
+        for key in map(bytes.fromhex, keys):
+            self.parts.setdefault(key, set())
+
+    def judge(self, what: str, living: Iterable[str] = (), memory: list[Region] | None = None) -> None:
+        """Nothing of a key may be in the memory, but for the living ones, which must be."""
+        memory = regions(self.number) if memory is None else memory
+        lives = set(map(bytes.fromhex, living))
+        for number, (key, parts) in enumerate(self.parts.items()):
+            found = hits(memory, key, parts)
+            if key in lives:
+                report(found.octets > 0 and found.digits == 1, f"{what}: living key {number}: {found}")
+            else:
+                report(found == NOTHING, f"{what}: key {number} of {len(self.parts)}: {found}")
+
+    def judge_retired(self, retired: Iterable[str]) -> None:
+        """The lines of retired keys are gone. What the endpoint has of them is in locked memory."""
+        memory = regions(self.number)
+        for key in map(bytes.fromhex, retired):
+            found = hits(memory, key, self.parts[key])
+            report(found.digits == 0, f"the text of a retired key is in the memory: {found}")
+            report((found.octets > 0) == STAYS, f"a retired key: {found}")
+
+
+def check_locked(end: End) -> None:
+    """The memory is locked, but for the stack of the thread that writes the journal."""
+    assert end.process is not None
+    free = [it for it in mappings(end.process.pid) if "lo" not in it.flags]
+    size = sum(it.last - it.first for it in free)
+    report(size <= LEFT, f"{size} octets in {[it.place for it in free]} are not locked")
+    report("may be swapped" not in end.log(), f"a message about locked memory: {end.log()}")
+
+
+def memory_at_exit(end: End, number: int = signal.SIGTERM) -> list[Region]:
+    """Ends macsecd by a signal. Returns its memory when all its code has run."""
+    assert end.process is not None
+    pid = end.process.pid
+    if LIBC.ptrace(SEIZE, pid, None, ctypes.c_void_p(STOPS_AT_EXIT)):
+        raise Failed(f"ptrace: {os.strerror(ctypes.get_errno())}")
+    os.kill(pid, number)
+    _, status = os.waitpid(pid, 0)
+    if status >> 8 != AT_EXIT:
+        raise Failed(f"macsecd stops otherwise than at its end: {status:x}")
+    memory = regions(pid)
+    LIBC.ptrace(DETACH, pid, None, None)
+    report(end.ended() == 0, f"macsecd does not end well: {end.log()}")
+    end.process = None
+    return memory
+
+
+def key_line(end: End, number: int, key: str) -> str:
+    """The line of a key for each suite."""
+    return f"A key {number} {key} 0 0000000{end.number} {SALT}"
+
+
+def change_keys(world: World, phase: int, octets: int) -> tuple[str, str]:
+    """New keys for both directions, and a frame under each. The old ones are retired. Returns those of the first end:
+    the one that it sends under, and the other one."""
+    an, old, key = phase % 4, (phase - 1) % 4, 2 * phase
+    keys = secrets.token_hex(octets), secrets.token_hex(octets)
+    for end in world.ends:
+        peer = world.ends[2 - end.number]
+        end.carry_out(
+            key_line(end, key, keys[end.number - 1]),
+            key_line(end, key + 1, keys[peer.number - 1]),
+            f"A rxsa {peer.sci} {an} {key + 1} 1 0000000{peer.number}",
+            f"A rxon {peer.sci} {an}",
+        )
+    for end in world.ends:
+        end.carry_out(f"A txsa {an} {key} 1 conf", f"A txon {an}")
+    report(ping(world.ends[0], 1) == 1, f"no reply under keys {phase}")
+    for end in world.ends:
+        peer = world.ends[2 - end.number]
+        end.carry_out(f"A txdel {old}", f"A rxdel {peer.sci} {old}", f"A retire {key - 2}", f"A retire {key - 1}")
+    return keys
+
+
+def check_loads(a: End, known: Secrets, octets: int, living: list[str]) -> None:
+    """Lines that are all carried out, or none is; and a second endpoint, after which no retired key is there."""
+    kept, refused, passed = ([secrets.token_hex(octets) for _ in range(2)] for _ in range(3))
+    a.ask("load\n" + "\n".join(key_line(a, 3000 + number, key) for number, key in enumerate(kept)))
+    known.note(*kept)
+    memory = regions(known.number)
+    counts = {hits(memory, bytes.fromhex(key)).octets for key in (*kept, *living)}
+    report(len(counts) == 1, f"a copy of the endpoint leaves keys, which are there {counts} times")
+    lines = [*(key_line(a, 3002 + number, key) for number, key in enumerate(refused)), "A retire 4095"]
+    answer = a.ask("load\n" + "\n".join(lines))
+    report("refused" in answer, f"a wrong line of `load`: {answer}")
+    a.carry_out(f"A key 4000 {passed[0]} 0", "A retire 4000")
+    answer = a.ask(hand_over_lines(passed[1]))
+    report(answer == "1 ok\n2 ok\n", f"a second endpoint does not take over: {answer}")
+    known.add(*refused, passed[0])
+    known.judge("a second endpoint", [*living, *kept])
+    known.add(passed[1])  # the second endpoint has it, retired
+
+
+def check_secrets(world: World, suite: str, changes: int) -> None:
+    """The life of keys in a macsecd."""
+    octets = 16 if suite.endswith("128") else 32
+    world.start(suite)
+    a = world.ends[0]
+    check_locked(a)
+    known = Secrets(a)
+    first = [it * (octets // 16) for it in world.keys]
+    known.note(*first)
+    report(ping(a) == 3, "no replies")
+    known.judge("after frames", first)
+    for phase in range(1, changes + 1):
+        living = change_keys(world, phase, octets)
+        known.add(*living)
+    known.note(*living)
+    known.judge_retired([key.hex() for key in known.parts if key.hex() not in living])
+    check_loads(a, known, octets, list(living))
+    report(ping(a) == 3, "no replies by a second endpoint")
+    check_locked(a)
+    a.ask("close")
+    known.judge("after close")
+    check_end(a, known, suite, octets)
+
+
+def check_end(a: End, known: Secrets, suite: str, octets: int) -> None:
+    """An endpoint that a client has opened, and the end of macsecd."""
+    client = Packets(a.namespace, "macsec0")
+    key = secrets.token_hex(octets)
+    a.carry_out(f"open {a.sci} {suite}", key_line(a, 0, key), "A txsa 0 0 1 conf", "A txon 0", "port on")
+    client.send(PLAIN + bytes(100))
+    client.close()
+    known.note(key)
+    known.judge("after open", [key])
+    known.judge("at the end", memory=memory_at_exit(a))
+
+
+def check_end_of_config(world: World) -> None:
+    """The end of a macsecd that has its keys from NAME.conf."""
+    world.start()
+    a = world.ends[0]
+    known = Secrets(a)
+    known.note(*world.keys)
+    known.judge("at the end", memory=memory_at_exit(a))
+
+
+def leaking_libraries(folder: pathlib.Path, archive: pathlib.Path) -> Iterator[tuple[str, pathlib.Path]]:
+    """Libraries that leave something of keys: on the stack, or in freed blocks."""
+    for file, old, new in (
+        ("clearing.c", "        clear_##depth();", "        (void)clear_##depth;"),
+        ("wiping.c", "    overwrite(block, length);\n", "    (void)overwrite;\n"),
+    ):
+        yield file, altered_library(folder / file, archive, file, old, new)
