@@ -80,11 +80,14 @@
  * for the arguments that C gave; or it takes the steps that the lines of a text say. Each call reads and writes only
  * what it was given, and returns. A reader that finds nothing leaves its output struct unchanged. Measured or tested,
  * not proved: sizes and stack, that macsec_free frees each block, that memory is overwritten, and which calls allocate.
- * Not proved: this header and
- * its inline functions, which a script compares with the library's source; C's side of what it says; malloc; the
- * compilers. In macsec_install_key, macsec_send and macsec_receive no branch and no address depends on a key or on data,
- * except the verdict and the refusal KeyRepeated. The digits of a key in a line or a text decide one branch more: are
- * all of them hex digits? This is measured on the libraries by tests/library/constant-time, and not proved.
+ * Not proved: this header and its inline functions, which a script compares with the library's source; C's side of what
+ * it says; malloc; the compilers.
+ *
+ * In macsec_install_key, macsec_send and macsec_receive no branch and no address depends on a key or on data, except the
+ * verdict and the refusal KeyRepeated. The digits of a key in a line or a text decide two branches more, in the same way
+ * for every key: does an octet end the word or the line, and are all of them hex digits? Beside a journal, names of keys
+ * decide branches too: the journal shows them. This is measured on the libraries by tests/library/constant-time, and not
+ * proved.
  */
 #ifndef MACSEC_H
 #define MACSEC_H
