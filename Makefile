@@ -39,9 +39,8 @@ DEVICE_SOURCES := $(sort $(filter-out device/macsecctl.c,$(wildcard device/*.c))
 
 # The checks that make a program or a library first, and the others.
 OVER_PROGRAM := altered-frames conformance conformance-controls peer planted stored-runs
-OVER_LIBRARY := c-programs constant-time device-forged device-fuzz device-fuzz-controls isolated \
-    isolated-controls isolated-unit journal keys-in-memory macsecd macsecd-controls macsecd-isolated pages python \
-    readers two-hosts
+OVER_LIBRARY := c-programs constant-time device-forged device-fuzz isolated isolated-controls isolated-unit journal \
+    keys-in-memory macsecd macsecd-controls macsecd-isolated pages python readers two-hosts
 CHECKS := $(OVER_PROGRAM) $(OVER_LIBRARY) against allocators any-order c-cost c-header controls device-analyzed \
     device-forged-linux device-kernel edits failures fuzz kept-frames kernel-captures lanes-used live mka moves \
     needed packages style table version
