@@ -76,6 +76,36 @@ static bool is_refused(void) {
     return strncmp(at, "refused ", 8) == 0 || strncmp(at, "fault ", 6) == 0;
 }
 
+/* What an answer `fault NAME` says, on standard error. */
+static void explain(void) {
+    static const struct {
+        const char *name, *means;
+    } faults[] = {
+        { "Word", "a word is not one that can be there: macsecctl(8) has the requests" },
+        { "Count", "there are too many or too few words: macsecctl(8) has the requests" },
+        { "Hex", "hex digits are expected there, without 0x and colons, as many as the value has" },
+        { "Number", "a decimal number is expected there, or it is too large" },
+        { "Ends", "it is no line of endpoint A, or one that only a configuration can have" },
+        { "Owned", "another connection owns the device, such as that of wpa_supplicant" },
+        { "NotAllowed", "the configuration does not allow it: `device allow` in macsecd(8)" },
+        { "Empty", "there is no endpoint: `open` makes one" },
+    };
+    const char *fault = strstr(answer, "fault ");
+    size_t length = fault == NULL ? 0 : strcspn(fault + 6, "\n");
+    for (size_t i = 0; i < sizeof faults / sizeof faults[0]; i++)
+        if (length == strlen(faults[i].name) && strncmp(fault + 6, faults[i].name, length) == 0)
+            fprintf(stderr, "macsecctl: %s: %s\n", faults[i].name, faults[i].means);
+}
+
+/* Prints the answer. Returns the exit status. */
+static int print_answer(void) {
+    fputs(answer, stdout);
+    if (!is_refused())
+        return 0;
+    explain();
+    return 2;
+}
+
 /* ---- One request ---- */
 
 static int ask_words(int file, int count, char **words) {
@@ -90,8 +120,7 @@ static int ask_words(int file, int count, char **words) {
     }
     if (!ask(file, length))
         return 1;
-    fputs(answer, stdout);
-    return is_refused() ? 2 : 0;
+    return print_answer();
 }
 
 /* ---- All lines or none ---- */
@@ -124,8 +153,7 @@ static int load(int file, int lines) {
     }
     if (!ask(file, length))
         return 1;
-    fputs(answer, stdout);
-    return is_refused() ? 2 : 0;
+    return print_answer();
 }
 
 static int load_file(int file, const char *path) {

@@ -78,7 +78,10 @@ int numbers_create(const char *name) {
         return ENDS_WRONG;
     if (journal_create(path, &fault) == 0)
         return 0;
-    report(path, &fault);
+    if (fault.step == JOURNAL_RENAME && fault.error == EEXIST)
+        message("%s is there already, and stays: it has the packet numbers that were used", path);
+    else
+        report(path, &fault);
     return ENDS_FAILED;
 }
 

@@ -356,6 +356,9 @@ def check_macsecctl(a: End, macsecctl: list[str]) -> None:
     state = state_of(a)
     got = told("", "load", str(path))
     report(got == (2, "2 fault Word\n") and state_of(a) == state, f"macsecctl load with a wrong line: {got}")
+    it = subprocess.run([*macsecctl, "nothing"], capture_output=True, text=True)
+    shown = it.returncode, it.stdout, it.stderr.partition(": a word is not")[0]
+    report(shown == (2, "fault Word\n", "macsecctl: Word"), f"macsecctl with a wrong word: {it}")
     path.write_text("A txon 1\nA txon 1\n")
     got = told("", "load", str(path))
     report(got == (0, "1 ok\n2 ok\n"), f"macsecctl load: {got}")

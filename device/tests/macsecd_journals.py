@@ -39,6 +39,8 @@ def check_disks(end: End) -> None:
     told = on(end, "overlay", "--create-journal", "macsec0")
     report((told.returncode, "an overlay" in told.stderr) == (0, True), f"a journal on an overlay: {told}")
     end.create_journal()
+    again = end.run("--create-journal", "macsec0")
+    report((again.returncode, "is there already" in again.stderr) == (1, True), f"a journal is created twice: {again}")
     for kind, text in (("tmpfs", "in memory"), ("overlay", "an overlay")):
         told = on(end, kind, "macsec0")
         report(text in told.stderr and "protects macsec0" in told.stderr, f"a journal on {kind}: {told}")
