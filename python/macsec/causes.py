@@ -145,6 +145,9 @@ class Search:
         if verdict != Verdict.Late:
             found = self.changes(frame, base, line)
             change = None if found else altered(frame, base)
+            if verdict in (Verdict.BadTag, Verdict.Reserved) and not found:
+                # That its data can be read does not show that it was altered: its sender can have made such a tag.
+                return Found((change,)) if change and change.cause == "cut" else None
             return found or (Found((change,)) if change else self._widely(frame, base, line))
         if self.configuration.alone(frame).verdict in OPENED:
             return Found((Change("replay", "replay protection is on: the frame repeats an accepted one or is late"),))

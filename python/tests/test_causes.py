@@ -1,4 +1,4 @@
-"""Fifty-two planted causes over captures of Linux 6.1 and wpa_supplicant, and over frames that the library makes:
+"""Fifty-three planted causes over captures of Linux 6.1 and wpa_supplicant, and over frames that the library makes:
 macsec-why has to name each one, and nothing else."""
 
 from __future__ import annotations
@@ -152,6 +152,8 @@ CAUSES = (
             ("1 0000000x\n", "1 00000002\n")], same, "ssci"),
     Planted("no SCI, two channels", PLAIN + CHANNEL, [], lambda _: tagless(0x0C, FAR), "channel"),
     Planted("no SCI, another AN", PLAIN.replace(f"{FAR} 0", f"{FAR} 2"), [], lambda _: tagless(0x0C, FAR), "an"),
+    Planted("ES beside an SCI", "linux", [], each(lambda it: it[:14] + bytes([it[14] | 0x40]) + it[15:]),
+            "note:SecTAG is malformed"),
     Planted("trailer of 7 octets", "linux", [], lambda it: [each_ + bytes(7) for each_ in long_ones(it)], "padding"),
     Planted("padding of short frames", "linux", [], lambda it: [i + bytes(9) for i in it if i[15]], ""),
     Planted("bit flips", "linux", [], lambda it: [*it[:9], flipped(it[9]), *it[10:]], "altered"),
@@ -218,8 +220,8 @@ class Causes(InFolder):
     @mock.patch("macsec.alternatives.WIDE", 0x2000)
     @NEEDS
     def test_all(self) -> None:
-        self.assertEqual(len(CAUSES), 52)
-        self.assertEqual(len({it.name for it in CAUSES}), 52)
+        self.assertEqual(len(CAUSES), 53)
+        self.assertEqual(len({it.name for it in CAUSES}), 53)
         for it in CAUSES:
             with self.subTest(it.name):
                 status, names, notes = self.named(it)
