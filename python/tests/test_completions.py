@@ -134,7 +134,7 @@ class Completions(unittest.TestCase):
     @staticmethod
     def read_until(terminal: int, text: str, before: str = "") -> str:
         """What a terminal shows until a text comes on a line of its own."""
-        shown, until = "", time.monotonic() + 20
+        shown, until = "", time.monotonic() + 60
         while time.monotonic() < until:
             if select.select([terminal], [], [], 0.1)[0]:
                 shown += os.read(terminal, 65536).decode(errors="replace")
