@@ -202,16 +202,17 @@ void link_count_lost(struct link *l, struct counts *c);
 /* Makes LINK pass frames to any address. */
 void link_make_promiscuous(struct link *l);
 
-/* ---- floods.c: frames of LINK that come faster than they are read, and that the endpoint would drop ---- */
+/* ---- floods.c: frames of LINK that the endpoint drops unopened, many in a second ---- */
 
 struct floods {
-    unsigned batches; /* one after another that are full of frames without a SecTAG, or with an SCI of no channel */
-    bool filtered;    /* does the system drop such frames? */
+    unsigned frames; /* that had no SecTAG or no association, in this second */
+    bool filtered;   /* does the system drop such frames? */
 };
 
-/* To be called with each batch of frames: if they come faster than they are read, has the system drop them, before it
- * copies them. */
-void floods_look(struct device *d, const struct unfinished frames[BATCH], unsigned count);
+/* Notes the verdict on a frame. */
+void floods_note(struct device *d, uint32_t verdict);
+/* If there were too many such frames, has the system drop the next ones, before it copies them. */
+void floods_stop(struct device *d);
 /* Reads all frames again: to be called each second, and when the endpoint may have other channels or options. */
 void floods_end(struct device *d);
 

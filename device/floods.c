@@ -1,16 +1,13 @@
-/* Floods of LINK: frames that the endpoint drops unopened come faster than macsecd reads them. Then the system drops
- * them before it copies them, so that the other frames get through. No counter of the endpoint has them. So this begins
- * only in a flood, while the endpoint is strict, and ends after a second, and when a line may have changed the
- * endpoint. */
+/* Floods of LINK: frames that the endpoint drops unopened, many in a second. The system then drops the next ones before
+ * it copies them, so that the other frames get through. No counter of the endpoint has them. So this is done only while
+ * the endpoint is strict, and ends after a second, and when a line may have changed the endpoint. */
 #define _GNU_SOURCE
 #include "device.h"
 #include <linux/filter.h>
-#include <string.h>
 #include <sys/socket.h>
 
-/* So many batches of such frames, one after another, come faster than they can be read. The socket has space for ten
- * times as many. */
-enum { FLOOD = 8 };
+/* So many such frames are read in a second. The socket has space for twice as many of them, if they are short. */
+enum { FLOOD = 4096 };
 
 /* Where a frame has its EtherType, the TCI of a SecTAG with SC, which says that there is an SCI, and this SCI. */
 enum { TYPE_AT = 12, TYPE = 0x88e5, TCI_AT = 14, SC = 0x20, SCI_AT = 20, SCI = 8 };
@@ -36,19 +33,6 @@ static bool is_strict(const struct device *d) {
     return macsec_get_options(d->endpoint, &options) == MACSEC_OK && options.mode == MACSEC_MODE_STRICT;
 }
 
-/* Is it such a frame? A VLAN tag is in it again, and the endpoint looks for no SecTAG after that. */
-static bool is_useless(const struct channels *c, const struct unfinished *frame) {
-    const uint8_t *at = frame->octets;
-    if (frame->length <= TCI_AT || (at[TYPE_AT] << 8 | at[TYPE_AT + 1]) != TYPE)
-        return true;
-    if ((at[TCI_AT] & SC) == 0)
-        return false;
-    for (unsigned i = 0; i < c->count && frame->length >= SCI_AT + SCI; i++)
-        if (memcmp(at + SCI_AT, c->sci[i], SCI) == 0)
-            return false;
-    return true;
-}
-
 /* ---- The filter ---- */
 
 static uint32_t word(const uint8_t *octets) {
@@ -67,7 +51,9 @@ static struct sock_filter *put_test(struct sock_filter *at, unsigned test, uint3
     return at + 1;
 }
 
-/* Makes a program that drops what is_useless finds. A frame that is too short for a value which it loads is dropped. */
+/* Makes a program that drops frames without a SecTAG and those with an SCI of no channel. After a VLAN tag, which the
+ * system has taken out, the endpoint looks for no SecTAG. A frame that is too short for a value to be loaded is
+ * dropped. */
 static unsigned short make_program(const struct channels *c, struct sock_filter program[PROGRAM]) {
     struct sock_filter *at = program;
     at = put(at, BPF_LD | BPF_B | BPF_ABS, (uint32_t)(SKF_AD_OFF + SKF_AD_VLAN_TAG_PRESENT));
@@ -93,19 +79,17 @@ static unsigned short make_program(const struct channels *c, struct sock_filter 
     return (unsigned short)(at - program);
 }
 
-void floods_look(struct device *d, const struct unfinished frames[BATCH], unsigned count) {
+void floods_note(struct device *d, uint32_t verdict) {
+    d->floods.frames += verdict == MACSEC_VERDICT_NO_TAG || verdict == MACSEC_VERDICT_NO_SA_ERROR;
+}
+
+void floods_stop(struct device *d) {
     struct sock_filter program[PROGRAM];
     struct sock_fprog filter = { 0, program };
     struct channels c;
-    unsigned useless = 0;
-    if (count == BATCH && is_strict(d)) {
-        find_channels(d, &c);
-        for (unsigned i = 0; i < count; i++)
-            useless += is_useless(&c, &frames[i]);
-    }
-    d->floods.batches = useless > BATCH / 2 ? d->floods.batches + 1 : 0;
-    if (d->floods.batches < FLOOD || d->floods.filtered)
+    if (d->floods.frames < FLOOD || d->floods.filtered || !is_strict(d))
         return;
+    find_channels(d, &c);
     filter.len = make_program(&c, program);
     if (setsockopt(d->link.socket, SOL_SOCKET, SO_ATTACH_FILTER, &filter, sizeof filter) != 0)
         return;
@@ -117,5 +101,5 @@ void floods_end(struct device *d) {
     int none = 0;
     if (d->floods.filtered && setsockopt(d->link.socket, SOL_SOCKET, SO_DETACH_FILTER, &none, sizeof none) == 0)
         d->floods.filtered = false;
-    d->floods.batches = 0;
+    d->floods.frames = 0;
 }

@@ -61,6 +61,7 @@ static enum outcome receive_one(struct device *d, const struct frame *frame) {
     count_fault(status, &d->counts.link_too_short, &d->counts.link_too_long);
     d->counts.no_endpoint += status == MACSEC_E_EMPTY;
     history_received(&d->history, &got);
+    floods_note(d, got.verdict);
     return got.delivered ? deliver(d, &got) : DONE;
 }
 
@@ -68,7 +69,6 @@ enum outcome frames_from_link(struct device *d) {
     struct unfinished frames[BATCH];
     unsigned count;
     enum outcome outcome = link_read(&d->link, frames, &count);
-    floods_look(d, frames, count);
     for (unsigned i = 0; i < count; i++) {
         struct segments s;
         struct frame frame;
@@ -77,5 +77,6 @@ enum outcome frames_from_link(struct device *d) {
             if (receive_one(d, &frame) == GONE)
                 return GONE;
     }
+    floods_stop(d);
     return outcome;
 }

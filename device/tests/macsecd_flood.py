@@ -32,11 +32,21 @@ class Flood(NamedTuple):
     rate: int
     is_filtered: bool
 
-    def command(self, end: End, sender: pathlib.Path, seconds: float) -> list[str]:
+    def command(self, end: End, sender: list[str], seconds: float) -> list[str]:
         """The command that sends it from this end, without a macsecd."""
         count = str(int(self.rate * seconds))
-        enter = ["ip", "netns", "exec", end.namespace, str(sender)]
-        return [*enter, self.words[0], "link0", *self.words[1:], count, str(self.rate)]
+        return [
+            "ip",
+            "netns",
+            "exec",
+            end.namespace,
+            *sender,
+            self.words[0],
+            "link0",
+            *self.words[1:],
+            count,
+            str(self.rate),
+        ]
 
 
 PLAIN = Flood("another EtherType", ["plain"], 500_000, True)
@@ -48,7 +58,7 @@ def forged(rate: int) -> Flood:
     return Flood("a wrong ICV", ["forged", KNOWN, "1428"], rate, False)
 
 
-def check_client(world: World, sender: pathlib.Path, flood: Flood, seconds: float) -> None:
+def check_client(world: World, sender: list[str], flood: Flood, seconds: float) -> None:
     """A flood, beside datagrams of the client."""
     a, b = world.ends
     stream = Stream(a, 0.001)
@@ -70,7 +80,7 @@ def check_client(world: World, sender: pathlib.Path, flood: Flood, seconds: floa
 
 
 @contextlib.contextmanager
-def flooded(end: End, sender: pathlib.Path, flood: Flood) -> Iterator[None]:
+def flooded(end: End, sender: list[str], flood: Flood) -> Iterator[None]:
     """A flood from this end, while something is looked at."""
     with subprocess.Popen(flood.command(end, sender, 60), stdout=subprocess.DEVNULL) as process:
         time.sleep(0.3)
@@ -78,7 +88,7 @@ def flooded(end: End, sender: pathlib.Path, flood: Flood) -> Iterator[None]:
         process.kill()
 
 
-def check_new_channel(world: World, sender: pathlib.Path) -> None:
+def check_new_channel(world: World, sender: list[str]) -> None:
     """A channel is made while its frames flood LINK: they are judged at once."""
     a, b = world.ends
     with flooded(a, sender, STRANGE):
@@ -90,7 +100,7 @@ def check_new_channel(world: World, sender: pathlib.Path) -> None:
             time.sleep(0.1)
 
 
-def check_counted(world: World, sender: pathlib.Path) -> None:
+def check_counted(world: World, sender: list[str]) -> None:
     """After a flood all frames are counted again."""
     a, b = world.ends
     time.sleep(1.5)
@@ -100,7 +110,7 @@ def check_counted(world: World, sender: pathlib.Path) -> None:
     report(counted, "flood: frames without protection are not counted after it")
 
 
-def check_other_mode(world: World, sender: pathlib.Path) -> None:
+def check_other_mode(world: World, sender: list[str]) -> None:
     """An endpoint that is not strict counts and delivers such frames: the system drops none."""
     a, b = world.ends
     b.carry_out("A validate check")
@@ -114,12 +124,13 @@ def check_other_mode(world: World, sender: pathlib.Path) -> None:
 
 def check_flood(world: World, library: pathlib.Path, short: bool) -> None:
     """Floods of LINK."""
-    sender = build_sender(world.folder / "sender", library)
+    sender = [str(build_sender(world.folder / "sender", library))]
     world.prepare()
     a, b = world.ends
     b.write_config(device="device link link0\ndevice allow validate check\n")
     if not short and shutil.which("chrt"):
         b.prefix = ["chrt", "-f", "10"]  # other processes do not let it wait
+        sender = ["chrt", "-f", "5", *sender]  # which would then send faster
     for end in (a, b):
         end.start()
     for flood in (PLAIN, STRANGE, forged(5_000 if short else 100_000)):
