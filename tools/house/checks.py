@@ -137,6 +137,8 @@ CHECKS: list[Check] = [
           "device/tests/device-forged --linux", GUEST, 30, "the check device-forged", hand=""),
     Check("isolated-controls", "plants mistakes in the isolation of LINK", "device/tests/isolated --controls", ROOT_USER,
           900, "it is made of them", hand=""),
+    Check("isolated-kinds", "runs the device with each kind of LINK in a virtual machine", "device/tests/isolated-kinds",
+          GUEST, 120, "device/tests/isolated-kinds --controls", hand=""),
     Check("isolated-unit", "runs the unit of macsecd under systemd", "device/tests/isolated-unit", ROOT_USER, 120,
           "device/tests/isolated-unit --controls", hand=""),
     Check("macsecd-isolated", "runs the device's other checks with an isolated LINK", "device/tests/macsecd --isolated",
