@@ -42,6 +42,7 @@ enum reason { REFUSAL, CONNECTION, NO_KEY, REASONS };
 
 struct macsecd_data {
 	struct driver_wired_common_data common;
+	unsigned int index; /* LINK's */
 	struct macsecd_client client;
 	bool open; /* macsecd has made our endpoint */
 	bool failed; /* the controlled port stays off until the next one */
@@ -86,10 +87,21 @@ static void begin_again(struct macsecd_data *drv, enum reason reason)
 }
 
 
-/* macsecd can be reached after it could not: its endpoint is lost. */
+/* macsecd can be reached after it could not: its endpoint is lost. If LINK was
+ * removed meanwhile and is there again, the packet sockets are of a device that
+ * is gone, so a new process is needed, which the service manager starts. */
 static void macsecd_back(void *arg)
 {
-	begin_again(arg, CONNECTION);
+	struct macsecd_data *drv = arg;
+
+	if (if_nametoindex(drv->common.ifname) == drv->index) {
+		begin_again(drv, CONNECTION);
+		return;
+	}
+	wpa_msg(drv->common.ctx, MSG_ERROR,
+		DRV_PREFIX "%s is another device than at the start: the end",
+		drv->common.ifname);
+	eloop_terminate();
 }
 
 
@@ -190,6 +202,7 @@ static void * macsecd_init(void *ctx, const char *ifname)
 	drv->client.ctx = ctx;
 	drv->client.back = macsecd_back;
 	drv->client.arg = drv;
+	drv->index = if_nametoindex(ifname);
 	os_snprintf(drv->client.path, sizeof(drv->client.path),
 		    "/run/macsec/%s.sock", ifname);
 	if (driver_wired_init_common(&drv->common, ifname, ctx) < 0) {
