@@ -17,6 +17,7 @@ CITED = re.compile(r"^use (?:denote )?Rattle\.(macsec_\w+)\.specs\.(\w+)", re.M)
 MACHINE = [*(f"macsec_secy/{it}" for it in ("Step", "Answers", "Rests")), "macsec_suite/KeyNumbers"]
 PROMISES = [f"macsec_link/{it}" for it in ("Step", "Beginnings", "UniqueIvs", "Origin", "Window", "Acceptance")]
 RESTARTS = [f"macsec_reserve/{it}" for it in ("Unique", "TwoEnds", "Replay", "Crashes")]
+RESTARTS += [f"macsec_restarts/{it}" for it in ("Sent", "Delivered", "Origin", "Order", "Acceptance")]
 TEXTS = ["macsec_script/Printed", "macsec_script/Promised", "macsec_script_parser/Scripts", "macsec_capture/Captured"]
 TEXTS += ["macsec_pcapng/Captures", "macsec_cli_runs/Failures"]
 IN_C = [f"macsec_c/{it}" for it in ("Answers", "Found", "Texts")]

@@ -1,0 +1,9 @@
+pub mod Premises
+pub mod Blocks
+pub mod Senders
+pub mod Receivers
+pub mod Tags
+pub mod Histories
+pub mod TwoRunsEach
+pub mod NotSent
+pub mod Replays

@@ -1,0 +1,316 @@
+-- How a run goes, input by input, in a list of happenings: what it sends and delivers, and that it meets the premises of
+-- order and once but one. So a worked run continues from a state that is written out.
+use Rattle.std.proofs.Common.{◌≡◌, ◌≢◌, ◌⊎◌, inl, inr, ◌<◌, ℕ, zero, suc, Bool, true, false, List, [], ◌∷◌, ◌++◌, map, take, refl, ap, sym, subst, ◌∙◌, Contains, append-nil, append_assoc}
+use Rattle.std.specs.Prelude.{if◌then◌else◌, option_map, Option, Some, None, IfSome}
+use Rattle.std.proofs.lemmas.List.{map-append}
+use Rattle.std.proofs.lemmas.List.Elements.{All-nil}
+use Rattle.macsec_tag.specs.declared.identifiers.Sci.{Sci}
+use Rattle.macsec_suite.specs.CipherUses.{CipherUse}
+use Rattle.macsec_commands.specs.declared.config.EndConfig.{EndConfig}
+use Rattle.macsec_commands.specs.declared.event.End.{End}
+use Rattle.macsec_commands.specs.declared.event.End.TheVariants.{A, B}
+use Rattle.macsec_secy.specs.Sound.{IsSound}
+use Rattle.macsec_secy.specs.Step.{client_frame, link_frame, operator_command, uncontrolled_frame}
+use Rattle.macsec_link.specs.Genuine.{use_opened}
+use Rattle.macsec_link.proofs.Members.{IsMember, contained, member}
+use Rattle.macsec_reserve.specs.Histories.{Run, StaysSound, closing, opening, sealed_in_all}
+use Rattle.macsec_reserve.specs.Keeping.{Keeping, KeepingInput, endpoint_input, keeping_after, keeping_step, now_durable}
+use Rattle.macsec_restarts.specs.Delivered.{Delivery, delivered_at, delivered_from, delivered_in_all, newly_delivered}
+use Rattle.macsec_restarts.specs.Happenings.{AtEach, Happening, begins, comes_in, inputs_until, last_run, runs_of, same_end}
+use Rattle.macsec_restarts.specs.Order.{CreatesAbove, SavedIn, delivered_in, delivered_so_far}
+use Rattle.macsec_restarts.specs.Peers.{HasOctets, IsGenuineAt}
+use Rattle.macsec_restarts.specs.Sent.{SentIn, newly_sent, sent_from, sent_in_all}
+use Rattle.macsec_restarts.proofs.Examples.Premises.{HasStrictOrderBut, IsCreatedAbove, IsNotForged, IsOrderedInputBut, IsOrderlyBut, IsSaved, Premise}
+use Rattle.macsec_restarts.proofs.Lists.{at_end, either_list, in_front}
+use Rattle.macsec_restarts.proofs.Pushed.{closing-input, delivered_in-input, last_run-push, last_run-with_last, runs_of-begins, runs_of-input, sends_more, with_input}
+use Rattle.macsec_restarts.proofs.Sends.{seal_of_sent, seals_of_runs}
+
+-- ---- what a run sends and delivers
+
+pub record Told (k : Keeping) (inputs : List KeepingInput) (xs : List SentIn) (ds : List Delivery) (last : Keeping) : Type 0 where
+  pub sends : sent_from k inputs ≡ xs
+  pub delivers : delivered_from k inputs ≡ ds
+  pub ends : keeping_after k inputs ≡ last
+  pub sound : StaysSound k inputs
+
+pub told_end : (k : Keeping) → IsSound k.secy → Told k [] [] [] k
+told_end k sound = record { sends = refl; delivers = refl; ends = refl; sound = at_each }
+  where
+    at_each : (n : ℕ) → IsSound (keeping_after k (take n [])).secy
+    at_each zero = sound
+    at_each (suc n) = sound
+
+pub told_next : (k after last : Keeping) (input : KeepingInput) (inputs : List KeepingInput) (now sends : List SentIn) (new ds : List Delivery) → IsSound k.secy →
+    newly_sent k input ≡ now → newly_delivered k input ≡ new → (keeping_step k input).1 ≡ after → Told after inputs sends ds last → Told k (input ∷ inputs) (now ++ sends) (new ++ ds) last
+told_next k after last input inputs now sends new ds sound is_now is_new is_after rest = record {
+  sends = ap (λ xs. xs ++ sent_from (keeping_step k input).1 inputs) is_now ∙ ap (λ k'. now ++ sent_from k' inputs) is_after ∙ ap (λ xs. now ++ xs) rest.sends;
+  delivers = ap (λ xs. xs ++ delivered_from (keeping_step k input).1 inputs) is_new ∙ ap (λ k'. new ++ delivered_from k' inputs) is_after ∙ ap (λ xs. new ++ xs) rest.delivers;
+  ends = ap (λ k'. keeping_after k' inputs) is_after ∙ rest.ends;
+  sound = at_each;
+}
+  where
+    at_each : (n : ℕ) → IsSound (keeping_after k (take n (input ∷ inputs))).secy
+    at_each zero = sound
+    at_each (suc n) = subst (λ (k' : Keeping). IsSound (keeping_after k' (take n inputs)).secy) (sym is_after) (rest.sound n)
+
+-- ---- the premises at an input of the receiver
+
+-- what is opened of a link frame is among these uses of the cipher
+abbrev pub IsAmong : List CipherUse → Keeping → KeepingInput → Type 0
+IsAmong uses k (endpoint_input (link_frame frame)) = IfSome (use_opened k.secy frame) (Contains uses)
+IsAmong uses k other = Unit {0}
+
+-- an input that does not come from the link
+abbrev pub IsOwn : KeepingInput → Type 0
+IsOwn (now_durable r) = Unit {0}
+IsOwn (endpoint_input (operator_command c)) = Unit {0}
+IsOwn (endpoint_input (client_frame frame)) = Unit {0}
+IsOwn (endpoint_input (uncontrolled_frame frame)) = Unit {0}
+IsOwn (endpoint_input (link_frame frame)) = ⊥
+
+abbrev pub AreOwn : List KeepingInput → Type 0
+AreOwn [] = Unit {0}
+AreOwn (input ∷ inputs) = IsOwn input × AreOwn inputs
+
+-- what was sealed at both ends so far
+abbrev pub sealed_so_far : List Happening → List CipherUse
+sealed_so_far before = sealed_in_all (runs_of A before) ++ sealed_in_all (runs_of B before)
+
+abbrev pub AreSealed : List Happening → List CipherUse → Type 0
+AreSealed before uses = (u : CipherUse) → Contains uses u → Contains (sealed_so_far before) u
+
+-- it stays sealed
+seals_more : (e : End) (before : List Happening) (h : Happening) (u : CipherUse) → IsMember (sealed_in_all (runs_of e before)) u → IsMember (sealed_in_all (runs_of e (before ++ h ∷ []))) u
+seals_more e before h u there =
+    let more = sends_more e before h in
+    let old = sent_in_all (runs_of e before) in
+    let first : IsMember (map seal_of_sent old) u = subst (λ (us : List CipherUse). IsMember us u) (sym (seals_of_runs (runs_of e before))) there in
+    let both : IsMember (map seal_of_sent (old ++ more.added)) u =
+    subst (λ (us : List CipherUse). IsMember us u) (sym (map-append seal_of_sent old more.added)) (in_front (map seal_of_sent old) (map seal_of_sent more.added) u first) in
+    subst (λ (us : List CipherUse). IsMember us u) (ap (map seal_of_sent) (sym more.more) ∙ seals_of_runs (runs_of e (before ++ h ∷ []))) both
+
+pub more_sealed : (before : List Happening) (h : Happening) (u : CipherUse) → Contains (sealed_so_far before) u → Contains (sealed_so_far (before ++ h ∷ [])) u
+more_sealed before h u there =
+    contained (sealed_so_far (before ++ h ∷ [])) u
+    (by_end (either_list (sealed_in_all (runs_of A before)) (sealed_in_all (runs_of B before)) u (member (sealed_so_far before) u there)))
+  where
+    by_end : IsMember (sealed_in_all (runs_of A before)) u ⊎ IsMember (sealed_in_all (runs_of B before)) u → IsMember (sealed_so_far (before ++ h ∷ [])) u
+    by_end (inl here) = in_front (sealed_in_all (runs_of A (before ++ h ∷ []))) (sealed_in_all (runs_of B (before ++ h ∷ []))) u (seals_more A before h u here)
+    by_end (inr here) = at_end (sealed_in_all (runs_of A (before ++ h ∷ []))) (sealed_in_all (runs_of B (before ++ h ∷ []))) u (seals_more B before h u here)
+
+module _ (left_out : Premise) (bytes : List ℕ) (sci : Sci) (an : ℕ) where
+  pub record IsStep (k : Keeping) (ds : List Delivery) (uses : List CipherUse) (input : KeepingInput) : Type 0 where
+    pub genuine : IsNotForged ≢ left_out → IsAmong uses k input
+    pub octets : HasOctets (comes_in B input)
+    pub order : (d : Delivery) → Contains (delivered_at bytes sci an (newly_delivered k input)) d → HasStrictOrderBut left_out k.secy
+    pub creates : IsCreatedAbove ≢ left_out → CreatesAbove k.secy (keeping_step k input).1.secy bytes sci an ds
+
+  pub data AreSteps : Keeping → List Delivery → List CipherUse → List KeepingInput → Type 0 where
+    no_step : {k : Keeping} {ds : List Delivery} {uses : List CipherUse} → AreSteps k ds uses []
+    a_step : {k : Keeping} {ds : List Delivery} {uses : List CipherUse} {input : KeepingInput} {inputs : List KeepingInput} → IsStep k ds uses input →
+        AreSteps (keeping_step k input).1 (ds ++ delivered_at bytes sci an (newly_delivered k input)) uses inputs → AreSteps k ds uses (input ∷ inputs)
+
+  pub step_next : (k after : Keeping) (ds new : List Delivery) (uses : List CipherUse) (input : KeepingInput) (inputs : List KeepingInput) → IsStep k ds uses input →
+      (keeping_step k input).1 ≡ after → newly_delivered k input ≡ new → AreSteps after (ds ++ delivered_at bytes sci an new) uses inputs → AreSteps k ds uses (input ∷ inputs)
+  step_next k after ds new uses input inputs now is_after is_new rest =
+      a_step now (subst (λ (k' : Keeping). AreSteps k' (ds ++ delivered_at bytes sci an (newly_delivered k input)) uses inputs) (sym is_after)
+      (subst (λ (xs : List Delivery). AreSteps after (ds ++ delivered_at bytes sci an xs) uses inputs) (sym is_new) rest))
+
+  nothing : (d : Delivery) → Contains [] d → ⊥
+  nothing d there = member [] d there
+
+  -- what does not come from the link, before the SA delivers anything in this run
+  own_step : (k : Keeping) (uses : List CipherUse) (input : KeepingInput) → IsOwn input → IsStep k [] uses input
+  own_step k uses (now_durable r) own =
+      record { genuine = λ d. tt; octets = tt; order = λ d there. absurd (nothing d there); creates = λ d row there under fresh. All-nil (λ (d' : Delivery). d'.number < row.next) }
+  own_step k uses (endpoint_input (operator_command c)) own =
+      record { genuine = λ d. tt; octets = tt; order = λ d there. absurd (nothing d there); creates = λ d row there under fresh. All-nil (λ (d' : Delivery). d'.number < row.next) }
+  own_step k uses (endpoint_input (client_frame frame)) own =
+      record { genuine = λ d. tt; octets = tt; order = λ d there. absurd (nothing d there); creates = λ d row there under fresh. All-nil (λ (d' : Delivery). d'.number < row.next) }
+  own_step k uses (endpoint_input (uncontrolled_frame frame)) own =
+      record { genuine = λ d. tt; octets = tt; order = λ d there. absurd (nothing d there); creates = λ d row there under fresh. All-nil (λ (d' : Delivery). d'.number < row.next) }
+  own_step k uses (endpoint_input (link_frame frame)) own = absurd own
+
+  no_delivery : (k : Keeping) (input : KeepingInput) → IsOwn input → newly_delivered k input ≡ []
+  no_delivery k (now_durable r) own = refl
+  no_delivery k (endpoint_input (operator_command c)) own = refl
+  no_delivery k (endpoint_input (client_frame frame)) own = refl
+  no_delivery k (endpoint_input (uncontrolled_frame frame)) own = refl
+  no_delivery k (endpoint_input (link_frame frame)) own = absurd own
+
+  pub after_own : (first more : List KeepingInput) (k : Keeping) (uses : List CipherUse) → AreOwn first → AreSteps (keeping_after k first) [] uses more → AreSteps k [] uses (first ++ more)
+  after_own [] more k uses own rest = rest
+  after_own (input ∷ first) more k uses own rest =
+      step_next k (keeping_step k input).1 [] [] uses input (first ++ more) (own_step k uses input own.0) refl (no_delivery k input own.0)
+      (after_own first more (keeping_step k input).1 uses own.1 rest)
+
+  -- ---- in a list of happenings, of which B is the receiver
+
+  abbrev IsMet : List Happening → Happening → Type 0
+  IsMet = IsOrderlyBut left_out B bytes sci an
+
+  pub a_begins : (before more : List Happening) (config : EndConfig) (journal : List ℕ) → AtEach IsMet (before ++ begins A config journal ∷ []) more → AtEach IsMet before (begins A config journal ∷ more)
+  a_begins before more config journal rest = (record { genuine = λ d. tt; octets = tt; ordered = λ same. cc }, rest)
+
+  pub b_begins : (before more : List Happening) (config : EndConfig) (journal : List ℕ) → (IsSaved ≢ left_out → SavedIn journal bytes sci an (delivered_so_far B bytes sci an before)) →
+      AtEach IsMet (before ++ begins B config journal ∷ []) more → AtEach IsMet before (begins B config journal ∷ more)
+  b_begins before more config journal saved rest = (record { genuine = λ d. tt; octets = tt; ordered = λ same. saved }, rest)
+
+  a_input : (before : List Happening) (input : KeepingInput) → IsOwn input → IsMet before (comes_in A input)
+  a_input before (now_durable r) own = record { genuine = λ d. tt; octets = tt; ordered = λ same. cc }
+  a_input before (endpoint_input (operator_command c)) own = record { genuine = λ d. tt; octets = tt; ordered = λ same. cc }
+  a_input before (endpoint_input (client_frame frame)) own = record { genuine = λ d. tt; octets = tt; ordered = λ same. cc }
+  a_input before (endpoint_input (uncontrolled_frame frame)) own = record { genuine = λ d. tt; octets = tt; ordered = λ same. cc }
+  a_input before (endpoint_input (link_frame frame)) own = absurd own
+
+  pub a_inputs : (inputs : List KeepingInput) (before more : List Happening) → AreOwn inputs → AtEach IsMet (before ++ map (comes_in A) inputs) more → AtEach IsMet before (map (comes_in A) inputs ++ more)
+  a_inputs [] before more own rest = subst (λ (hs : List Happening). AtEach IsMet hs more) (append-nil before) rest
+  a_inputs (input ∷ inputs) before more own rest = (
+    a_input before input own.0,
+    a_inputs inputs (before ++ comes_in A input ∷ []) more own.1
+        (subst (λ (hs : List Happening). AtEach IsMet hs more) (sym (append_assoc before (comes_in A input ∷ []) (map (comes_in A) inputs))) rest),
+  )
+
+  among_more : (xs ys : List CipherUse) → ((u : CipherUse) → Contains xs u → Contains ys u) → (o : Option CipherUse) → IfSome o (Contains xs) → IfSome o (Contains ys)
+  among_more xs ys within None there = tt
+  among_more xs ys within (Some u) there = within u there
+
+  is_genuine : (before : List Happening) (run : Run) → last_run (runs_of B before) ≡ Some run → (uses : List CipherUse) → AreSealed before uses → (input : KeepingInput) →
+      IsAmong uses (closing run) input → IsGenuineAt before (comes_in B input)
+  is_genuine before run last uses within (now_durable r) among = tt
+  is_genuine before run last uses within (endpoint_input (operator_command c)) among = tt
+  is_genuine before run last uses within (endpoint_input (client_frame frame)) among = tt
+  is_genuine before run last uses within (endpoint_input (uncontrolled_frame frame)) among = tt
+  is_genuine before run last uses within (endpoint_input (link_frame frame)) among =
+      subst (λ (o : Option Run). IfSome o (λ q. IfSome (use_opened (closing q).secy frame) (Contains (sealed_so_far before)))) (sym last)
+      (among_more uses (sealed_so_far before) within (use_opened (closing run).secy frame) among)
+
+  b_input : (before : List Happening) (run : Run) → last_run (runs_of B before) ≡ Some run → (uses : List CipherUse) → AreSealed before uses → (input : KeepingInput) →
+      IsStep (closing run) (delivered_in run bytes sci an) uses input → IsMet before (comes_in B input)
+  b_input before run last uses within input now = record {
+    genuine = λ d. is_genuine before run last uses within input (now.genuine d);
+    octets = now.octets;
+    ordered = λ same. subst (λ (o : Option Run). IfSome o (λ q. IsOrderedInputBut left_out q bytes sci an input)) (sym last) (record { order = now.order; creates = now.creates });
+  }
+
+  pub b_inputs : (inputs : List KeepingInput) (before more : List Happening) (run : Run) → last_run (runs_of B before) ≡ Some run → (uses : List CipherUse) → AreSealed before uses →
+      AreSteps (closing run) (delivered_in run bytes sci an) uses inputs → AtEach IsMet (before ++ map (comes_in B) inputs) more → AtEach IsMet before (map (comes_in B) inputs ++ more)
+  b_inputs [] before more run last uses within steps rest = subst (λ (hs : List Happening). AtEach IsMet hs more) (append-nil before) rest
+  b_inputs (input ∷ inputs) before more run last uses within (a_step now later) rest =
+      let hs = before ++ comes_in B input ∷ [] in
+      let run' = with_input input run in (
+        b_input before run last uses within input now,
+        b_inputs inputs hs more run' (ap last_run (runs_of-input B B input before refl) ∙ last_run-with_last input (runs_of B before) ∙ ap (option_map (with_input input)) last)
+            uses (λ u there. more_sealed before (comes_in B input) u (within u there))
+            (subst (λ (ds : List Delivery). AreSteps (closing run') ds uses inputs) (sym (delivered_in-input bytes sci an input run))
+            (subst (λ (k : Keeping). AreSteps k (delivered_in run bytes sci an ++ delivered_at bytes sci an (newly_delivered (closing run) input)) uses inputs) (sym (closing-input input run)) later))
+            (subst (λ (hs' : List Happening). AtEach IsMet hs' more) (sym (append_assoc before (comes_in B input ∷ []) (map (comes_in B) inputs))) rest),
+      )
+
+-- ---- a list of runs, each of which ends before the next one begins, at either end
+
+abbrev pub EndRun : Type 0
+EndRun = End × Run
+
+abbrev pub blocks : List EndRun → List Happening
+blocks [] = []
+blocks (it ∷ more) = begins it.0 it.1.config it.1.journal ∷ (map (comes_in it.0) it.1.inputs ++ blocks more)
+
+abbrev pub of_end : End → List EndRun → List Run
+of_end e [] = []
+of_end e (it ∷ more) = if same_end e it.0 then it.1 ∷ of_end e more else of_end e more
+
+inputs_passed : (e f : End) (inputs : List KeepingInput) (more : List Happening) →
+    inputs_until e (map (comes_in f) inputs ++ more) ≡ (if same_end e f then inputs ++ inputs_until e more else inputs_until e more)
+inputs_passed e f [] more = by_end (same_end e f)
+  where
+    by_end : (b : Bool) → inputs_until e more ≡ (if b then inputs_until e more else inputs_until e more)
+    by_end true = refl
+    by_end false = refl
+inputs_passed e f (input ∷ inputs) more = by_end (same_end e f) (inputs_passed e f inputs more)
+  where
+    by_end : (b : Bool) → inputs_until e (map (comes_in f) inputs ++ more) ≡ (if b then inputs ++ inputs_until e more else inputs_until e more) →
+        (if b then input ∷ inputs_until e (map (comes_in f) inputs ++ more) else inputs_until e (map (comes_in f) inputs ++ more)) ≡
+        (if b then input ∷ inputs ++ inputs_until e more else inputs_until e more)
+    by_end true rest = ap (λ is. input ∷ is) rest
+    by_end false rest = rest
+
+none_before : (e : End) (its : List EndRun) → inputs_until e (blocks its) ≡ []
+none_before e [] = refl
+none_before e (it ∷ more) = by_end (same_end e it.0) refl (none_before e more)
+  where
+    by_end : (b : Bool) → same_end e it.0 ≡ b → inputs_until e (blocks more) ≡ [] → (if b then [] else inputs_until e (map (comes_in it.0) it.1.inputs ++ blocks more)) ≡ []
+    by_end true same none = refl
+    by_end false other none =
+        inputs_passed e it.0 it.1.inputs (blocks more)
+        ∙ ap (λ (b : Bool). if b then it.1.inputs ++ inputs_until e (blocks more) else inputs_until e (blocks more)) other
+        ∙ none
+
+runs_passed : (e f : End) (inputs : List KeepingInput) (more : List Happening) → runs_of e (map (comes_in f) inputs ++ more) ≡ runs_of e more
+runs_passed e f [] more = refl
+runs_passed e f (input ∷ inputs) more = runs_passed e f inputs more
+
+pub runs_of-blocks : (e : End) (its : List EndRun) → runs_of e (blocks its) ≡ of_end e its
+runs_of-blocks e [] = refl
+runs_of-blocks e (it ∷ more) = by_end (same_end e it.0) refl (runs_passed e it.0 it.1.inputs (blocks more) ∙ runs_of-blocks e more)
+  where
+    inputs : List KeepingInput
+    inputs = inputs_until e (map (comes_in it.0) it.1.inputs ++ blocks more)
+
+    Rest : Type 0
+    Rest = runs_of e (map (comes_in it.0) it.1.inputs ++ blocks more) ≡ of_end e more
+
+    by_end : (b : Bool) → same_end e it.0 ≡ b → Rest →
+        (if b then record { journal = it.1.journal; config = it.1.config; inputs = inputs } ∷ runs_of e (map (comes_in it.0) it.1.inputs ++ blocks more) else runs_of e (map (comes_in it.0) it.1.inputs ++ blocks more)) ≡
+        (if b then it.1 ∷ of_end e more else of_end e more)
+    by_end false other rest = rest
+    by_end true same rest =
+        let all : inputs ≡ it.1.inputs =
+        inputs_passed e it.0 it.1.inputs (blocks more)
+        ∙ ap (λ (b : Bool). if b then it.1.inputs ++ inputs_until e (blocks more) else inputs_until e (blocks more)) same
+        ∙ ap (λ (is : List KeepingInput). it.1.inputs ++ is) (none_before e more)
+        ∙ append-nil it.1.inputs in
+        ap (λ (is : List KeepingInput). record { journal = it.1.journal; config = it.1.config; inputs = is } ∷ runs_of e (map (comes_in it.0) it.1.inputs ++ blocks more)) all
+        ∙ ap (λ (rs : List Run). it.1 ∷ rs) rest
+
+blocks-push : (its : List EndRun) (it : EndRun) → blocks (its ++ it ∷ []) ≡ (blocks its ++ begins it.0 it.1.config it.1.journal ∷ []) ++ map (comes_in it.0) it.1.inputs
+blocks-push [] it = ap (λ (hs : List Happening). begins it.0 it.1.config it.1.journal ∷ hs) (append-nil (map (comes_in it.0) it.1.inputs))
+blocks-push (x ∷ its) it =
+    ap (λ (hs : List Happening). begins x.0 x.1.config x.1.journal ∷ (map (comes_in x.0) x.1.inputs ++ hs)) (blocks-push its it)
+    ∙ ap (λ (hs : List Happening). begins x.0 x.1.config x.1.journal ∷ hs)
+    (sym (append_assoc (map (comes_in x.0) x.1.inputs) (blocks its ++ begins it.0 it.1.config it.1.journal ∷ []) (map (comes_in it.0) it.1.inputs))
+    ∙ ap (λ (hs : List Happening). hs ++ map (comes_in it.0) it.1.inputs) (sym (append_assoc (map (comes_in x.0) x.1.inputs) (blocks its) (begins it.0 it.1.config it.1.journal ∷ []))))
+
+module _ (left_out : Premise) (bytes : List ℕ) (sci : Sci) (an : ℕ) where
+  -- what each run has to meet, where `done` were before
+  abbrev pub IsMetBy : List EndRun → End → Run → Type 0
+  IsMetBy done A run = AreOwn run.inputs
+  IsMetBy done B run =
+      (IsSaved ≢ left_out → SavedIn run.journal bytes sci an (delivered_at bytes sci an (delivered_in_all (of_end B done))))
+      × AreSteps left_out bytes sci an (opening run) [] (sealed_in_all (of_end A done) ++ sealed_in_all (of_end B done)) run.inputs
+
+  abbrev pub AreMet : List EndRun → List EndRun → Type 0
+  AreMet done [] = Unit {0}
+  AreMet done (it ∷ more) = IsMetBy done it.0 it.1 × AreMet (done ++ it ∷ []) more
+
+  one_met : (done : List EndRun) (e : End) (run : Run) (more : List Happening) → IsMetBy done e run →
+      AtEach (IsOrderlyBut left_out B bytes sci an) (blocks (done ++ (e, run) ∷ [])) more →
+      AtEach (IsOrderlyBut left_out B bytes sci an) (blocks done) (begins e run.config run.journal ∷ (map (comes_in e) run.inputs ++ more))
+  one_met done A run more own rest =
+      a_begins left_out bytes sci an (blocks done) (map (comes_in A) run.inputs ++ more) run.config run.journal
+      (a_inputs left_out bytes sci an run.inputs (blocks done ++ begins A run.config run.journal ∷ []) more own
+      (subst (λ (hs : List Happening). AtEach (IsOrderlyBut left_out B bytes sci an) hs more) (blocks-push done (A, run)) rest))
+  one_met done B run more it rest =
+      b_begins left_out bytes sci an (blocks done) (map (comes_in B) run.inputs ++ more) run.config run.journal
+      (λ d. subst (λ (rs : List Run). SavedIn run.journal bytes sci an (delivered_at bytes sci an (delivered_in_all rs))) (sym (runs_of-blocks B done)) (it.0 d))
+      (b_inputs left_out bytes sci an run.inputs (blocks done ++ begins B run.config run.journal ∷ []) more (record { journal = run.journal; config = run.config; inputs = [] })
+      (ap last_run (runs_of-begins B B run.config run.journal (blocks done)) ∙ last_run-push (runs_of B (blocks done)) (record { journal = run.journal; config = run.config; inputs = [] }))
+      (sealed_in_all (of_end A done) ++ sealed_in_all (of_end B done))
+      (λ u there. more_sealed (blocks done) (begins B run.config run.journal) u
+      (subst (λ (ra : List Run). Contains (sealed_in_all ra ++ sealed_in_all (runs_of B (blocks done))) u) (sym (runs_of-blocks A done))
+      (subst (λ (rb : List Run). Contains (sealed_in_all (of_end A done) ++ sealed_in_all rb) u) (sym (runs_of-blocks B done)) there)))
+      it.1 (subst (λ (hs : List Happening). AtEach (IsOrderlyBut left_out B bytes sci an) hs more) (blocks-push done (B, run)) rest))
+
+  pub met : (done more : List EndRun) → AreMet done more → AtEach (IsOrderlyBut left_out B bytes sci an) (blocks done) (blocks more)
+  met done [] are = tt
+  met done (it ∷ more) are = one_met done it.0 it.1 (blocks more) are.0 (met (done ++ it ∷ []) more are.1)

@@ -1,0 +1,129 @@
+-- Two ends whose runs have the key of worked runs: what makes them peers, and what a history of them shows.
+use Rattle.std.proofs.Common.{◌≡◌, ℕ, ◌≤◌, true, List, [], ◌∷◌, map, get_or, refl, ap, sym, subst, ◌∙◌, arith, All, AllPairs, Contains}
+use Rattle.std.proofs.lemmas.List.Elements.{All-nil, All-weaker}
+use Rattle.macsec_tag.specs.declared.identifiers.Sci.{Sci}
+use Rattle.macsec_suite.specs.KeyRows.{InstalledKey}
+use Rattle.macsec_suite.specs.Suites.{is_xpn}
+use Rattle.macsec_commands.specs.declared.event.End.TheVariants.{A, B}
+use Rattle.macsec_link.specs.Origin.{IsSubsequence}
+use Rattle.macsec_reserve.specs.Histories.{AgreeOnKey, AgreeOnKeys, IsHistory, KeepsDurable, Run, SameSalt, closing, opening, sealed_in_all}
+use Rattle.macsec_reserve.specs.Journal.{highest, receiving_name, reservations, salt_of, sending_name}
+use Rattle.macsec_reserve.specs.Keeping.{Keeping}
+use Rattle.macsec_reserve.specs.TwoEnds.{AgreeAtBoth, AreOfTwoEnds}
+use Rattle.macsec_counterexamples.proofs.Link.Exchange.{key_row}
+use Rattle.macsec_counterexamples.proofs.Link.WorkedEnds.{bytes, only, sci_a, sci_b, scis_differ}
+use Rattle.macsec_restarts.specs.Delivered.{Delivery, delivered_at, delivered_in_all}
+use Rattle.macsec_restarts.specs.Happenings.{AtEach, runs_of}
+use Rattle.macsec_restarts.specs.Order.{IsOrderly, SavedIn, delivered_so_far, numbered_delivery, numbered_sent}
+use Rattle.macsec_restarts.specs.Peers.{ArePeers, IsSameEnd}
+use Rattle.macsec_restarts.specs.Sent.{SentIn, sent_in_all, sent_under}
+use Rattle.macsec_restarts.proofs.Examples.Blocks.{AreMet, EndRun, Told, blocks, met, of_end, runs_of-blocks}
+use Rattle.macsec_restarts.proofs.Examples.Premises.{ArePeersBut, LawWithout, NoPremise, Premise, each_suffices, peers_suffice}
+use Rattle.macsec_restarts.proofs.Sends.{seal_of_sent, seals_of_runs}
+use Rattle.macsec_restarts.proofs.SoundRuns.{IsSoundRun}
+
+-- ---- a run of an end
+
+-- its endpoint has this SCI, and no key but this one, under this own SSCI
+pub record IsRunOf (ssci : ℕ) (sci : Sci) (run : Run) : Type 0 where
+  pub sound : IsSoundRun run
+  pub of_sci : run.config.sci ≡ sci
+  pub keys : (x : InstalledKey) → Contains (closing run).secy.keys x → (unused : ℕ) × (x ≡ key_row ssci unused)
+
+pub run_told : (ssci unused : ℕ) (sci : Sci) (run : Run) (sends : List SentIn) (ds : List Delivery) (last : Keeping) → run.config.sci ≡ sci → last.secy.keys ≡ key_row ssci unused ∷ [] →
+    Told (opening run) run.inputs sends ds last → IsRunOf ssci sci run
+run_told ssci unused sci run sends ds last of_sci keys told = record {
+  sound = told.sound;
+  of_sci = of_sci;
+  keys = λ x there.
+      (unused, sym (only (key_row ssci unused) x (subst (λ (ks : List InstalledKey). Contains ks x) (ap (λ (k : Keeping). k.secy.keys) told.ends ∙ keys) there)));
+}
+
+of_keys : (R : InstalledKey → InstalledKey → Type 0) (ssci other : ℕ) (sci sci' : Sci) (p q : Run) → IsRunOf ssci sci p → IsRunOf other sci' q →
+    ((n m : ℕ) → R (key_row ssci n) (key_row other m)) → (x y : InstalledKey) → Contains (closing p).secy.keys x → Contains (closing q).secy.keys y → R x y
+of_keys R ssci other sci sci' p q a b holds x y there there' =
+    let k = a.keys x there in
+    let l = b.keys y there' in
+    subst (λ (z : InstalledKey). R z y) (sym k.1) (subst (R (key_row ssci k.0)) (sym l.1) (holds k.0 l.0))
+
+pub agree : (ssci other : ℕ) (sci sci' : Sci) (p q : Run) → IsRunOf ssci sci p → IsRunOf other sci' q → AgreeOnKeys p q
+agree ssci other sci sci' p q a b = of_keys (λ x y. x.bytes ≡ y.bytes → AgreeOnKey x y) ssci other sci sci' p q a b (λ n m same. record { suite = refl; salt = λ xpn. refl })
+
+same_runs : (ssci : ℕ) (sci : Sci) (p q : Run) → IsRunOf ssci sci p → IsRunOf ssci sci q → IsSameEnd p q
+same_runs ssci sci p q a b = record {
+  sci = a.of_sci ∙ sym b.of_sci;
+  ssci = of_keys (λ x y. x.bytes ≡ y.bytes → is_xpn x.suite ≡ true → x.ssci ≡ y.ssci) ssci ssci sci sci p q a b (λ n m same xpn. refl);
+}
+
+apart : (p q : Run) → IsRunOf 1 sci_a p → IsRunOf 2 sci_b q → AreOfTwoEnds p q
+apart p q a b = record {
+  sci = λ same. scis_differ sci_a sci_b (λ octets. omega (arith, octets)) (sym a.of_sci ∙ same ∙ b.of_sci);
+  keys = of_keys (λ x y. x.bytes ≡ y.bytes → AgreeAtBoth x y) 1 2 sci_a sci_b p q a b (λ n m same. record { agree = record { suite = refl; salt = λ xpn. refl }; ssci = λ xpn. cc });
+}
+
+-- ---- all runs
+
+pairs_of_all : {X : Type 0} (P : X → Type 0) (R : X → X → Type 0) → ((x y : X) → P x → P y → R x y) → (xs : List X) → All P xs → AllPairs R xs
+pairs_of_all P R pair xs all i j d less within = pair (get_or xs i d) (get_or xs j d) (all i d (omega (arith, less, within))) (all j d within)
+
+pub history : (ssci : ℕ) (sci : Sci) (runs : List Run) → All (IsRunOf ssci sci) runs → AllPairs SameSalt runs → AllPairs KeepsDurable runs → IsHistory runs
+history ssci sci runs are salt durable = record {
+  sound = All-weaker (IsRunOf ssci sci) IsSoundRun (λ run it. it.sound) runs are;
+  agree = pairs_of_all (IsRunOf ssci sci) AgreeOnKeys (agree ssci ssci sci sci) runs are;
+  salt = salt;
+  durable = durable;
+}
+
+pub peers : (left_out : Premise) (its : List EndRun) → All (IsRunOf 1 sci_a) (of_end A its) → AllPairs SameSalt (of_end A its) → AllPairs KeepsDurable (of_end A its) →
+    All (IsRunOf 2 sci_b) (of_end B its) → AllPairs SameSalt (of_end B its) → AllPairs KeepsDurable (of_end B its) → ArePeersBut left_out (blocks its)
+peers left_out its ra salt_a durable_a rb salt_b durable_b =
+    let a = sym (runs_of-blocks A its) in
+    let b = sym (runs_of-blocks B its) in
+    record {
+      a = subst IsHistory a (history 1 sci_a (of_end A its) ra salt_a durable_a);
+      b = subst IsHistory b (history 2 sci_b (of_end B its) rb salt_b durable_b);
+      apart = subst (λ (rs : List Run). All (λ run. All (AreOfTwoEnds run) (runs_of B (blocks its))) rs) a
+          (subst (λ (rs : List Run). All (λ run. All (AreOfTwoEnds run) rs) (of_end A its)) b
+          (All-weaker (IsRunOf 1 sci_a) (λ run. All (AreOfTwoEnds run) (of_end B its))
+          (λ run it. All-weaker (IsRunOf 2 sci_b) (AreOfTwoEnds run) (λ other it'. apart run other it it') (of_end B its) rb) (of_end A its) ra));
+      one_a = λ d. subst (AllPairs IsSameEnd) a (pairs_of_all (IsRunOf 1 sci_a) IsSameEnd (same_runs 1 sci_a) (of_end A its) ra);
+      one_b = λ d. subst (AllPairs IsSameEnd) b (pairs_of_all (IsRunOf 2 sci_b) IsSameEnd (same_runs 2 sci_b) (of_end B its) rb);
+    }
+
+-- the uses of the cipher are those of what was sent
+pub seals_are : (runs : List Run) (sends : List SentIn) → sent_in_all runs ≡ sends → sealed_in_all runs ≡ map seal_of_sent sends
+seals_are runs sends is = sym (seals_of_runs runs) ∙ ap (map seal_of_sent) is
+
+pub nothing_saved : (journal : List ℕ) → SavedIn journal bytes sci_a 0 []
+nothing_saved journal = All-nil (λ (d : Delivery). d.number ≤ highest (reservations journal) (receiving_name (sending_name (salt_of journal) bytes) sci_a 0))
+
+-- ---- what a history shows
+
+-- it meets all premises; and what A sent and B delivered, each client frame after its packet number
+pub record MeetsAll (its : List EndRun) (sent delivered : List (List ℕ)) : Type 0 where
+  pub orderly : AtEach (IsOrderly B bytes sci_a 0) [] (blocks its)
+  pub are_peers : ArePeers (blocks its)
+  pub sends : map numbered_sent (sent_under bytes (sent_in_all (runs_of A (blocks its)))) ≡ sent
+  pub delivers : map numbered_delivery (delivered_so_far B bytes sci_a 0 (blocks its)) ≡ delivered
+
+pub meets_all : (its : List EndRun) (sends : List SentIn) (ds : List Delivery) → AreMet NoPremise bytes sci_a 0 [] its → ArePeersBut NoPremise (blocks its) →
+    sent_in_all (of_end A its) ≡ sends → delivered_in_all (of_end B its) ≡ ds →
+    MeetsAll its (map numbered_sent (sent_under bytes sends)) (map numbered_delivery (delivered_at bytes sci_a 0 ds))
+meets_all its sends ds are peers' sent delivered = record {
+  orderly = each_suffices B bytes sci_a 0 [] (blocks its) (met NoPremise bytes sci_a 0 [] its are);
+  are_peers = peers_suffice (blocks its) peers';
+  sends = ap (λ (rs : List Run). map numbered_sent (sent_under bytes (sent_in_all rs))) (runs_of-blocks A its) ∙ ap (λ xs. map numbered_sent (sent_under bytes xs)) sent;
+  delivers = ap (λ (rs : List Run). map numbered_delivery (delivered_at bytes sci_a 0 (delivered_in_all rs))) (runs_of-blocks B its)
+      ∙ ap (λ xs. map numbered_delivery (delivered_at bytes sci_a 0 xs)) delivered;
+}
+
+-- it meets all premises but one, and what B delivered is no subsequence of what A sent
+pub refuted : (left_out : Premise) (its : List EndRun) (sends : List SentIn) (ds : List Delivery) → AreMet left_out bytes sci_a 0 [] its → ArePeersBut left_out (blocks its) →
+    sent_in_all (of_end A its) ≡ sends → delivered_in_all (of_end B its) ≡ ds →
+    (IsSubsequence (map numbered_delivery (delivered_at bytes sci_a 0 ds)) (map numbered_sent (sent_under bytes sends)) → ⊥) → LawWithout left_out (blocks its) → ⊥
+refuted left_out its sends ds are peers' sent delivered none law =
+    none (subst (λ (xs : List Delivery). IsSubsequence (map numbered_delivery (delivered_at bytes sci_a 0 xs)) (map numbered_sent (sent_under bytes sends))) delivered
+    (subst (λ (rs : List Run). IsSubsequence (map numbered_delivery (delivered_at bytes sci_a 0 (delivered_in_all rs))) (map numbered_sent (sent_under bytes sends))) (runs_of-blocks B its)
+    (subst (λ (xs : List SentIn). IsSubsequence (map numbered_delivery (delivered_so_far B bytes sci_a 0 (blocks its))) (map numbered_sent (sent_under bytes xs))) sent
+    (subst (λ (rs : List Run). IsSubsequence (map numbered_delivery (delivered_so_far B bytes sci_a 0 (blocks its))) (map numbered_sent (sent_under bytes (sent_in_all rs)))) (runs_of-blocks A its)
+    (law B bytes sci_a 0 (met left_out bytes sci_a 0 [] its are) peers')))))

@@ -1,0 +1,13 @@
+mod Lists
+mod OneUse
+mod Listed
+mod FromSas
+mod SoundRuns
+mod Sends
+mod Pushed
+mod Prefixes
+mod Origins
+mod SendsRise
+mod NextNumbers
+mod InOrder
+mod Examples

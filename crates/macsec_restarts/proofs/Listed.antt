@@ -1,0 +1,79 @@
+-- What is delivered from an SA is in the list: by the cases of the outputs.
+use Rattle.std.proofs.Common.{◌≡◌, ℕ, Bool, true, false, List, [], refl, ap, sym, subst, ◌∙◌}
+use Rattle.std.specs.Prelude.{option_map, Option, Some, None}
+use Rattle.macsec_suite.specs.declared.refusal.Refusal.{Refusal}
+use Rattle.macsec_suite.specs.KeyRows.{the_key}
+use Rattle.macsec_tx.specs.Transmit.{Leaving, plain, protected, no_sa, too_long}
+use Rattle.macsec_rx.specs.declared.RxRow.{RxRow}
+use Rattle.macsec_rx.specs.Judge.{Judgement, place_of}
+use Rattle.macsec_secy.specs.declared.fault.FrameFault.{FrameFault}
+use Rattle.macsec_secy.specs.Commands.{refusal, state_after_command}
+use Rattle.macsec_secy.specs.Reception.{judgement_of, state_after_receiving}
+use Rattle.macsec_secy.specs.State.{State}
+use Rattle.macsec_secy.specs.Step.{client_frame, command_output, frame_fault, leaves, link_frame, operator_command, received, sending_of, sent_output, state_after_sending, uncontrolled_frame, unless_fault}
+use Rattle.macsec_reserve.specs.Keeping.{Keeping, KeepingInput, KeepingOutput, endpoint_input, endpoint_output, now_durable, is_below_floor, may_go}
+use Rattle.macsec_reserve.proofs.Steps.{by_tests, received_step}
+use Rattle.macsec_restarts.specs.Delivered.{DeliversEachListed, MatchesDeliveries, delivered_by, newly_delivered}
+
+by_refusal : (k : Keeping) (input : KeepingInput) (after : State) → newly_delivered k input ≡ [] → (below go : Bool) (r : Option Refusal) →
+    MatchesDeliveries k input (by_tests below go k (command_output r, after)).0
+by_refusal k input after none true go r = none
+by_refusal k input after none false true None = none
+by_refusal k input after none false true (Some r) = none
+by_refusal k input after none false false r = none
+
+by_plain : (k : Keeping) (input : KeepingInput) (frame : List ℕ) → newly_delivered k input ≡ [] → (go : Bool) (f : Option FrameFault) →
+    MatchesDeliveries k input (by_tests false go k (unless_fault f k.secy (leaves frame None, k.secy))).0
+by_plain k input frame none true None = none
+by_plain k input frame none true (Some f) = none
+by_plain k input frame none false f = none
+
+by_leaving : (k : Keeping) (input : KeepingInput) (frame : List ℕ) (after : State) → newly_delivered k input ≡ [] → (go : Bool) (f : Option FrameFault) (leaving : Leaving) →
+    MatchesDeliveries k input (by_tests false go k (unless_fault f k.secy (sent_output frame leaving, after))).0
+by_leaving k input frame after none false f leaving = none
+by_leaving k input frame after none true (Some f) leaving = none
+by_leaving k input frame after none true None plain = none
+by_leaving k input frame after none true None (protected key octets) = none
+by_leaving k input frame after none true None no_sa = none
+by_leaving k input frame after none true None too_long = none
+
+by_link : (k : Keeping) (frame : List ℕ) → DeliversEachListed k (endpoint_input (link_frame frame))
+by_link k frame =
+    subst (λ (a : KeepingOutput × Keeping). MatchesDeliveries k (endpoint_input (link_frame frame)) a.0) (sym (received_step k frame))
+    (by_parts (frame_fault frame) refl (judgement_of k.secy frame).row refl (judgement_of k.secy frame).delivered refl)
+  where
+    s : State
+    s = k.secy
+
+    j : Judgement
+    j = judgement_of k.secy frame
+
+    these : (f : Option FrameFault) (o : Option RxRow) (d : Option (List ℕ)) → frame_fault frame ≡ f → j.row ≡ o → j.delivered ≡ d →
+        newly_delivered k (endpoint_input (link_frame frame)) ≡ delivered_by s j f o d
+    these f o d fits of_row delivers =
+        ap (λ (x : Option FrameFault). delivered_by s j x j.row j.delivered) fits
+        ∙ ap (λ (x : Option RxRow). delivered_by s j f x j.delivered) of_row
+        ∙ ap (λ (x : Option (List ℕ)). delivered_by s j f o x) delivers
+
+    by_parts : (f : Option FrameFault) → frame_fault frame ≡ f → (o : Option RxRow) → j.row ≡ o → (d : Option (List ℕ)) → j.delivered ≡ d →
+        MatchesDeliveries k (endpoint_input (link_frame frame)) (endpoint_output (unless_fault f s (received j.verdict (option_map place_of o) frame d, state_after_receiving s frame j)).0)
+    by_parts (Some f) fits o of_row d delivers = these (Some f) o d fits of_row delivers
+    by_parts None fits None of_row d delivers = these None None d fits of_row delivers
+    by_parts None fits (Some row) of_row None delivers = these None (Some row) None fits of_row delivers
+    by_parts None fits (Some row) of_row (Some delivered) delivers = record {
+      delivery = record { bytes = (the_key s.keys row.key).bytes; sci = row.sci; an = row.an; number = j.number; frame = delivered };
+      one = these None (Some row) (Some delivered) fits of_row delivers;
+      of_sci = refl;
+      of_an = refl;
+      of_frame = refl;
+    }
+
+pub delivers_each_listed : (k : Keeping) (input : KeepingInput) → DeliversEachListed k input
+delivers_each_listed k (now_durable r) = refl
+delivers_each_listed k (endpoint_input (operator_command c)) =
+    by_refusal k (endpoint_input (operator_command c)) (state_after_command k.secy c) refl (is_below_floor k (operator_command c)) (may_go k (operator_command c)) (refusal k.secy c)
+delivers_each_listed k (endpoint_input (client_frame frame)) =
+    by_leaving k (endpoint_input (client_frame frame)) frame (state_after_sending k.secy frame (sending_of k.secy frame)) refl (may_go k (client_frame frame)) (frame_fault frame) (sending_of k.secy frame).leaving
+delivers_each_listed k (endpoint_input (uncontrolled_frame frame)) =
+    by_plain k (endpoint_input (uncontrolled_frame frame)) frame refl (may_go k (uncontrolled_frame frame)) (frame_fault frame)
+delivers_each_listed k (endpoint_input (link_frame frame)) = by_link k frame

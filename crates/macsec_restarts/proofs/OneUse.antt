@@ -1,0 +1,113 @@
+-- Each protected frame is one use of the cipher: by the cases of what is sent.
+use Rattle.std.proofs.Common.{◌≡◌, ℕ, Bool, true, false, List, [], refl, ap, sym, subst, ◌∙◌}
+use Rattle.std.specs.Prelude.{◌+◌, length, nat_lt, if◌then◌else◌, Option, Some, None}
+use Rattle.macsec_suite.specs.declared.refusal.Refusal.{Refusal}
+use Rattle.macsec_suite.specs.KeyRows.{the_key}
+use Rattle.macsec_suite.specs.Suites.{last_of}
+use Rattle.macsec_tx.specs.declared.TxRow.{TxRow}
+use Rattle.macsec_tx.specs.Transmit.{Leaving, plain, protected, no_sa, too_long, Sending, not_protected, octets_added, protected_frame, row_on, sending_by, tag_sent}
+use Rattle.macsec_secy.specs.declared.fault.FrameFault.{FrameFault}
+use Rattle.macsec_secy.specs.Commands.{refusal, state_after_command}
+use Rattle.macsec_secy.specs.Reception.{judgement_of, state_after_receiving}
+use Rattle.macsec_secy.specs.State.{State, tx_options}
+use Rattle.macsec_secy.specs.Step.{client_frame, command_output, frame_fault, leaves, link_frame, operator_command, received_output, sending_of, sent_output, state_after_sending, uncontrolled_frame, unless_fault}
+use Rattle.macsec_reserve.specs.Histories.{newly_sealed, sealed_by, sealed_if}
+use Rattle.macsec_reserve.specs.Keeping.{Keeping, KeepingInput, endpoint_input, endpoint_output, now_durable, is_below_floor, may_go}
+use Rattle.macsec_reserve.proofs.Steps.{by_tests}
+use Rattle.macsec_restarts.specs.Sent.{MatchesUses, SealsEachFrame}
+
+none_if : (go : Bool) → sealed_if go [] ≡ []
+none_if true = refl
+none_if false = refl
+
+-- ---- inputs that seal nothing
+
+by_refusal : (k : Keeping) (input : KeepingInput) (after : State) → newly_sealed k input ≡ [] → (below go : Bool) (r : Option Refusal) →
+    MatchesUses k input (by_tests below go k (command_output r, after)).0
+by_refusal k input after none true go r = none
+by_refusal k input after none false true None = none
+by_refusal k input after none false true (Some r) = none
+by_refusal k input after none false false r = none
+
+by_plain : (k : Keeping) (input : KeepingInput) (frame : List ℕ) → newly_sealed k input ≡ [] → (go : Bool) (f : Option FrameFault) →
+    MatchesUses k input (by_tests false go k (unless_fault f k.secy (leaves frame None, k.secy))).0
+by_plain k input frame none true None = none
+by_plain k input frame none true (Some f) = none
+by_plain k input frame none false f = none
+
+by_received : (k : Keeping) (frame : List ℕ) (input : KeepingInput) → newly_sealed k input ≡ [] → (go : Bool) (f : Option FrameFault) →
+    MatchesUses k input (by_tests false go k (unless_fault f k.secy (received_output frame (judgement_of k.secy frame), state_after_receiving k.secy frame (judgement_of k.secy frame)))).0
+by_received k frame input none true None = none
+by_received k frame input none true (Some f) = none
+by_received k frame input none false f = none
+
+-- ---- a client frame
+
+-- what is sent: a frame under a key, by an SA, or no such frame
+data IsSending (s : State) (frame : List ℕ) (sent : Sending) : Type 0 where
+  by_sa : (row : TxRow) → sent ≡ record { leaving = protected row.key (protected_frame (tx_options s) (the_key s.keys row.key) row frame); by = Some row } → IsSending s frame sent
+  by_none : (leaving : Leaving) → sent ≡ not_protected leaving → ((k : Keeping) (input : KeepingInput) → newly_sealed k input ≡ [] → MatchesUses k input (endpoint_output (sent_output frame leaving))) → IsSending s frame sent
+
+no_frame : (s : State) (frame : List ℕ) → IsSending s frame (not_protected no_sa)
+no_frame s frame = by_none no_sa refl (λ k input none. none)
+
+long_frame : (s : State) (frame : List ℕ) → IsSending s frame (not_protected too_long)
+long_frame s frame = by_none too_long refl (λ k input none. none)
+
+by_row : (s : State) (frame : List ℕ) (o : Option TxRow) → IsSending s frame (sending_by (tx_options s) s.keys frame o)
+by_row s frame None = no_frame s frame
+by_row s frame (Some row) = by_lengths (nat_lt (last_of (the_key s.keys row.key).suite) row.next) (nat_lt (tx_options s).max_frame (length frame + octets_added (tag_sent (tx_options s) row frame)))
+  where
+    sent : Sending
+    sent = record { leaving = protected row.key (protected_frame (tx_options s) (the_key s.keys row.key) row frame); by = Some row }
+
+    by_lengths : (used long : Bool) → IsSending s frame (if used then not_protected no_sa else if long then not_protected too_long else sent)
+    by_lengths true long = no_frame s frame
+    by_lengths false true = long_frame s frame
+    by_lengths false false = by_sa row refl
+
+is_sending : (s : State) (frame : List ℕ) → IsSending s frame (sending_of s frame)
+is_sending s frame = by_protect (tx_options s).protect (nat_lt (tx_options s).max_frame (length frame))
+  where
+    by_protect : (protects long : Bool) → IsSending s frame (if protects then sending_by (tx_options s) s.keys frame (row_on s.tx) else not_protected (if long then too_long else plain))
+    by_protect true long = by_row s frame (row_on s.tx)
+    by_protect false true = long_frame s frame
+    by_protect false false = by_none plain refl (λ k input none. none)
+
+sends : (k : Keeping) (frame : List ℕ) → (go : Bool) → may_go k (client_frame frame) ≡ go → (f : Option FrameFault) → frame_fault frame ≡ f →
+    (sent : Sending) → sending_of k.secy frame ≡ sent → IsSending k.secy frame sent →
+    MatchesUses k (endpoint_input (client_frame frame)) (by_tests false go k (unless_fault f k.secy (sent_output frame sent.leaving, state_after_sending k.secy frame sent))).0
+sends k frame false goes f fits sent is it = ap (λ b. sealed_if b (sealed_by k.secy frame (frame_fault frame) (sending_of k.secy frame).by)) goes
+sends k frame true goes (Some f) fits sent is it =
+    ap (λ b. sealed_if b (sealed_by k.secy frame (frame_fault frame) (sending_of k.secy frame).by)) goes
+    ∙ ap (λ g. sealed_by k.secy frame g (sending_of k.secy frame).by) fits
+sends k frame true goes None fits sent is (by_none leaving none matches) =
+    subst (λ (x : Sending). MatchesUses k (endpoint_input (client_frame frame)) (endpoint_output (sent_output frame x.leaving))) (sym none)
+    (matches k (endpoint_input (client_frame frame))
+    (ap (λ b. sealed_if b (sealed_by k.secy frame (frame_fault frame) (sending_of k.secy frame).by)) goes
+    ∙ ap (λ g. sealed_by k.secy frame g (sending_of k.secy frame).by) fits
+    ∙ ap (λ (x : Sending). sealed_by k.secy frame None x.by) (is ∙ none)))
+sends k frame true goes None fits sent is (by_sa row one) =
+    subst (λ (x : Sending). MatchesUses k (endpoint_input (client_frame frame)) (endpoint_output (sent_output frame x.leaving))) (sym one)
+    (record {
+      client = frame;
+      came = refl;
+      row = row;
+      by = ap (λ (x : Sending). x.by) (is ∙ one);
+      of_key = refl;
+      octets_are = refl;
+      uses = ap (λ b. sealed_if b (sealed_by k.secy frame (frame_fault frame) (sending_of k.secy frame).by)) goes
+          ∙ ap (λ g. sealed_by k.secy frame g (sending_of k.secy frame).by) fits
+          ∙ ap (λ (x : Sending). sealed_by k.secy frame None x.by) (is ∙ one);
+    })
+
+pub seals_each_frame : (k : Keeping) (input : KeepingInput) → SealsEachFrame k input
+seals_each_frame k (now_durable r) = refl
+seals_each_frame k (endpoint_input (operator_command c)) =
+    by_refusal k (endpoint_input (operator_command c)) (state_after_command k.secy c) (none_if (may_go k (operator_command c))) (is_below_floor k (operator_command c)) (may_go k (operator_command c)) (refusal k.secy c)
+seals_each_frame k (endpoint_input (client_frame frame)) =
+    sends k frame (may_go k (client_frame frame)) refl (frame_fault frame) refl (sending_of k.secy frame) refl (is_sending k.secy frame)
+seals_each_frame k (endpoint_input (uncontrolled_frame frame)) =
+    by_plain k (endpoint_input (uncontrolled_frame frame)) frame (none_if (may_go k (uncontrolled_frame frame))) (may_go k (uncontrolled_frame frame)) (frame_fault frame)
+seals_each_frame k (endpoint_input (link_frame frame)) =
+    by_received k frame (endpoint_input (link_frame frame)) (none_if (may_go k (link_frame frame))) (may_go k (link_frame frame)) (frame_fault frame)

@@ -1,0 +1,80 @@
+-- What an end sends protected, over its runs: each client frame with its packet number (PN) and its use of the cipher.
+use Rattle.std.specs.Prelude.{◌≡◌, ◌<◌, ℕ, List, [], ◌∷◌, ◌++◌, map, filter, Option, Some, None, if◌then◌else◌}
+use Rattle.std.specs.List.{AllPairs}
+use Rattle.macsec_gcm.specs.Octets.{same_octets}
+use Rattle.macsec_tag.specs.Frame.{in_a_row}
+use Rattle.macsec_suite.specs.CipherUses.{CipherUse}
+use Rattle.macsec_suite.specs.KeyRows.{the_key}
+use Rattle.macsec_tx.specs.declared.TxRow.{TxRow}
+use Rattle.macsec_tx.specs.Transmit.{use_sent}
+use Rattle.macsec_secy.specs.declared.fault.FrameFault.{FrameFault}
+use Rattle.macsec_secy.specs.Accepts.{parts_of}
+use Rattle.macsec_secy.specs.State.{State, tx_options}
+use Rattle.macsec_secy.specs.Step.{client_frame, frame_fault, leaves, sending_of}
+use Rattle.macsec_reserve.specs.Histories.{IsHistory, Run, newly_sealed, opening}
+use Rattle.macsec_reserve.specs.Keeping.{Keeping, KeepingInput, KeepingOutput, endpoint_input, endpoint_output, keeping_step, may_go}
+
+-- ---- the list of what was sent
+
+pub record SentIn : Type 0 where
+  pub seal : CipherUse
+  pub number : ℕ
+  pub frame : List ℕ
+
+abbrev pub sent_by : State → List ℕ → Option FrameFault → Option TxRow → List SentIn
+sent_by s frame None (Some row) =
+    record { seal = use_sent (tx_options s) (the_key s.keys row.key) row frame; number = row.next; frame = frame } ∷ []
+sent_by s frame fault by = []
+
+-- what an input adds to it: the client frame, if an SA protects it and its PN is reserved
+abbrev pub newly_sent : Keeping → KeepingInput → List SentIn
+newly_sent k (endpoint_input (client_frame frame)) =
+    if may_go k (client_frame frame) then sent_by k.secy frame (frame_fault frame) (sending_of k.secy frame).by else []
+newly_sent k other = []
+
+abbrev pub sent_from : Keeping → List KeepingInput → List SentIn
+sent_from k [] = []
+sent_from k (input ∷ inputs) = newly_sent k input ++ sent_from (keeping_step k input).1 inputs
+
+abbrev pub sent_in_all : List Run → List SentIn
+sent_in_all [] = []
+sent_in_all (run ∷ runs) = sent_from (opening run) run.inputs ++ sent_in_all runs
+
+-- under a key of these octets
+abbrev pub sent_under : List ℕ → List SentIn → List SentIn
+sent_under bytes sends = filter (λ x. same_octets x.seal.key bytes) sends
+
+-- ---- it is what leaves, and what is sealed
+
+-- a protected frame is that of a client frame and of the SA that protects it: its octets are the parts of the one use of
+-- the cipher that the input seals, and the client frame is in the list with it
+pub record IsOfOneUse (k : Keeping) (input : KeepingInput) (octets : List ℕ) (key : ℕ) : Type 0 where
+  pub client : List ℕ
+  pub came : input ≡ endpoint_input (client_frame client)
+  pub row : TxRow
+  pub by : (sending_of k.secy client).by ≡ Some row
+  pub of_key : row.key ≡ key
+  pub octets_are : octets ≡ in_a_row (parts_of k.secy client row)
+  pub uses : newly_sealed k input ≡ use_sent (tx_options k.secy) (the_key k.secy.keys row.key) row client ∷ []
+
+-- an output, and the uses of the cipher that its input seals: no other output seals any
+abbrev pub MatchesUses : Keeping → KeepingInput → KeepingOutput → Type 0
+MatchesUses k input (endpoint_output (leaves octets (Some key))) = IsOfOneUse k input octets key
+MatchesUses k input other = newly_sealed k input ≡ []
+
+abbrev pub SealsEachFrame : Keeping → KeepingInput → Type 0
+SealsEachFrame k input = MatchesUses k input (keeping_step k input).0
+
+-- the list has one entry for each use of the cipher, with that use
+abbrev pub ListsEachUse : Keeping → KeepingInput → Type 0
+ListsEachUse k input = map (λ (x : SentIn). x.seal) (newly_sent k input) ≡ newly_sealed k input
+
+-- ---- its packet numbers
+
+-- of two client frames that were protected under the same key octets, the later one has the higher PN
+abbrev pub Rises : SentIn → SentIn → Type 0
+Rises x y = x.seal.key ≡ y.seal.key → x.number < y.number
+
+-- over all runs of an end
+abbrev pub NumbersRise : List Run → Type 0
+NumbersRise runs = IsHistory runs → AllPairs Rises (sent_in_all runs)

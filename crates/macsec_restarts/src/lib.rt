@@ -1,0 +1,19 @@
+//! Two ends that both restart, over a link that may lose, repeat, reorder, change and inject frames. There is no code:
+//! each law is the contract of a function that does nothing.
+//!
+//! Proved, over all runs and crashes of both ends (`laws`):
+//! - `seals_each_frame`: each protected frame that leaves is one use of the cipher, has its octets, and is listed.
+//! - `lists_each_delivery`: what is delivered from a receive SA is listed once; in Strict nothing else is delivered.
+//! - `numbers_rise`: the packet numbers that an end uses under a key rise.
+//! - `comes_from_other`: what a strictly validating end delivers from an SA was sent before by the other end.
+//! - `comes_in_order_once`: it is delivered in the order of sending, each frame at most once, if each run of the receiver
+//!   begins beside a journal that has saved what was delivered before.
+//! - `accepts_in_time`: a frame of one run is accepted by a run of the other end.
+//!
+//! `proofs/Examples/` has runs that meet all premises, with the lists of what was sent and delivered, and for seven
+//! premises of order runs that break it without that one. It uses the worked runs of `macsec_counterexamples`.
+//!
+//! Trusted: what was reported durable is read by every later run, and no ICV is forged.
+#![tactic(auto)]
+
+pub mod laws;
