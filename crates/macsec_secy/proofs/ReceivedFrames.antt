@@ -6,10 +6,11 @@ use Rattle.macsec_tag.specs.Table.{reading, tagged}
 use Rattle.macsec_suite.specs.KeyRows.{InstalledKey}
 use Rattle.macsec_commands.specs.declared.mode.Mode.{Mode}
 use Rattle.macsec_rx.specs.declared.RxOptions.{RxOptions}
+use Rattle.macsec_rx.specs.Channels.{Channels}
 use Rattle.macsec_rx.specs.Judge.{Judgement, judge_tagged, place_of, rows_after}
 use Rattle.macsec_rx.specs.Rows.{AreChannels}
+use Rattle.macsec_secy.specs.declared.counters.ChannelCounters.{ChannelCounters}
 use Rattle.macsec_secy.specs.declared.counters.Counters.{Counters}
-use Rattle.macsec_secy.specs.declared.reception.CountedChannels.{CountedChannels}
 use Rattle.macsec_secy.specs.declared.reception.Outcome.{Outcome}
 use Rattle.macsec_secy.specs.Outcomes.{ArePartsOf, IsStep, octets_delivered, with_received}
 use Rattle.macsec_secy.specs.State.{State, rx_options}
@@ -40,23 +41,23 @@ state_left s frame p reads fits =
 
 -- the step of a tagged frame, by the parts of a state
 pub tagged_step : (s : State) (frame room : List ℕ) (p : MpduParts) → reading frame ≡ tagged p → frame_fault frame ≡ None →
-    (options : RxOptions) (keys : List InstalledKey) (before rx : CountedChannels) (old counters : Counters) (outcome : Outcome) →
-    ArePartsOf s options keys before old →
-    outcome.verdict ≡ (judge_tagged options keys before.channels p).verdict →
-    outcome.row ≡ option_map place_of (judge_tagged options keys before.channels p).row →
-    octets_delivered outcome.delivered frame room ≡ (judge_tagged options keys before.channels p).delivered →
-    rx.channels ≡ record before.channels { rows = rows_after options.window (judge_tagged options keys before.channels p) before.channels.rows } →
+    (options : RxOptions) (keys : List InstalledKey) (before rx : Channels) (rows_before rows : List ChannelCounters) (old counters : Counters) (outcome : Outcome) →
+    ArePartsOf s options keys before rows_before old →
+    outcome.verdict ≡ (judge_tagged options keys before p).verdict →
+    outcome.row ≡ option_map place_of (judge_tagged options keys before p).row →
+    octets_delivered outcome.delivered frame room ≡ (judge_tagged options keys before p).delivered →
+    rx ≡ record before { rows = rows_after options.window (judge_tagged options keys before p) before.rows } →
     counters ≡ counted_by options.mode outcome.verdict p.tag.e (length p.secure_data) old →
-    rx.counters.items ≡ counted_at_place outcome.verdict outcome.row before.counters.items →
-    IsStep s frame room outcome rx counters
-tagged_step s frame room p reads fits options keys before rx old counters outcome parts v r d channels c k = record {
+    rows ≡ counted_at_place outcome.verdict outcome.row rows_before →
+    IsStep s frame room outcome rx rows counters
+tagged_step s frame room p reads fits options keys before rx rows_before rows old counters outcome parts v r d channels c k = record {
   output = rw (fits, reads, v, r, d, parts.same_options, parts.same_keys, parts.same_channels) refl;
   after = rw (channels, c, k, v, r, parts.same_options, parts.same_keys, parts.same_channels, parts.same_rx_counters, parts.same_counters) (state_left s frame p reads fits);
 }
 
 -- an endpoint stays sound by this step
-pub received_sound : (s : State) (frame room : List ℕ) (outcome : Outcome) (rx : CountedChannels) (counters : Counters) →
-    IsSound s → IsStep s frame room outcome rx counters → AreChannels rx.channels → IsSound (with_received s rx counters)
-received_sound s frame room outcome rx counters sound stepped channels =
+pub received_sound : (s : State) (frame room : List ℕ) (outcome : Outcome) (rx : Channels) (rows : List ChannelCounters) (counters : Counters) →
+    IsSound s → IsStep s frame room outcome rx rows counters → AreChannels rx → IsSound (with_received s rx rows counters)
+received_sound s frame room outcome rx rows counters sound stepped channels =
     let tables = subst TablesHold stepped.after (record { keys = sound.keys; tx = sound.tx; rx = channels }) in
     subst IsSound (sym stepped.after) (after_link_frame s frame tables sound)

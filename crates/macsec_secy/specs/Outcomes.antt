@@ -2,9 +2,10 @@
 use Rattle.std.specs.Prelude.{◌≡◌, ◌+◌, ◌≤◌, ℕ, List, Option, Some, None}
 use Rattle.macsec_suite.specs.KeyRows.{InstalledKey}
 use Rattle.macsec_rx.specs.declared.RxOptions.{RxOptions}
+use Rattle.macsec_rx.specs.Channels.{Channels}
 use Rattle.macsec_rx.specs.Judge.{octets_at}
+use Rattle.macsec_secy.specs.declared.counters.ChannelCounters.{ChannelCounters}
 use Rattle.macsec_secy.specs.declared.counters.Counters.{Counters}
-use Rattle.macsec_secy.specs.declared.reception.CountedChannels.{CountedChannels}
 use Rattle.macsec_secy.specs.declared.reception.Delivered.{Delivered}
 use Rattle.macsec_secy.specs.declared.reception.Delivered.TheVariants.{Nothing, Frame, At}
 use Rattle.macsec_secy.specs.declared.reception.Outcome.{Outcome}
@@ -29,18 +30,18 @@ output_of_outcome outcome frame room =
     received outcome.verdict outcome.row frame (octets_delivered outcome.delivered frame room)
 
 -- these are the parts of a state on which reception depends
-pub record ArePartsOf (s : State) (options : RxOptions) (keys : List InstalledKey) (rx : CountedChannels) (counters : Counters) : Type 0 where
+pub record ArePartsOf (s : State) (options : RxOptions) (keys : List InstalledKey) (rx : Channels) (rx_counters : List ChannelCounters) (counters : Counters) : Type 0 where
   pub same_options : options ≡ rx_options s
   pub same_keys : keys ≡ s.keys
-  pub same_channels : rx.channels ≡ s.rx
-  pub same_rx_counters : rx.counters.items ≡ s.rx_counters
+  pub same_channels : rx ≡ s.rx
+  pub same_rx_counters : rx_counters ≡ s.rx_counters
   pub same_counters : counters ≡ s.counters
 
 -- the state with other receive SCs and counters
-abbrev pub with_received : State → CountedChannels → Counters → State
-with_received s rx counters = record s { rx = rx.channels; counters = counters; rx_counters = rx.counters.items }
+abbrev pub with_received : State → Channels → List ChannelCounters → Counters → State
+with_received s rx rx_counters counters = record s { rx = rx; counters = counters; rx_counters = rx_counters }
 
 -- the outcome and the parts after it are those of the machine's step
-pub record IsStep (s : State) (frame room : List ℕ) (outcome : Outcome) (rx : CountedChannels) (counters : Counters) : Type 0 where
+pub record IsStep (s : State) (frame room : List ℕ) (outcome : Outcome) (rx : Channels) (rx_counters : List ChannelCounters) (counters : Counters) : Type 0 where
   pub output : output_of_outcome outcome frame room ≡ (step s (link_frame frame)).0
-  pub after : with_received s rx counters ≡ (step s (link_frame frame)).1
+  pub after : with_received s rx rx_counters counters ≡ (step s (link_frame frame)).1

@@ -52,12 +52,14 @@ mod reception;
 mod showing;
 
 pub use answers::{DropReason, Planned, Received, Sent};
+use arrayvec::ArrayVec;
 pub use counters::{ChannelCounters, Counters, RxCounters, TxCounters};
 pub use fault::FrameFault;
 pub use macsec_commands::{
     An, Command, EndConfig, Key, KeyNumber, MAX_FRAME_LEN, MIN_MAX_FRAME, Mode, NewFault, NewKey,
     Sci, Suite, TagForm,
 };
+use macsec_rx::{MAX_CHANNEL_COUNT, RxChannels};
 pub use macsec_rx::{OpenJob, OpenedFrame, RxRow, Verdict};
 pub use macsec_suite::Refusal;
 use macsec_suite::{KeyTable, SuiteKey};
@@ -66,7 +68,7 @@ use macsec_tag::{ADDRESSES_LENGTH, MIN_FRAME_LEN, Read};
 pub use macsec_tx::{EnabledSa, SealJob, TxRow};
 use macsec_tx::{TxChannel, TxPlan};
 pub use options::Options;
-use reception::CountedChannels;
+use reception::receive_frame;
 use std::alloc::Global;
 use std::marker::Model;
 
@@ -77,9 +79,11 @@ pub struct Secy {
     options: Options,
     keys: KeyTable,
     tx: TxChannel,
-    rx: CountedChannels,
+    rx: RxChannels,
     counters: Counters,
     tx_counters: TxCounters,
+    /// The counters of the receive SCs, in the order of the SCs.
+    rx_counters: ArrayVec<ChannelCounters, MAX_CHANNEL_COUNT>,
     /// A buffer for the longest frame. Protected frames, and frames delivered from tagged ones, are written here.
     room: Vec<u8>,
 }
@@ -96,10 +100,10 @@ impl Model for Secy {
       options = s.options;
       keys = s.keys;
       tx = s.tx;
-      rx = s.rx.channels;
+      rx = s.rx;
       counters = s.counters;
       tx_counters = s.tx_counters;
-      rx_counters = s.rx.counters.items;
+      rx_counters = s.rx_counters.items;
     } };
 
     // The state is sound, and the buffer holds the longest frame.
@@ -108,10 +112,10 @@ impl Model for Secy {
       options = s.options;
       keys = s.keys;
       tx = s.tx;
-      rx = s.rx.channels;
+      rx = s.rx;
       counters = s.counters;
       tx_counters = s.tx_counters;
-      rx_counters = s.rx.counters.items;
+      rx_counters = s.rx_counters.items;
     }) (vec_len s.room) };
 }
 
@@ -144,9 +148,10 @@ impl Secy {
             },
             keys,
             tx: TxChannel::new(),
-            rx: CountedChannels::new(),
+            rx: RxChannels::new(),
             counters: Counters::zero(),
             tx_counters: TxCounters::zero(),
+            rx_counters: ArrayVec::new(),
             room,
         })
     }
@@ -203,9 +208,9 @@ impl Secy {
                 ssci,
                 lowest,
             } => self.rx_sa(sci, an, key, ssci, lowest),
-            Command::RxOn(sci, an) => self.rx.channels.rx_on(sci, an),
-            Command::RxOff(sci, an) => self.rx.channels.rx_off(sci, an),
-            Command::RxLow { sci, an, pn } => self.rx.channels.rx_low(&self.keys, sci, an, pn),
+            Command::RxOn(sci, an) => self.rx.rx_on(sci, an),
+            Command::RxOff(sci, an) => self.rx.rx_off(sci, an),
+            Command::RxLow { sci, an, pn } => self.rx.rx_low(&self.keys, sci, an, pn),
             Command::RxDel(sci, an) => self.rx_del(sci, an),
         }
     }
@@ -347,7 +352,9 @@ impl Secy {
             return Err(fault);
         }
         let options = self.rx_options();
-        let outcome = self.rx.receive(
+        let outcome = receive_frame(
+            &mut self.rx,
+            &mut self.rx_counters,
             &mut self.counters,
             &self.keys,
             &options,
@@ -368,7 +375,7 @@ impl Secy {
         }
         let options = self.rx_options();
         match read(frame) {
-            Read::Tagged(mpdu) => self.rx.channels.plan_open(&self.keys, &options, &mpdu),
+            Read::Tagged(mpdu) => self.rx.plan_open(&self.keys, &options, &mpdu),
             Read::Untagged | Read::Bad(_) => None,
         }
     }
@@ -393,7 +400,16 @@ impl Secy {
             return Err(fault);
         }
         let options = self.rx_options();
-        let outcome = self.rx.receive(&mut self.counters, &self.keys, &options, frame, opened, out);
+        let outcome = receive_frame(
+            &mut self.rx,
+            &mut self.rx_counters,
+            &mut self.counters,
+            &self.keys,
+            &options,
+            frame,
+            opened,
+            out,
+        );
         Ok(outcome.received(frame, out))
     }
 

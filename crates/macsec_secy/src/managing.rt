@@ -33,7 +33,7 @@ impl Secy {
         }
         self.options.replay = protect;
         self.options.window = window;
-        self.rx.channels.narrow(window);
+        self.rx.narrow(window);
         Ok(())
     }
 
@@ -54,7 +54,7 @@ impl Secy {
     pub(crate) fn uses(&self, key: KeyNumber) -> bool
         ensures { result ≡ uses self.now key }
     {
-        self.tx.uses(key) || self.rx.channels.uses(key)
+        self.tx.uses(key) || self.rx.uses(key)
     }
 
     /// The options that transmission depends on.
@@ -66,7 +66,7 @@ impl Secy {
             form: self.options.form,
             sci: self.config.sci,
             max_frame: self.config.max_frame,
-            many: self.rx.channels.channel(1).is_some(),
+            many: self.rx.channel(1).is_some(),
         }
     }
 }

@@ -19,8 +19,8 @@ impl Secy {
         ensures after { self.new ≡ state_after_command self.old (by.RxSc sci) }
         ensures sound { IsSound self.new }
     {
-        self.rx.channels.rx_sc(self.config.sci, sci)?;
-        self.rx.counters.push(ChannelCounters::new(sci));
+        self.rx.rx_sc(self.config.sci, sci)?;
+        self.rx_counters.push(ChannelCounters::new(sci));
         Ok(())
     }
 
@@ -30,8 +30,8 @@ impl Secy {
         ensures after { self.new ≡ state_after_command self.old (by.RxScDel sci) }
         ensures sound { IsSound self.new }
     {
-        self.rx.channels.rx_sc_del(sci)?;
-        self.rx.counters.retain(|row| row.sci != sci);
+        self.rx.rx_sc_del(sci)?;
+        self.rx_counters.retain(|row| row.sci != sci);
         Ok(())
     }
 
@@ -48,10 +48,8 @@ impl Secy {
         ensures after { self.new ≡ state_after_command self.old (by.RxSa sci an key ssci lowest) }
         ensures sound { IsSound self.new }
     {
-        self.rx
-            .channels
-            .rx_sa(&self.keys, sci, an, key, ssci, lowest)?;
-        add_association(self.rx.counters.as_mut_slice(), sci, an);
+        self.rx.rx_sa(&self.keys, sci, an, key, ssci, lowest)?;
+        add_association(self.rx_counters.as_mut_slice(), sci, an);
         Ok(())
     }
 
@@ -61,8 +59,8 @@ impl Secy {
         ensures after { self.new ≡ state_after_command self.old (by.RxDel sci an) }
         ensures sound { IsSound self.new }
     {
-        self.rx.channels.rx_del(sci, an)?;
-        remove_association(self.rx.counters.as_mut_slice(), sci, an);
+        self.rx.rx_del(sci, an)?;
+        remove_association(self.rx_counters.as_mut_slice(), sci, an);
         Ok(())
     }
 

@@ -1,9 +1,8 @@
 //! Reception of a link frame over the receive SCs (secure channels) and their counters (IEEE 802.1AE, 10.6). The
 //! caller has the buffer for the delivered frame.
 
-ghost use Rattle.std.specs.Prelude.{◌≡◌, ◌+◌, ◌≤◌, ℕ, List, [], Ok, None, IfSome, length, map, option_map};
+ghost use Rattle.std.specs.Prelude.{◌≡◌, ◌+◌, ◌≤◌, ℕ, List, Ok, None, IfSome, length, map, option_map};
 ghost use Rattle.macsec_tag.specs.Limits.{max_frame_len};
-ghost use Rattle.macsec_rx.specs.Channels.{no_channels};
 ghost use Rattle.macsec_rx.specs.Commands.{HaveRxKeys};
 ghost use Rattle.macsec_rx.specs.Judge.{octets_at};
 ghost use Rattle.macsec_rx.specs.Rows.{AreChannels};
@@ -43,7 +42,7 @@ pub(crate) struct Outcome {
 }
 
 impl Outcome {
-    /// The result for this frame, with the buffer that `CountedChannels::receive` wrote.
+    /// The result for this frame, with the buffer that `receive_frame` wrote.
     pub(crate) fn received<'a>(&self, frame: &'a [u8], room: &'a [u8]) -> Received<'a>
         requires within { IsWithin self.now.delivered (length room.now) }
         ensures { output_of_received (Ok result) ≡ output_of_outcome self.now frame.now room.now }
@@ -62,76 +61,56 @@ impl Outcome {
     }
 }
 
-/// The receive SCs, each with its counters.
-#[derive(Drop)]
-pub(crate) struct CountedChannels {
-    pub(crate) channels: RxChannels,
-    /// In the order of the SCs.
-    pub(crate) counters: ArrayVec<ChannelCounters, MAX_CHANNEL_COUNT>,
-}
-
-impl CountedChannels {
-    /// No receive SCs.
-    pub(crate) fn new() -> CountedChannels
-        ensures channels { result.channels ≡ no_channels }
-        ensures counters { result.counters.items ≡ [] }
-        ensures sound { AreChannels result.channels }
-    {
-        CountedChannels {
-            channels: RxChannels::new(),
-            counters: ArrayVec::new(),
+/// Receives a frame without a fault. `rx_counters` are the counters of the receive SCs, and `counters` are the
+/// endpoint's own. A frame that is delivered from a tagged one is in `out` afterwards. `opened` is what `open_frame`
+/// gave for the frame, if anything.
+pub(crate) fn receive_frame(
+    channels: &mut RxChannels,
+    rx_counters: &mut ArrayVec<ChannelCounters, MAX_CHANNEL_COUNT>,
+    counters: &mut Counters,
+    keys: &KeyTable,
+    options: &RxOptions,
+    frame: &[u8],
+    opened: &Option<OpenedFrame>,
+    out: &mut [u8],
+) -> Outcome
+    requires fits { frame_fault frame.now ≡ None }
+    requires sound { AreChannels channels.old }
+    requires keys_there { HaveRxKeys keys.now channels.old.rows }
+    requires counted { map sci_of_counters rx_counters.old.items ≡ channels.old.scis }
+    requires room { max_frame_len ≤ length out.old }
+    requires opened { OpensFrame opened.now keys.now frame.now out.old }
+    ensures step { (s : State) → ArePartsOf s options.now keys.now channels.old rx_counters.old.items counters.old → IsStep s frame.now out.new result channels.new rx_counters.new.items counters.new }
+    ensures within { IsWithin result.delivered (length out.new) }
+    ensures channels { AreChannels channels.new }
+{
+    match read(frame) {
+        Read::Untagged => {
+            let verdict = verdict_on_untagged(options.mode);
+            counters.count_packet(verdict);
+            Outcome {
+                verdict,
+                row: None,
+                delivered: delivered_untagged(options.mode),
+            }
         }
-    }
-
-    /// Receives a frame without a fault. `counters` are the endpoint's own. A frame that is delivered from a tagged one
-    /// is in `out` afterwards. `opened` is what `open_frame` gave for the frame, if anything.
-    pub(crate) fn receive(
-        &mut self,
-        counters: &mut Counters,
-        keys: &KeyTable,
-        options: &RxOptions,
-        frame: &[u8],
-        opened: &Option<OpenedFrame>,
-        out: &mut [u8],
-    ) -> Outcome
-        requires fits { frame_fault frame.now ≡ None }
-        requires sound { AreChannels self.old.channels }
-        requires keys_there { HaveRxKeys keys.now self.old.channels.rows }
-        requires counted { map sci_of_counters self.old.counters.items ≡ self.old.channels.scis }
-        requires room { max_frame_len ≤ length out.old }
-        requires opened { OpensFrame opened.now keys.now frame.now out.old }
-        ensures step { (s : State) → ArePartsOf s options.now keys.now self.old counters.old → IsStep s frame.now out.new result self.new counters.new }
-        ensures within { IsWithin result.delivered (length out.new) }
-        ensures channels { AreChannels self.new.channels }
-    {
-        match read(frame) {
-            Read::Untagged => {
-                let verdict = verdict_on_untagged(options.mode);
-                counters.count_packet(verdict);
-                Outcome {
-                    verdict,
-                    row: None,
-                    delivered: delivered_untagged(options.mode),
-                }
+        Read::Bad(_) => {
+            counters.count_packet(Verdict::BadTag);
+            Outcome {
+                verdict: Verdict::BadTag,
+                row: None,
+                delivered: Delivered::Nothing,
             }
-            Read::Bad(_) => {
-                counters.count_packet(Verdict::BadTag);
-                Outcome {
-                    verdict: Verdict::BadTag,
-                    row: None,
-                    delivered: Delivered::Nothing,
-                }
-            }
-            Read::Tagged(mpdu) => {
-                let judged = self.channels.judge(keys, options, &mpdu, opened, out);
-                let octets = mpdu.secure_data().len() as u64;
-                counters.count_tagged(options.mode, judged.verdict, mpdu.tag().e(), octets);
-                count_at_row(self.counters.as_mut_slice(), &judged);
-                Outcome {
-                    verdict: judged.verdict,
-                    row: sci_and_number(judged.row),
-                    delivered: delivered_in_buffer(judged.delivered),
-                }
+        }
+        Read::Tagged(mpdu) => {
+            let judged = channels.judge(keys, options, &mpdu, opened, out);
+            let octets = mpdu.secure_data().len() as u64;
+            counters.count_tagged(options.mode, judged.verdict, mpdu.tag().e(), octets);
+            count_at_row(rx_counters.as_mut_slice(), &judged);
+            Outcome {
+                verdict: judged.verdict,
+                row: sci_and_number(judged.row),
+                delivered: delivered_in_buffer(judged.delivered),
             }
         }
     }

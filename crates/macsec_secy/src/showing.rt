@@ -99,7 +99,7 @@ impl Secy {
         ensures row { result ≡ channel_counters_of self.now.rx_counters sci }
         ensures sound { IsSound self.now }
     {
-        for row in self.rx.counters.as_slice() {
+        for row in self.rx_counters.as_slice() {
             if row.sci == sci {
                 return Some(*row);
             }
@@ -113,13 +113,13 @@ impl Secy {
         ensures sci { result ≡ slice_get self.now.rx.scis place }
         ensures count { length self.now.rx.scis ≤ max_channel_count }
     {
-        self.rx.channels.channel(place)
+        self.rx.channel(place)
     }
 
     /// This SC's receive SA (secure association) with this number, if it exists.
     pub fn rx_row(&self, sci: Sci, an: An) -> Option<RxRow>
         ensures { result ≡ rx_row self.now.rx.rows sci an }
     {
-        self.rx.channels.row(sci, an)
+        self.rx.row(sci, an)
     }
 }

@@ -8,12 +8,12 @@ use Rattle.macsec_secy.specs.Step.{link_frame, step}
 use Rattle.macsec_secy.specs.Sums.{AddsFrames}
 use Rattle.macsec_secy.proofs.FramesCounted.{link_frame_adds}
 use Rattle.macsec_secy.proofs.ReceivedFrames.{received_sound}
-use Rattle.macsec_secy.proofs.Secy.finish_receive.Goals.{After-receive-outcome}
+use Rattle.macsec_secy.proofs.Secy.finish_receive.Goals.{After-receive_frame-outcome}
 use Rattle.macsec_secy.proofs.Secy.finish_receive.Goals as goal
 
-stepped : (c : After-receive-outcome) →
-    IsStep (the_view c.self.inside) c.args.frame.now c.receive-outcome.new.out c.receive-outcome.result c.receive-outcome.new.self c.receive-outcome.new.counters
-stepped c = c.receive-outcome.ensures.step (the_view c.self.inside) (record {
+stepped : (c : After-receive_frame-outcome) →
+    IsStep (the_view c.self.inside) c.args.frame.now c.receive_frame-outcome.new.out c.receive_frame-outcome.result c.receive_frame-outcome.new.channels c.receive_frame-outcome.new.rx_counters.items c.receive_frame-outcome.new.counters
+stepped c = c.receive_frame-outcome.ensures.step (the_view c.self.inside) (record {
   same_options = c.rx_options-options.ensures ∙ ap rx_options (sym c.self.view_is);
   same_keys = refl;
   same_channels = refl;
@@ -21,19 +21,19 @@ stepped c = c.receive-outcome.ensures.step (the_view c.self.inside) (record {
   same_counters = refl;
 })
 
-sound : (c : After-receive-outcome) → IsSound (with_received (the_view c.self.inside) c.receive-outcome.new.self c.receive-outcome.new.counters)
+sound : (c : After-receive_frame-outcome) → IsSound (with_received (the_view c.self.inside) c.receive_frame-outcome.new.channels c.receive_frame-outcome.new.rx_counters.items c.receive_frame-outcome.new.counters)
 sound c =
-    let o = c.receive-outcome in
-    received_sound (the_view c.self.inside) c.args.frame.now o.new.out o.result o.new.self o.new.counters c.self.invariant.sound (stepped c) o.ensures.channels
+    let o = c.receive_frame-outcome in
+    received_sound (the_view c.self.inside) c.args.frame.now o.new.out o.result o.new.channels o.new.rx_counters.items o.new.counters c.self.invariant.sound (stepped c) o.ensures.channels
 
 pub invariant_of-self : goal.invariant_of-self
-invariant_of-self c = record { sound = sound (goal.at.invariant_of-self c).After-receive-outcome; room = c.self.invariant.room }
+invariant_of-self c = record { sound = sound (goal.at.invariant_of-self c).After-receive_frame-outcome; room = c.self.invariant.room }
 
 pub returns : goal.returns
 returns c =
     let s = c.self in
     let frame = c.args.frame.now in
-    let after = (goal.at.returns c).After-receive-outcome in
+    let after = (goal.at.returns c).After-receive_frame-outcome in
     record {
       after = (stepped after).after ∙ ap (λ t. (step t (link_frame frame)).1) s.view_is;
       output = c.received.ensures ∙ (stepped after).output ∙ ap (λ t. (step t (link_frame frame)).0) s.view_is;

@@ -11,10 +11,10 @@ use Rattle.macsec_secy.proofs.Secy.new.Goals as goal
 pub invariant_of-result : goal.invariant_of-result
 invariant_of-result c =
     let good : config_fault c.args.config ≡ None = search rules in
-    let tables : TablesHold (start c.args.config) = record { keys = tt; tx = tt; rx = subst AreChannels c.new-3.ensures.channels c.new-3.ensures.sound } in
+    let tables : TablesHold (start c.args.config) = record { keys = tt; tx = tt; rx = subst AreChannels c.new-3.ensures.none c.new-3.ensures.channels } in
     let begun = at_start c.args.config good c.fault.ensures.sci tables in
     record {
-      sound = rw (c.new-2.ensures, c.new-3.ensures.channels, c.new-3.ensures.counters, c.zero.ensures, c.zero-2.ensures, c.in-Ok.ensures) begun;
+      sound = rw (c.new-2.ensures, c.new-3.ensures.none, c.new-4.ensures, c.zero.ensures, c.zero-2.ensures, c.in-Ok.ensures) begun;
       room = search rules;
     }
 
@@ -25,5 +25,5 @@ pub returns-clause-result : goal.returns-clause-result
 returns-clause-result c =
     let good : config_fault c.args.config ≡ None = search rules in (
       good,
-      rw (c.new-2.ensures, c.new-3.ensures.channels, c.new-3.ensures.counters, c.zero.ensures, c.zero-2.ensures, c.in-Ok.ensures) refl,
+      rw (c.new-2.ensures, c.new-3.ensures.none, c.new-4.ensures, c.zero.ensures, c.zero-2.ensures, c.in-Ok.ensures) refl,
     )

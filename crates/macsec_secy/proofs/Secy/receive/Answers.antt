@@ -9,12 +9,12 @@ use Rattle.macsec_secy.specs.Sums.{AddsFrames}
 use Rattle.macsec_secy.proofs.FramesCounted.{link_frame_adds}
 use Rattle.macsec_secy.proofs.Lent.{left_in_place}
 use Rattle.macsec_secy.proofs.ReceivedFrames.{received_sound}
-use Rattle.macsec_secy.proofs.Secy.receive.Goals.{After-receive-outcome}
+use Rattle.macsec_secy.proofs.Secy.receive.Goals.{After-receive_frame-outcome}
 use Rattle.macsec_secy.proofs.Secy.receive.Goals as goal
 
-stepped : (c : After-receive-outcome) →
-    IsStep (the_view c.self.inside) c.args.frame.now c.receive-outcome.new.out c.receive-outcome.result c.receive-outcome.new.self c.receive-outcome.new.counters
-stepped c = c.receive-outcome.ensures.step (the_view c.self.inside) (record {
+stepped : (c : After-receive_frame-outcome) →
+    IsStep (the_view c.self.inside) c.args.frame.now c.receive_frame-outcome.new.out c.receive_frame-outcome.result c.receive_frame-outcome.new.channels c.receive_frame-outcome.new.rx_counters.items c.receive_frame-outcome.new.counters
+stepped c = c.receive_frame-outcome.ensures.step (the_view c.self.inside) (record {
   same_options = c.rx_options-options.ensures;
   same_keys = refl;
   same_channels = refl;
@@ -22,25 +22,25 @@ stepped c = c.receive-outcome.ensures.step (the_view c.self.inside) (record {
   same_counters = refl;
 })
 
-sound : (c : After-receive-outcome) → IsSound (with_received (the_view c.self.inside) c.receive-outcome.new.self c.receive-outcome.new.counters)
+sound : (c : After-receive_frame-outcome) → IsSound (with_received (the_view c.self.inside) c.receive_frame-outcome.new.channels c.receive_frame-outcome.new.rx_counters.items c.receive_frame-outcome.new.counters)
 sound c =
-    let o = c.receive-outcome in
-    received_sound (the_view c.self.inside) c.args.frame.now o.new.out o.result o.new.self o.new.counters c.self.invariant.sound (stepped c) o.ensures.channels
+    let o = c.receive_frame-outcome in
+    received_sound (the_view c.self.inside) c.args.frame.now o.new.out o.result o.new.channels o.new.rx_counters.items o.new.counters c.self.invariant.sound (stepped c) o.ensures.channels
 
 pub invariant_of-self-3 : goal.invariant_of-self-3
-invariant_of-self-3 c = record { sound = sound (goal.at.invariant_of-self-3 c).After-receive-outcome; room = c.self.invariant.room }
+invariant_of-self-3 c = record { sound = sound (goal.at.invariant_of-self-3 c).After-receive_frame-outcome; room = c.self.invariant.room }
 
 pub returns : goal.returns
 returns c =
     let s = c.self in
     let frame = c.args.frame.now in
-    let after = (goal.at.returns c).After-receive-outcome in
-    let lent : c.as_slice.result.now ≡ c.receive-outcome.new.out = c.as_slice.ensures.value ∙
-    left_in_place s.inside.room.len s.inside.room.items c.receive-outcome.new.out (c.receive-outcome.auto.out ∙ c.as_mut_slice.ensures.len) in (
+    let after = (goal.at.returns c).After-receive_frame-outcome in
+    let lent : c.as_slice.result.now ≡ c.receive_frame-outcome.new.out = c.as_slice.ensures.value ∙
+    left_in_place s.inside.room.len s.inside.room.items c.receive_frame-outcome.new.out (c.receive_frame-outcome.auto.out ∙ c.as_mut_slice.ensures.len) in (
       (refl, λ x. tt, (stepped after).after ∙ ap (λ t. (step t (link_frame frame)).1) s.view_is),
       record {
         after = tt;
-        output = c.received.ensures ∙ ap (output_of_outcome c.receive-outcome.result frame) lent ∙ (stepped after).output ∙ ap (λ t. (step t (link_frame frame)).0) s.view_is;
+        output = c.received.ensures ∙ ap (output_of_outcome c.receive_frame-outcome.result frame) lent ∙ (stepped after).output ∙ ap (λ t. (step t (link_frame frame)).0) s.view_is;
         sum = subst (λ t. AddsFrames t (link_frame frame)) s.view_is (link_frame_adds (the_view s.inside) frame s.invariant.sound);
         sound = subst (λ t. IsSound (step t (link_frame frame)).1) s.view_is (subst IsSound (stepped after).after (sound after));
       },

@@ -12,10 +12,10 @@ use Rattle.macsec_secy.proofs.StaysSound.{after_effect}
 use Rattle.macsec_secy.proofs.Secy.rx_del.Goals.{After-remove_association}
 use Rattle.macsec_secy.proofs.Secy.rx_del.Goals as goal
 
-counters_left : (c : After-remove_association) → refill (length c.self.inside.rx.counters.items) c.self.inside.rx.counters.items c.remove_association.new.rows ≡
-    map (at_channel (without_association c.args.an) c.args.sci) c.self.inside.rx.counters.items
+counters_left : (c : After-remove_association) → refill (length c.self.inside.rx_counters.items) c.self.inside.rx_counters.items c.remove_association.new.rows ≡
+    map (at_channel (without_association c.args.an) c.args.sci) c.self.inside.rx_counters.items
 counters_left c =
-    changed_again c.self.inside.rx.counters.items c.as_mut_slice.result.now c.remove_association.new.rows (without_association c.args.an) c.args.sci
+    changed_again c.self.inside.rx_counters.items c.as_mut_slice.result.now c.remove_association.new.rows (without_association c.args.an) c.args.sci
     c.as_mut_slice.ensures.value c.remove_association.ensures
 
 pub invariant_of-self-2 : goal.invariant_of-self-2

@@ -12,10 +12,10 @@ use Rattle.macsec_secy.proofs.StaysSound.{after_effect}
 use Rattle.macsec_secy.proofs.Secy.rx_sa.Goals.{After-add_association}
 use Rattle.macsec_secy.proofs.Secy.rx_sa.Goals as goal
 
-counters_left : (c : After-add_association) → refill (length c.self.inside.rx.counters.items) c.self.inside.rx.counters.items c.add_association.new.rows ≡
-    map (at_channel (with_association c.args.an) c.args.sci) c.self.inside.rx.counters.items
+counters_left : (c : After-add_association) → refill (length c.self.inside.rx_counters.items) c.self.inside.rx_counters.items c.add_association.new.rows ≡
+    map (at_channel (with_association c.args.an) c.args.sci) c.self.inside.rx_counters.items
 counters_left c =
-    changed_again c.self.inside.rx.counters.items c.as_mut_slice.result.now c.add_association.new.rows (with_association c.args.an) c.args.sci
+    changed_again c.self.inside.rx_counters.items c.as_mut_slice.result.now c.add_association.new.rows (with_association c.args.an) c.args.sci
     c.as_mut_slice.ensures.value c.add_association.ensures
 
 pub invariant_of-self-2 : goal.invariant_of-self-2

@@ -11,7 +11,7 @@ use Rattle.macsec_secy.specs.contracts.Secy.{the_view}
 use Rattle.macsec_secy.proofs.StaysSound.{after_effect}
 use Rattle.macsec_secy.proofs.Secy.rx_sc_del.Goals as goal
 
-kept_counters : (c : goal.After-retain) → c.retain.new.self.items ≡ filter (λ row. not (same_sci row.sci c.args.sci)) c.self.inside.rx.counters.items
+kept_counters : (c : goal.After-retain) → c.retain.new.self.items ≡ filter (λ row. not (same_sci row.sci c.args.sci)) c.self.inside.rx_counters.items
 kept_counters c = filter-from_retain _ _ _ (λ x b f' y called. search rules steps 100000) _ _ c.retain.ensures.filtered
 
 pub invariant_of-self-2 : goal.invariant_of-self-2

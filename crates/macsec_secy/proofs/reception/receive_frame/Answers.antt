@@ -4,7 +4,7 @@ use Rattle.macsec_tag.specs.Table.{reading, tagged}
 use Rattle.macsec_secy.specs.Verdicts.{counted_at_place, counted_by}
 use Rattle.macsec_secy.proofs.ChannelsCounted.{counted_again}
 use Rattle.macsec_secy.proofs.ReceivedFrames.{tagged_step}
-use Rattle.macsec_secy.proofs.reception.CountedChannels.receive.Goals as goal
+use Rattle.macsec_secy.proofs.reception.receive_frame.Goals as goal
 
 pub returns-in-Tagged-clause-step : goal.returns-in-Tagged-clause-step
 returns-in-Tagged-clause-step c s parts =
@@ -13,11 +13,11 @@ returns-in-Tagged-clause-step c s parts =
     let judged = c.judge-judged in
     let shows = judged.ensures.judged in
     let row = c.sci_and_number.ensures in
-    let rows = a.self.now.counters.items in
+    let rows = a.rx_counters.now.items in
     let reads : reading a.frame.now ≡ tagged p = search rules in
     let after = counted_by a.options.now.mode judged.result.verdict p.tag.e (length p.secure_data) a.counters.now in
     let counters : c.count_tagged.new.self ≡ after = rw (c.count_tagged.ensures, c.e.ensures, c.tag.ensures, c.secure_data.ensures) (refl {a = after}) in
     let counted = counted_again rows c.as_mut_slice.result.now c.count_at_row.new.rows judged.result.verdict judged.result.row c.as_mut_slice.ensures.value c.count_at_row.ensures in
-    tagged_step s a.frame.now judged.new.out p reads c.requires.fits a.options.now a.keys.now a.self.now _ a.counters.now c.count_tagged.new.self _ parts
+    tagged_step s a.frame.now judged.new.out p reads c.requires.fits a.options.now a.keys.now a.channels.now _ a.rx_counters.now.items _ a.counters.now c.count_tagged.new.self _ parts
     shows.verdict (row ∙ shows.row) (c.delivered_in_buffer.ensures.octets a.frame.now judged.new.out ∙ shows.delivered) judged.ensures.numbers counters
     (counted ∙ ap (λ r. counted_at_place judged.result.verdict r rows) (sym row))
