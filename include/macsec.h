@@ -47,8 +47,8 @@
  *            overwrites a block before it frees it. For blocks of 1 MB or more it asks the kernel for new pages
  *            (madvise), and overwrites them if the kernel refuses. The calls that take a key, a text or an association
  *            overwrite the stack that they used. A retired key stays in its endpoint until macsec_free. Registers,
- *            swap, core dumps and the caller's own copies are not covered. Give each call 192 KB of stack: the calls
- *            that create an endpoint took 140 KB on x86-64, the others 33 KB or less (measured, not proved).
+ *            swap, core dumps and the caller's own copies are not covered. Give each call 96 KB of stack: the calls
+ *            that create an endpoint took 66 KB on x86-64, the others 33 KB or less (measured, not proved).
  * PROCESSOR  An x86-64 processor with SSSE3 (every x86-64-v2 has it). The library does not test for it: on another one
  *            the process ends with SIGILL.
  * HANDLES    A handle is the caller's memory, initialized with MACSEC_ENDPOINT_INIT (all zero). Do not copy, move or

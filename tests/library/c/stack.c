@@ -1,4 +1,4 @@
-/* The calls that create an endpoint, and macsec_free, each in a thread with the 192 KB of stack that the header asks
+/* The calls that create an endpoint, and macsec_free, each in a thread with the 96 KB of stack that the header asks
  * for, less what the C library takes of it. No proof says how much stack the library takes: without enough, this
  * program ends with SIGSEGV. */
 #include "macsec.h"
@@ -6,7 +6,7 @@
 #include <stdio.h>
 #include <string.h>
 
-#define STACK (192 * 1024)
+#define STACK (96 * 1024)
 
 static const uint8_t own_sci[8] = { 2, 0, 0, 0, 0, 1, 0, 1 };
 static const char lines[] = "end A gcm128 0200000000010001 9248 sci\nA key 0 2b2b2b2b2b2b2b2b2b2b2b2b2b2b2b2b 0\n"
