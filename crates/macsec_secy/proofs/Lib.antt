@@ -39,6 +39,8 @@ pub mod Accepted
 pub mod Contained
 pub mod KeysApart
 pub mod KeysStay
+pub mod OtherOctets
+pub mod GivenUp
 pub mod RxRowsStay
 pub mod Deliveries
 pub mod DeliveredFrom

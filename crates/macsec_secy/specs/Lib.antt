@@ -15,6 +15,7 @@ pub mod AssociationSums
 pub mod Rests
 pub mod Accepts
 pub mod Kept
+pub mod GivenUp
 pub mod Protects
 pub mod Delivers
 pub mod Jobs

@@ -13,6 +13,7 @@ ghost use Rattle.macsec_secy.specs.Frames.{HasFrameLengths, HasLengthsFrom};
 ghost use Rattle.macsec_secy.specs.Laws.{UsesNoNumberTwice, UsesRisingNumbers};
 ghost use Rattle.macsec_secy.specs.Accepts.{AcceptsSent};
 ghost use Rattle.macsec_secy.specs.Kept.{KeysAreApart, KeysStay, RxRowStays, RxRowsAreApart};
+ghost use Rattle.macsec_secy.specs.GivenUp.{GivesUp, StaysGivenUp, StepsAlike};
 ghost use Rattle.macsec_rx.specs.declared.OpenJob.{OpenJob};
 ghost use Rattle.macsec_rx.specs.declared.OpenedFrame.{OpenedFrame};
 ghost use Rattle.macsec_tx.specs.declared.SealJob.{SealJob};
@@ -78,6 +79,15 @@ pub fn accepts_sent()
 pub fn keys_stay()
     ensures apart { (s : State) → IsSound s → KeysAreApart s.keys }
     ensures stay { (s : State) (input : Input) → IsSound s → KeysStay s (step s input).1 }
+{}
+
+/// From the command on that retires a key, it stays retired and no SA uses it. Its octets then decide nothing but the
+/// refusal `KeyRepeated`: with any other octets in its row every input has the same output, and the same state after it
+/// except for those octets, unless it installs a key that only one of the two states has.
+pub fn retired_keys_decide_nothing()
+    ensures begins { (s : State) (n : ℕ) → GivesUp s n }
+    ensures stays { (s : State) (n : ℕ) (input : Input) → StaysGivenUp s n input }
+    ensures alike { (s : State) (n : ℕ) (bytes : List ℕ) (input : Input) → StepsAlike s n bytes input }
 {}
 
 /// In every state for which `IsSound` holds, a receive SA is the only one with its SC and number. After every input

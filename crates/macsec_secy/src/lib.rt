@@ -21,6 +21,7 @@
 //! sent protected under one key number rise in the order of sending. `accepts_sent`: a frame that another endpoint
 //! protected gets the verdict `OK` and gives the client frame if the conditions of `specs/Accepts.antt` hold; if its SL
 //! is not 0, also with octets after it. `rows_agree`, `keys_stay`, `rx_rows_stay`: what a step keeps.
+//! `retired_keys_decide_nothing`: the octets of a retired key decide only the refusal `KeyRepeated`.
 //! `lengths_of_frames` and `lengths_of_protected_frames`; `protects_frames` and `delivers_in_time`: facts about the SA
 //! that protects or delivers a frame.
 #![tactic(auto)]
