@@ -10,6 +10,7 @@ import random
 import socket
 import subprocess
 import sys
+from collections.abc import Iterator
 from typing import Callable
 
 from house.reporting import report, until
@@ -155,39 +156,41 @@ sys.stdin.read()
 """
 
 
+@contextlib.contextmanager
+def crowd(end: End) -> Iterator[str]:
+    """Connections of another user. Gives what their program prints."""
+    words = [PYTHON, "-c", CROWD, end.socket]
+    group, pipe = grp.getgrnam("nogroup").gr_gid, subprocess.PIPE
+    with subprocess.Popen(
+        words, stdin=pipe, stdout=pipe, text=True, user=65534, group=group, extra_groups=[]
+    ) as process:
+        assert process.stdout is not None
+        yield process.stdout.readline()
+
+
 def check_crowd(end: End) -> None:
     """Idle connections of another user lock nobody out, and end neither the owner's connection nor root's."""
     owner, root = connected(end.socket, 5), connected(end.socket, 5)
     for client, request in ((owner, b"own"), (root, b"port")):
         client.send(request)
         client.recv(1000)
-    crowd = subprocess.Popen(
-        [PYTHON, "-c", CROWD, end.socket],
-        stdin=subprocess.PIPE,
-        stdout=subprocess.PIPE,
-        text=True,
-        user=65534,
-        group=grp.getgrnam("nogroup").gr_gid,
-        extra_groups=[],
-    )
-    assert crowd.stdout is not None and crowd.stdin is not None
-    told = crowd.stdout.readline()
-    report(told == "False True\n", f"the first and the last of 40 connections of another user: {told!r}")
-    for name, client in (("the owner", owner), ("root's idle connection", root), ("root", connected(end.socket, 5))):
-        got = b""
-        with contextlib.suppress(OSError):
-            client.send(b"port")
-            got = client.recv(1000)
-        report(got == b"port on\n", f"{name} beside 40 connections of another user: {got!r}")
+    with crowd(end) as told:
+        report(told == "False True\n", f"the first and the last of 40 connections of another user: {told!r}")
+        for name, client in (("the owner", owner), ("root's idle one", root), ("root", connected(end.socket, 5))):
+            got = b""
+            with contextlib.suppress(OSError):
+                client.send(b"port")
+                got = client.recv(1000)
+            report(got == b"port on\n", f"{name} beside 40 connections of another user: {got!r}")
     more = [connected(end.socket, 5) for _ in range(40)]
+    with crowd(end) as told:
+        report(told == "False False\n", f"connections of another user where all are root's: {told!r}")
     more[-1].send(b"port")
     report(more[-1].recv(1000) == b"port on\n", "root beside 40 idle connections of root")
     owner.send(b"port")
     report(owner.recv(1000) == b"port on\n", "the owner beside 40 connections of root")
     for client in (owner, root, *more):
         client.close()
-    crowd.stdin.close()
-    crowd.wait()
 
 
 def check_log(end: End) -> None:
