@@ -111,12 +111,14 @@ def check_counted(world: World, sender: list[str]) -> None:
 
 
 def check_other_mode(world: World, sender: list[str]) -> None:
-    """An endpoint that is not strict counts and delivers such frames: the system drops none."""
+    """An endpoint that is not strict delivers frames without protection: the system drops none, also in a flood of those
+    with an unknown SCI, which are encrypted and so are dropped here too."""
     a, b = world.ends
     b.carry_out("A validate check")
     before = b.counters()
-    with flooded(a, sender, PLAIN):
-        pass
+    for flood in (PLAIN, STRANGE):
+        with flooded(a, sender, flood):
+            pass
     after = b.counters()
     report(after["device LinkFloods"] == before["device LinkFloods"], "flood: frames are dropped in the mode check")
     report(after["InPktsUntagged"] > before["InPktsUntagged"], "flood: no frame is delivered in the mode check")
