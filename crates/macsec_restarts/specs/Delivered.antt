@@ -57,7 +57,7 @@ pub record IsOneDelivery (ds : List Delivery) (sci : Sci) (an : ℕ) (delivered 
   pub of_an : delivery.an ≡ an
   pub of_frame : delivery.frame ≡ delivered
 
--- an output, and what its input adds to the list: one entry where a client frame comes out from an SA, and otherwise none
+-- an output, and what its input adds to the list: one entry where a client frame is delivered from an SA, and otherwise none
 abbrev pub MatchesDeliveries : Keeping → KeepingInput → KeepingOutput → Type 0
 MatchesDeliveries k input (endpoint_output (received verdict (Some place) shown (Some delivered))) =
     IsOneDelivery (newly_delivered k input) place.0 place.1 delivered
@@ -66,11 +66,11 @@ MatchesDeliveries k input other = newly_delivered k input ≡ []
 abbrev pub DeliversEachListed : Keeping → KeepingInput → Type 0
 DeliversEachListed k input = MatchesDeliveries k input (keeping_step k input).0
 
--- the output is no client frame that comes out without an SA
+-- the output is no client frame that is delivered at the controlled port without an SA
 abbrev pub IsFromSa : KeepingOutput → Type 0
 IsFromSa (endpoint_output (received verdict None shown (Some delivered))) = ⊥
 IsFromSa other = Unit {0}
 
--- in the mode Strict nothing else comes out, so the list has all that is delivered (IEEE 802.1AE, 10.6)
+-- in the mode Strict nothing else is delivered at the controlled port, so the list has all that is (IEEE 802.1AE, 10.6)
 abbrev pub DeliversFromSas : Keeping → KeepingInput → Type 0
 DeliversFromSas k input = k.secy.options.mode ≡ Strict → IsFromSa (keeping_step k input).0

@@ -44,8 +44,9 @@ pub record IsSameEnd (run later : Run) : Type 0 where
       is_xpn x.suite ≡ true → x.ssci ≡ y.ssci
 
 -- each end has one history: its endpoint is sound at each moment, keys with the same octets agree, and each run reads in
--- the journal what was reported durable before. The journal may be shortened, and crashes may leave any octets in it.
--- The ends' SCIs differ, their keys with the same octets agree too, and under an XPN suite their own SSCIs differ
+-- the journal what was reported durable before. The journal may be shortened to the highest record of each name, and
+-- crashes may leave any octets in it. The ends' SCIs differ, their keys with the same octets agree too, and under an XPN
+-- suite their own SSCIs differ
 pub record ArePeers (events : List Happening) : Type 0 where
   pub a : IsHistory (runs_of A events)
   pub b : IsHistory (runs_of B events)

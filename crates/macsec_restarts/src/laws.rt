@@ -25,7 +25,8 @@ pub fn seals_each_frame()
 {}
 
 /// The list of what was delivered has one entry for each client frame that comes out from a receive SA, and no other
-/// output adds to it (`listed`). In the mode Strict nothing comes out without an SA (`strict`).
+/// output adds to it (`listed`). In the mode Strict no frame is delivered at the controlled port without an SA
+/// (`strict`).
 pub fn lists_each_delivery()
     ensures listed { (k : Keeping) (input : KeepingInput) → DeliversEachListed k input }
     ensures strict { (k : Keeping) (input : KeepingInput) → DeliversFromSas k input }
@@ -44,7 +45,8 @@ pub fn numbers_rise()
 }
 
 /// Origin: what a strictly validating end delivers from a receive SA was sent before by the other end, in one of its runs:
-/// now, after all that happened (`now`), and at each moment of a list of happenings (`always`).
+/// now, after all that happened (`now`), and at each moment of a list of happenings (`always`). Premises: no ICV is
+/// forged, link frames are octets, and the two ends are peers (`ArePeers`).
 pub fn comes_from_other()
     ensures now { (before : List Happening) → ComesFromOther before }
     ensures always { (events : List Happening) → AlwaysComesFromOther events }
@@ -60,9 +62,9 @@ pub fn comes_from_other()
 
 /// Order, and each frame at most once: at each moment, what was delivered over all runs under the octets of a key, from
 /// one SCI and association number, is with its packet numbers a subsequence of what the other end sent under them.
-/// Premises: whenever a run of the receiver begins, its journal has saved all packet numbers that were delivered so far;
-/// where it delivers from the SA, it validates strictly and drops late frames at a window of 0; and no run creates the SA
-/// again at or below what it delivered.
+/// Premises: those of origin; whenever a run of the receiver begins, its journal has saved all packet numbers that were
+/// delivered so far; where it delivers from the SA, it validates strictly and drops late frames at a window of 0; and no
+/// run creates the SA again at or below what it delivered.
 pub fn comes_in_order_once()
     ensures { (events : List Happening) → ComesInOrderOnce events }
 {
@@ -76,7 +78,9 @@ pub fn comes_in_order_once()
     delivers_above();
 }
 
-/// A protected frame that one end sends in one of its runs is accepted by the other end in one of its runs.
+/// The frame that one endpoint's SA makes of a client frame is accepted by another endpoint, at any moments of any runs of
+/// the two. Premises: both are sound, and the receive SA matches, is enabled, and finds the packet number not late nor,
+/// under an XPN suite, too far ahead (`CanAccept`).
 pub fn accepts_in_time()
     ensures { (sender receiver : Keeping) (client : List ℕ) (tx : TxRow) (rx : RxRow) (behind : List ℕ) → AcceptsInTime sender receiver client tx rx behind }
 {
