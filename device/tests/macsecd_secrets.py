@@ -21,8 +21,9 @@ PLAIN = bytes.fromhex("ffffffffffff02000000000988b5")
 STAYS = True
 # Octets that may be unlocked: the stack of a thread that has no keys.
 LEFT = 512 << 10
-# Fewer parts of what was prepared from a key than this: it was not found.
-FEWEST = 50
+# Fewer parts of what was prepared from a key than this: it was not found. Up to FEW parts can be of something else that
+# was near its row; of a key that stays, more than a hundred are found.
+FEWEST, FEW = 50, 3
 
 
 class Secrets:
@@ -32,16 +33,16 @@ class Secrets:
         assert end.process is not None
         self.end, self.number = end, end.process.pid
         self.parts: dict[bytes, set[bytes]] = {}
+        # The keys beside which each part was found. What is beside two of them is prepared from neither.
+        self.beside: dict[bytes, set[bytes]] = {}
 
     def note(self, *keys: str) -> None:
         """Notes keys that the endpoint has. Each must be found, in locked memory and not on the stack."""
         memory = regions(self.number)
         for key in map(bytes.fromhex, keys):
             self.parts[key] = parts_of(memory, key)
-            for other, parts in self.parts.items():
-                if other != key:  # what the rows of two keys have is prepared from neither
-                    same = parts & self.parts[key]
-                    self.parts[other], self.parts[key] = parts - same, self.parts[key] - same
+            for part in self.parts[key]:
+                self.beside.setdefault(part, set()).add(key)
             report(len(self.parts[key]) >= FEWEST, f"a key is not found, or only {len(self.parts[key])} parts")
             for it in memory:
                 found = hits([it], key)
@@ -58,11 +59,12 @@ class Secrets:
         memory = regions(self.number) if memory is None else memory
         lives = set(map(bytes.fromhex, living))
         for number, (key, parts) in enumerate(self.parts.items()):
-            found = hits(memory, key, parts)
+            found = hits(memory, key, [it for it in parts if len(self.beside[it]) == 1])
             if key in lives:
                 report(found.octets > 0 and found.digits == 1, f"{what}: living key {number}: {found}")
             else:
-                report(found == NOTHING, f"{what}: key {number} of {len(self.parts)}: {found}")
+                is_gone = found.octets == found.digits == 0 and found.parts <= FEW
+                report(is_gone, f"{what}: key {number} of {len(self.parts)}: {found}")
 
     def judge_retired(self, retired: Iterable[str]) -> None:
         """The lines of retired keys are gone. What the endpoint has of them is in locked memory."""
