@@ -42,8 +42,8 @@ OVER_PROGRAM := altered-frames conformance conformance-controls peer planted sto
 OVER_LIBRARY := c-programs constant-time device-forged device-fuzz isolated isolated-controls isolated-unit journal \
     keys-in-memory macsecd macsecd-controls macsecd-isolated pages python readers two-hosts
 CHECKS := $(OVER_PROGRAM) $(OVER_LIBRARY) against allocators any-order c-cost c-header controls device-analyzed \
-    device-forged-linux device-kernel edits failures fuzz isolated-kinds kept-frames kernel-captures lanes-used live \
-    mka moves needed packages style table version
+    device-forged-linux device-installed device-kernel edits failures fuzz isolated-kinds kept-frames kernel-captures \
+    lanes-used live mka moves needed packages style table version
 
 .PHONY: all try test run lib kept device device-of install install-device install-python dist check pictures reference \
     bench toolchain clean help $(CHECKS)

@@ -141,6 +141,8 @@ CHECKS: list[Check] = [
           GUEST, 180, "device/tests/isolated-kinds --controls", hand=""),
     Check("isolated-unit", "runs the unit of macsecd under systemd", "device/tests/isolated-unit", ROOT_USER, 60,
           "device/tests/isolated-unit --controls", hand=""),
+    Check("device-installed", "installs the packages in a virtual machine with systemd: upgrade, reboots, a card pulled, purge",
+          "device/tests/device-installed", GUEST, 900, "device/tests/device-installed --controls", hand=""),
     Check("macsecd-isolated", "runs the device's other checks with an isolated LINK", "device/tests/macsecd --isolated",
           ROOT_USER, 600, "the check macsecd-controls", hand="--seed {seed}"),
     Check("macsecd-controls", "plants mistakes in the device", "device/tests/macsecd --short --controls", ROOT_USER, 1200,

@@ -64,7 +64,7 @@ NAMES = {it: f"{it}-macsecd" for it in PROGRAMS}
 
 
 def files(folder: Path) -> dict[str, tuple[bytes, int] | None]:
-    """The files of the package, but for PROVENANCE, and the folder of its configurations."""
+    """The files of the package except PROVENANCE, and the folder of its configurations."""
     doc = f"{DOC[1:]}/{NAME}"
     found: dict[str, tuple[bytes, int] | None] = {"etc/wpa_supplicant": None}
     for name, to in NAMES.items():
