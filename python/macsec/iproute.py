@@ -22,6 +22,8 @@ _NAMES = {suite: name for name, suite in CIPHERS.items() if name != "default"}
 _FAULTS = (ValueError, LookupError, TypeError, AttributeError, OverflowError, RecursionError)
 # No command of `ip` has more characters. The time that shlex takes for a word grows with the square of its length.
 _LONGEST = 4096
+# The most octets of a device's name in Linux.
+_NAME = 15
 # The options of `type macsec` that have a value.
 _OPTIONS = (
     "address port sci cipher icvlen encrypt send_sci end_station scb protect replay window validate encodingsa offload"
@@ -124,6 +126,8 @@ def _new_link(words: Sequence[str]) -> tuple[str, bytes | None, str]:
             rest.pop(0)
         else:
             name = word
+    if len(below) > _NAME or len(name) > _NAME:  # a key can stand there by mistake, and messages show names
+        raise ValueError(f"the name of a device has at most {_NAME} octets")
     return below, address, name
 
 

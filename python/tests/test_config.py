@@ -142,6 +142,16 @@ class Ip(Made):
             again = self.config("--ip", back)
             self.assertEqual(self.config("--to-ip", self.put("CONFIG", again)), pathlib.Path(back).read_text())
 
+    def test_key_for_a_name(self) -> None:
+        """A key in the place of a device's name is in no message."""
+        key = KEYS[0].hex()
+        for text in (
+            IP_COMMANDS.replace("eth0 macsec0 type", f"{key} macsec0 type"),
+            IP_COMMANDS.replace("macsec0", key),
+        ):
+            status, _, error = main_of(main, "--ip", self.put("commands", text))
+            self.assertEqual((status, key in error), (2, False), error)
+
     def test_faults(self) -> None:
         wrong = ("ip link set eth0 address", "tx sa 0 pn", "gcm-aes-128", "encrypt")
         for text in ("", *(IP_COMMANDS.replace(it, f"{it}x" if it != wrong[0] else "#") for it in wrong)):
