@@ -1,6 +1,6 @@
 //! The keeping endpoint.
 
-ghost use Rattle.std.specs.Prelude.{◌≡◌, ◌≤◌, ◌+◌, ◌++◌, ◌==◌, ◌&&◌, List, ℕ, true, drop, length, map, option_and_then, option_map, Some, None, Err, IfErr, ◌-◌, ◌^◌, min, IfOk, nat_lt, nat_le, vec_capacity, vec_len};
+ghost use Rattle.std.specs.Prelude.{◌≡◌, ◌≤◌, ◌+◌, ◌++◌, ◌==◌, ◌&&◌, List, ℕ, true, drop, length, map, option_and_then, option_map, Some, None, Err, IfErr, IfSome, is_some, ◌-◌, ◌^◌, min, IfOk, nat_lt, nat_le, vec_capacity, vec_len, if◌then◌else◌};
 ghost use Rattle.std.specs.Borrow.{sem};
 ghost use Rattle.macsec_aes.specs.Keys.{key_bytes};
 ghost use Rattle.macsec_tx.specs.Rows.{IsEnabled};
@@ -14,6 +14,8 @@ ghost use Rattle.macsec_secy.specs.Step.{client_frame, link_frame, operator_comm
 ghost use Rattle.macsec_reserve.specs.Answers.{MakesAlone, MakesKeeper, PlansKept, output_of_kept};
 ghost use Rattle.macsec_secy.specs.Jobs.{OpensFrame};
 ghost use Rattle.macsec_tag.specs.Limits.{max_frame_len};
+ghost use Rattle.macsec_suite.specs.KeyRows.{key_row};
+ghost use Rattle.macsec_reserve.specs.Forgetting.{as_taken, can_forget, fingerprint_of, forgetting, forgetting_step};
 ghost use Rattle.macsec_reserve.specs.Journal.{highest, sending_name};
 ghost use Rattle.macsec_reserve.specs.Keeping.{begins_at, endpoint_input, endpoint_output, is_below_floor, keeping_step, may_go, now_durable, rx_floor, tx_floor, uses_reserved, wanted_for, wanted_last, was_reserved};
 ghost use Rattle.macsec_reserve.specs.Names.{IsAtHand, entry_of, name_or_none, name_row, names_after};
@@ -21,12 +23,13 @@ ghost use Rattle.macsec_reserve.specs.Replay.{saved_for};
 ghost use Rattle.macsec_reserve.specs.Rests.{RestsAs};
 
 use crate::entries::raise;
+use crate::forgetting::{fingerprint, key_of_name, name_of_key, rename};
 use crate::journal::{entries_of, salt_of};
 use crate::{Reservation, highest, is_journal, receiving_name, sending_name};
 use macsec_aes::Key;
 use macsec_secy::{
-    An, Command, EnabledSa, EndConfig, FrameFault, KeyNumber, NewFault, OpenedFrame, Planned,
-    Received, Refusal, RxRow, Sci, Secy, Sent, TxRow,
+    An, Command, EnabledSa, EndConfig, FrameFault, KeyNumber, NewFault, NewKey, OpenedFrame,
+    Planned, Received, Refusal, RxRow, Sci, Secy, Sent, TxRow,
 };
 use std::alloc::Global;
 use std::marker::Model;
@@ -338,6 +341,77 @@ impl Keeper {
         }
     }
 
+    /// Carries out a management command, as `command`, and forgets a key that it retires: of the key's octets only a
+    /// fingerprint stays, by which they are still refused. The refusals are those of `command`, except that a new
+    /// association under a forgotten key can be refused with `KeyRetired` in place of `PnFloor`. `tx_floor` and
+    /// `rx_floor` no longer find what an earlier run reserved under a forgotten key.
+    ///
+    /// Do not pass what was opened under a key to `finish_receive` once the key is forgotten.
+    pub fn command_forgetting(&mut self, command: &Command) -> Result<(), Refusal>
+        ensures output { endpoint_output (output_of_command result) ≡ (forgetting_step self.old (endpoint_input (operator_command command.now))).0 }
+        ensures after { self.new ≡ (forgetting_step self.old (endpoint_input (operator_command command.now))).1 }
+        ensures sound { IsSound self.new.secy }
+    {
+        match *command {
+            Command::Key(key) => {
+                let key = self.as_taken(key);
+                self.command(&Command::Key(key))
+            }
+            Command::Retire(number) => match self.command(command) {
+                Ok(()) => {
+                    self.forget(number);
+                    Ok(())
+                }
+                Err(refusal) => Err(refusal),
+            },
+            _ => self.command(command),
+        }
+    }
+
+    /// A key to install, with its fingerprint in place of its octets if it was forgotten.
+    fn as_taken(&self, key: NewKey) -> NewKey
+        ensures { result ≡ as_taken self.now key }
+    {
+        let bytes = fingerprint(&self.salt, key.bytes);
+        if self.secy.has_retired_key(bytes) {
+            NewKey { bytes, ..key }
+        } else {
+            key
+        }
+    }
+
+    /// Puts the fingerprint of a retired key into the place of its octets, if no key has it.
+    fn forget(&mut self, number: KeyNumber)
+        ensures after { self.new ≡ (if can_forget self.old number then forgetting self.old number else self.old) }
+        ensures sound { IsSound self.new.secy }
+    {
+        let Some(octets) = self.fingerprint_of(number) else {
+            return;
+        };
+        if !self.secy.replace_key(number, octets) {
+            return;
+        }
+        self.at_hand = None;
+        add_entries(&mut self.granted, self.names.as_slice());
+        let name = name_of_key(&self.salt, octets);
+        rename(self.names.as_mut_slice(), number, &name);
+        self.take_at_hand();
+    }
+
+    /// The fingerprint of the key of this number, if there is such a key.
+    fn fingerprint_of(&self, number: KeyNumber) -> Option<Key>
+        ensures there { is_some result ≡ is_some (key_row self.now.secy.keys number) }
+        ensures octets { IfSome result (λ key. key_bytes key ≡ fingerprint_of self.now number) }
+    {
+        match self.secy.prepared(number) {
+            None => None,
+            Some(prepared) => {
+                let name = name_of(&self.salt, self.names.as_slice(), number);
+                Some(key_of_name(prepared.suite(), &name))
+            }
+        }
+    }
+
     /// Is an association to begin at a packet number that an earlier run may have used, and is there a journal?
     fn is_below_floor(&self, command: &Command) -> bool
         ensures { result ≡ is_below_floor self.now (operator_command command.now) }
@@ -403,6 +477,7 @@ impl Keeper {
     }
 
     /// Would this client frame use only a packet number that is reserved, or is there no journal?
+    #[inline(always)]
     fn may_go(&self, enabled: &Option<EnabledSa>, frame: &[u8]) -> bool
         requires { IsEnabled self.now.secy.tx enabled.now }
         ensures { result ≡ may_go self.now (client_frame frame.now) }
@@ -507,16 +582,6 @@ fn was_reserved(before: &[Reservation], name: &[u8; 32], number: u64) -> bool
     ensures { result ≡ (nat_lt 0 number && nat_le number (highest before.now name.now)) }
 {
     0 < number && number <= highest(before, name)
-}
-
-/// The name of a key for sending.
-fn name_of_key(salt: &[u8; 24], key: Key) -> [u8; 32]
-    ensures { result ≡ sending_name salt.now (key_bytes key) }
-{
-    match key {
-        Key::K128(bytes) => sending_name(salt, bytes.as_slice()),
-        Key::K256(bytes) => sending_name(salt, bytes.as_slice()),
-    }
 }
 
 /// Notes the name of the key that a command has installed, if it is such a command.

@@ -4,18 +4,23 @@ ghost use Rattle.std.specs.Prelude.{ℕ, List};
 ghost use Rattle.macsec_reserve.specs.declared.reservation.Reservation.{Reservation};
 ghost use Rattle.macsec_reserve.specs.Crashes.{ReadsWritten};
 ghost use Rattle.macsec_reserve.specs.Entries.{SaysTheSame, reduced};
-ghost use Rattle.macsec_reserve.specs.Histories.{Run};
+ghost use Rattle.macsec_commands.specs.declared.config.EndConfig.{EndConfig};
+ghost use Rattle.macsec_reserve.specs.Histories.{Run, opening};
 ghost use Rattle.macsec_tag.specs.declared.identifiers.Sci.{Sci};
 ghost use Rattle.macsec_rx.specs.declared.RxRow.{RxRow};
 ghost use Rattle.macsec_secy.specs.State.{State};
 ghost use Rattle.macsec_secy.specs.Step.{Input};
-ghost use Rattle.macsec_reserve.specs.Keeping.{Keeping, KeepingInput};
+ghost use Rattle.macsec_suite.specs.declared.key_row.NewKey.{NewKey};
+ghost use Rattle.macsec_reserve.specs.Forgotten.{BecomesKnown, ForgetsAlike, IsAsBefore, RefusesKnown, RepeatsNoIvForgetting, StaysKnown};
+ghost use Rattle.macsec_reserve.specs.Keeping.{Keeping, KeepingInput, alone};
 ghost use Rattle.macsec_reserve.specs.Replay.{DeliversAbove, NeverDeliversAgain, NeverDeliversAgainUnder, SavesAccepted};
 ghost use Rattle.macsec_reserve.specs.Transparent.{IsTheMachine, IsTheMachineAlone};
 ghost use Rattle.macsec_reserve.specs.TwoEnds.{RepeatsNoIvAtBoth, RepeatsNoIvAtBothAfterCrashes};
 ghost use Rattle.macsec_reserve.specs.Unique.{RepeatsNoIv, RepeatsNoIvAfterCrashes};
 
-use macsec_secy::laws::{keys_stay, protects_frames, rows_agree, rx_rows_stay};
+use macsec_secy::laws::{
+    keys_stay, protects_frames, retired_keys_decide_nothing, rows_agree, rx_rows_stay,
+};
 use macsec_suite::laws::equal_ivs;
 
 /// Over all runs of a history, whatever the moment at which each ended, no two frames are sealed with the same key
@@ -92,4 +97,46 @@ pub fn is_the_machine()
     equal_ivs();
     keys_stay();
     protects_frames();
+}
+
+/// An endpoint that forgets retired keys takes every other step as before: all but the retirement of a key and the
+/// installation of octets that a retired key has or whose fingerprint it has (`before`). Over a whole run it seals the
+/// same frames and gives the same answers as the endpoint that forgets none and is not given those installations, beside
+/// a journal (`alike`) or without one (`alone`). A new SA under a retired key is refused by both, with `KeyRetired` or
+/// with `PnFloor`.
+pub fn forgets_alike()
+    ensures before { (k : Keeping) (input : KeepingInput) → IsAsBefore k input }
+    ensures alike { (run : Run) → ForgetsAlike (opening run) run.inputs }
+    ensures alone { (config : EndConfig) (inputs : List KeepingInput) → ForgetsAlike (alone config) inputs }
+{
+    // Laws that the proof cites; the calls do nothing.
+    keys_stay();
+    retired_keys_decide_nothing();
+    rows_agree();
+}
+
+/// The octets of a key that was installed are known from then on, also once the key is forgotten, and are refused with
+/// `KeyRepeated` if no refusal comes before that one.
+pub fn refuses_forgotten_keys()
+    ensures begins { (k : Keeping) (key : NewKey) → BecomesKnown k key }
+    ensures stays { (k : Keeping) (input : KeepingInput) (bytes : List ℕ) → StaysKnown k input bytes }
+    ensures refuses { (k : Keeping) (key : NewKey) → RefusesKnown k key }
+{
+    // Laws that the proof cites; the calls do nothing.
+    keys_stay();
+    retired_keys_decide_nothing();
+    rows_agree();
+}
+
+/// The first promise for endpoints that forget retired keys: over all runs of a history no two frames are sealed with
+/// the same key octets and the same IV.
+pub fn repeats_no_iv_forgetting()
+    ensures { (runs : List Run) → RepeatsNoIvForgetting runs }
+{
+    // Laws that the proof cites; the calls do nothing.
+    equal_ivs();
+    keys_stay();
+    protects_frames();
+    retired_keys_decide_nothing();
+    rows_agree();
 }

@@ -323,6 +323,7 @@ impl RxChannels {
     }
 
     /// The SA of a received frame, with its positions: the one with its SCI and association number, if it is enabled.
+    #[inline(always)]
     pub(crate) fn in_use(&self, mpdu: &Mpdu<'_>) -> Option<Found>
         ensures row { option_map row_of_found result ≡ in_use self.now.rows mpdu.now.tag.an (sci_of self.now.scis mpdu.now) }
         ensures place { IfSome result (λ f. slice_get self.now.rows f.place ≡ Some f.row) }

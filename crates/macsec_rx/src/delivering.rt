@@ -68,6 +68,7 @@ pub fn deliver_bare(mpdu: &Mpdu<'_>, out: &mut [u8]) -> (usize, usize)
 
 /// If the ICV is valid under this key and IV, delivers the frame with its plaintext. Otherwise delivers nothing, and no
 /// decrypted octet of the frame is in `out`.
+#[inline(always)]
 pub fn deliver_opened(
     key: &SuiteKey,
     iv: &[u8; 12],

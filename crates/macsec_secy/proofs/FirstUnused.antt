@@ -1,7 +1,7 @@
 -- The first packet number that was never used under a key, when the table of keys changes.
 use Rattle.std.proofs.Common.{◌≡◌, ℕ, ◌+◌, Bool, true, false, List, [], ◌∷◌, ◌++◌, refl, sym, subst, ◌∙◌, eqb-true}
 use Rattle.std.specs.Prelude.{Option, ◌==◌, if◌then◌else◌, Some, None, IsSome, unwrap_or}
-use Rattle.macsec_suite.specs.KeyRows.{InstalledKey, at_number, key_row, keys_noting, keys_retiring, no_key, retired_row, row_noting}
+use Rattle.macsec_suite.specs.KeyRows.{InstalledKey, at_number, key_row, keys_noting, keys_replacing, keys_retiring, no_key, retired_row, row_noting, with_bytes, with_key}
 use Rattle.macsec_secy.specs.Agrees.{first_unused}
 use Rattle.macsec_secy.proofs.KeysKept.{field_kept, same_number}
 use Rattle.macsec_secy.proofs.SameKey.{field_of_the_key}
@@ -19,10 +19,18 @@ first-another_key (key ∷ keys) new n fresh = by_test (key.number == n) (first-
     by_test true later = refl
     by_test false later = later
 
+-- a change of one key that keeps its number and its first unused packet number
+one_changed : (change : InstalledKey → InstalledKey) → ((key : InstalledKey) → (change key).number ≡ key.number) → ((key : InstalledKey) → (change key).first_unused ≡ key.first_unused) →
+    (keys : List InstalledKey) (number n : ℕ) → first_unused (with_key change number keys) n ≡ first_unused keys n
+one_changed change same kept keys number n =
+    field_of_the_key (λ (k : InstalledKey). k.first_unused) (at_number change number) (same_number change same number)
+    (λ key. field_kept (λ (k : InstalledKey). k.first_unused) change kept (key.number == number) key) keys n
+
 pub first-retiring : (keys : List InstalledKey) (number n : ℕ) → first_unused (keys_retiring keys number) n ≡ first_unused keys n
-first-retiring keys number n =
-    field_of_the_key (λ (k : InstalledKey). k.first_unused) (at_number retired_row number) (same_number retired_row (λ k. refl) number)
-    (λ key. field_kept (λ (k : InstalledKey). k.first_unused) retired_row (λ k. refl) (key.number == number) key) keys n
+first-retiring keys number n = one_changed retired_row (λ k. refl) (λ k. refl) keys number n
+
+pub first-replacing : (keys : List InstalledKey) (number : ℕ) (bytes : List ℕ) (n : ℕ) → first_unused (keys_replacing keys number bytes) n ≡ first_unused keys n
+first-replacing keys number bytes n = one_changed (with_bytes bytes) (λ k. refl) (λ k. refl) keys number n
 
 -- the first unused packet number of this key if it is the one looked up, otherwise of the key found after it
 abbrev first_or : Bool → InstalledKey → Option InstalledKey → ℕ

@@ -4,7 +4,7 @@ use Rattle.std.specs.Prelude.{◌==◌, not, is_some, if◌then◌else◌, optio
 use Rattle.std.proofs.lemmas.Bool.{eqb-true, or_from, or_parts}
 use Rattle.macsec_tag.specs.declared.identifiers.Sci.{Sci}
 use Rattle.macsec_suite.specs.declared.refusal.Refusal.{Refusal}
-use Rattle.macsec_suite.specs.KeyRows.{InstalledKey, at_number, key_row, keys_retiring, new_row, retired_row, row_noting, suite_of}
+use Rattle.macsec_suite.specs.KeyRows.{InstalledKey, at_number, key_row, keys_retiring, new_row, retired_row, row_noting, suite_of, with_bytes}
 use Rattle.macsec_suite.specs.Refusals.{holds_of, is_number_used, is_retired}
 use Rattle.macsec_tx.specs.declared.TxRow.{TxRow}
 use Rattle.macsec_tx.specs.Commands.{off_at, switch_to, tx_sa_refusals, tx_uses}
@@ -18,7 +18,7 @@ use Rattle.macsec_commands.specs.declared.command.Command.TheVariants.{Protect, 
 use Rattle.macsec_commands.specs.declared.command.Command.TheVariants.{TxDel, RxSc, RxScDel, RxSa, RxOn, RxOff, RxLow, RxDel}
 use Rattle.macsec_secy.specs.declared.fault.FrameFault.{FrameFault}
 use Rattle.macsec_secy.specs.Commands.{effect, refusal, refusals, unless_refused}
-use Rattle.macsec_secy.specs.GivenUp.{GivesUp, IsGivenUp, StaysGivenUp}
+use Rattle.macsec_secy.specs.GivenUp.{GivesUp, IsGivenUp, StaysGivenUp, StaysReplaced}
 use Rattle.macsec_secy.specs.Reception.{judgement_of, state_after_receiving}
 use Rattle.macsec_secy.specs.State.{State}
 use Rattle.macsec_secy.specs.Step.{Input, Output, operator_command, client_frame, uncontrolled_frame, link_frame, command_output, done, frame_fault, leaves}
@@ -194,3 +194,8 @@ retiring s n (Some r) is done' = cc
 
 pub gives_up : (s : State) (n : ℕ) → GivesUp s n
 gives_up s n = retiring s n (refusal s (Retire n)) refl
+
+-- ---- the octets of a key are replaced
+
+pub stays_replaced : (s : State) (m n : ℕ) (bytes : List ℕ) → StaysReplaced s m n bytes
+stays_replaced s m n bytes up = record { retired = one_changed (with_bytes bytes) (λ row. refl) (λ row here. here) s.keys n m up.retired; unused = up.unused }

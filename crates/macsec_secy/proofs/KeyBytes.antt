@@ -1,16 +1,20 @@
--- No two keys have the same bytes: a key whose bytes are in the table is refused.
-use Rattle.std.proofs.Common.{◌≡◌, ℕ, List, map, refl}
-use Rattle.std.specs.Prelude.{◌==◌, Option, Some, None}
+-- No two keys have the same bytes: bytes that are in the table are refused.
+use Rattle.std.proofs.Common.{◌≡◌, ℕ, Bool, true, false, List, [], ◌∷◌, map, refl, subst, ◌∙◌}
+use Rattle.std.specs.Prelude.{◌==◌, cond, if◌then◌else◌, Option, Some, None}
+use Rattle.std.specs.List.{list_any}
+use Rattle.std.proofs.lemmas.Bool.{eqb-true, or_from, or_parts}
+use Rattle.std.proofs.lemmas.Cmp.{nat_list_eq_equiv}
+use Rattle.macsec_gcm.specs.Octets.{same_octets}
 use Rattle.macsec_suite.specs.declared.suite.Suite.{Suite}
 use Rattle.macsec_suite.specs.declared.key_row.NewKey.{NewKey}
-use Rattle.macsec_suite.specs.KeyRows.{InstalledKey, at_number, keys_retiring, keys_with, new_row, retired_row, row_noting}
-use Rattle.macsec_suite.specs.Refusals.{first_refusal, install_refusals}
+use Rattle.macsec_suite.specs.KeyRows.{AreKeyRows, InstalledKey, at_number, key_row, keys_replacing, keys_retiring, keys_with, new_row, retired_row, row_noting, with_bytes}
+use Rattle.macsec_suite.specs.Refusals.{first_refusal, install_refusals, is_repeated}
 use Rattle.macsec_tx.specs.declared.TxRow.{TxRow}
 use Rattle.macsec_tx.specs.Transmit.{keys_after}
 use Rattle.macsec_secy.specs.Agrees.{NoTwo, same_bytes}
 use Rattle.macsec_secy.proofs.AfterCommands.{none_hold}
 use Rattle.macsec_secy.proofs.KeysKept.{field_kept}
-use Rattle.macsec_secy.proofs.NoTwo.{no_two-map, no_two-with}
+use Rattle.macsec_secy.proofs.NoTwo.{no_two-map, no_two-with, none-map}
 
 pub with_another_key : (suite : Suite) (window : ℕ) (keys : List InstalledKey) (key : NewKey) → first_refusal (install_refusals suite window keys key) ≡ None →
     NoTwo same_bytes keys → NoTwo same_bytes (keys_with suite keys key)
@@ -33,3 +37,41 @@ with_a_key_retired keys number apart = one_changed retired_row (λ key. refl) nu
 pub after_sending : (keys : List InstalledKey) (by : Option TxRow) → NoTwo same_bytes keys → NoTwo same_bytes (keys_after keys by)
 after_sending keys None apart = apart
 after_sending keys (Some row) apart = one_changed (row_noting row.next) (λ key. refl) row.key keys apart
+
+-- ---- other bytes
+
+-- a conditional that gives `None`
+both_none : (b : Bool) (x : InstalledKey) (r : Option InstalledKey) → cond b (Some x) r ≡ None → (b ≡ false) × (r ≡ None)
+both_none true x r h = cc
+both_none false x r h = (refl, h)
+
+-- no key has the bytes after a replacement of a key that is not in the table
+none_has : (keys : List InstalledKey) (n : ℕ) (bytes : List ℕ) → key_row keys n ≡ None → is_repeated keys bytes ≡ false →
+    list_any (λ key. same_octets bytes key.bytes) (keys_replacing keys n bytes) ≡ false
+none_has [] n bytes free none = refl
+none_has (key ∷ keys) n bytes free none =
+    let parts = or_parts (same_octets key.bytes bytes) (is_repeated keys bytes) none in
+    let others = both_none (key.number == n) key (key_row keys n) free in
+    let differs : same_octets bytes key.bytes ≡ false = nat_list_eq_equiv.symm bytes key.bytes ∙ parts.0 in
+    rw others.0 (or_from (same_octets bytes key.bytes) (list_any (λ (k : InstalledKey). same_octets bytes k.bytes) (keys_replacing keys n bytes)) differs
+    (none_has keys n bytes others.1 parts.1))
+
+-- the bytes of one key are replaced by bytes that no key has
+pub with_a_key_replaced : (keys : List InstalledKey) (n : ℕ) (bytes : List ℕ) → AreKeyRows keys → is_repeated keys bytes ≡ false →
+    NoTwo same_bytes keys → NoTwo same_bytes (keys_replacing keys n bytes)
+with_a_key_replaced [] n bytes are none apart = tt
+with_a_key_replaced (key ∷ keys) n bytes are none apart = (by_test (key.number == n) refl, with_a_key_replaced keys n bytes are.2 parts.1 apart.1)
+  where
+    parts : (same_octets key.bytes bytes ≡ false) × (is_repeated keys bytes ≡ false)
+    parts = or_parts (same_octets key.bytes bytes) (is_repeated keys bytes) none
+
+    stays : (k : InstalledKey) → same_bytes key k ≡ false → same_bytes key (at_number (with_bytes bytes) n k) ≡ false
+    stays k differs = by_number (k.number == n)
+      where
+        by_number : (b : Bool) → same_bytes key (if b then with_bytes bytes k else k) ≡ false
+        by_number true = parts.0
+        by_number false = differs
+
+    by_test : (b : Bool) → (key.number == n) ≡ b → list_any (same_bytes (if b then with_bytes bytes key else key)) (keys_replacing keys n bytes) ≡ false
+    by_test true is = none_has keys n bytes (subst (λ m. key_row keys m ≡ None) (eqb-true key.number n is) are.1) parts.1
+    by_test false is = none-map (at_number (with_bytes bytes) n) (same_bytes key) (same_bytes key) stays keys apart.0

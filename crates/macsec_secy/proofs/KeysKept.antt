@@ -4,7 +4,7 @@ use Rattle.std.specs.Prelude.{◌==◌, not, if◌then◌else◌, Option, Some, 
 use Rattle.std.proofs.lemmas.Bool.{eqb-true}
 use Rattle.macsec_suite.specs.declared.refusal.Refusal.{Refusal}
 use Rattle.macsec_suite.specs.declared.refusal.Refusal.TheVariants.{NoKey}
-use Rattle.macsec_suite.specs.KeyRows.{InstalledKey, at_number, key_row, keys_noting, keys_retiring, retired_row, row_noting}
+use Rattle.macsec_suite.specs.KeyRows.{InstalledKey, at_number, key_row, keys_noting, keys_replacing, keys_retiring, retired_row, row_noting, with_bytes}
 use Rattle.macsec_suite.specs.Refusals.{first_refusal, is_number_used}
 use Rattle.macsec_tx.specs.declared.TxRow.{TxRow}
 use Rattle.macsec_tx.specs.Transmit.{keys_after, next_used, rows_after, tx_row, used_at}
@@ -52,9 +52,13 @@ pub same_number : (change : InstalledKey → InstalledKey) → ((key : Installed
     (at_number change number key).number ≡ key.number
 same_number change same number key = field_kept (λ (k : InstalledKey). k.number) change same (key.number == number) key
 
--- a key stays in the table when a key is retired, and when a key uses a packet number
+-- a key stays in the table when a key is retired, gets other octets, or uses a packet number
 pub there_retiring : (keys : List InstalledKey) (number other : ℕ) → IsThere keys other → IsThere (keys_retiring keys number) other
 there_retiring keys number other there = there_after_change (at_number retired_row number) (same_number retired_row (λ key. refl) number) keys other there
+
+pub there_replacing : (keys : List InstalledKey) (number : ℕ) (bytes : List ℕ) (other : ℕ) → IsThere keys other → IsThere (keys_replacing keys number bytes) other
+there_replacing keys number bytes other there =
+    there_after_change (at_number (with_bytes bytes) number) (same_number (with_bytes bytes) (λ key. refl) number) keys other there
 
 pub there_noting : (keys : List InstalledKey) (number pn other : ℕ) → IsThere keys other → IsThere (keys_noting keys number pn) other
 there_noting keys number pn other there =
@@ -78,6 +82,9 @@ with_a_key_changed change same keys rows number have an =
 
 pub with_a_key_retired : (keys : List InstalledKey) (rows : List TxRow) (number : ℕ) → HaveKeys keys rows → HaveKeys (keys_retiring keys number) rows
 with_a_key_retired keys rows number have = with_a_key_changed retired_row (λ key. refl) keys rows number have
+
+pub with_a_key_replaced : (keys : List InstalledKey) (rows : List TxRow) (number : ℕ) (bytes : List ℕ) → HaveKeys keys rows → HaveKeys (keys_replacing keys number bytes) rows
+with_a_key_replaced keys rows number bytes have = with_a_key_changed (with_bytes bytes) (λ key. refl) keys rows number have
 
 with_a_number_used : (keys : List InstalledKey) (rows : List TxRow) (number pn : ℕ) → HaveKeys keys rows → HaveKeys (keys_noting keys number pn) rows
 with_a_number_used keys rows number pn have = with_a_key_changed (row_noting pn) (λ key. refl) keys rows number have

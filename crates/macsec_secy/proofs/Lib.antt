@@ -39,6 +39,7 @@ pub mod Accepted
 pub mod Contained
 pub mod KeysApart
 pub mod KeysStay
+pub mod KeyReplaced
 pub mod OtherOctets
 pub mod GivenUp
 pub mod RxRowsStay

@@ -11,7 +11,7 @@ use Rattle.macsec_suite.specs.declared.key_row.NewKey.{NewKey}
 use Rattle.macsec_suite.specs.declared.refusal.Refusal.{Refusal}
 use Rattle.macsec_suite.specs.declared.refusal.Refusal.TheVariants.{KeyLength, Offset, KeyNumberUsed, KeyRepeated, NoKey, KeyRetired, KeyInUse, AnTaken, Exhausted, NoSa, NoSc, PnFloor, PnLower, PnRange, SsciOwn, Window}
 use Rattle.macsec_suite.specs.Keys.{has_wrong_length, has_wrong_offset}
-use Rattle.macsec_suite.specs.KeyRows.{InstalledKey, at_number, is_extended, key_row, new_row, no_key, retired_row, row_noting, suite_of, the_key, with_key}
+use Rattle.macsec_suite.specs.KeyRows.{InstalledKey, at_number, is_extended, key_row, new_row, no_key, retired_row, row_noting, suite_of, the_key, with_bytes, with_key}
 use Rattle.macsec_suite.specs.Refusals.{first_refusal, holds_of, install_refusals, is_number_used, is_outside, is_repeated, is_retired, is_too_wide}
 use Rattle.macsec_suite.specs.Suites.{last_of, widest_extended_window, widest_short_window}
 use Rattle.macsec_tx.specs.declared.TxOptions.{TxOptions}
@@ -30,7 +30,7 @@ use Rattle.macsec_commands.specs.declared.command.Command.TheVariants.{TxDel, Rx
 use Rattle.macsec_secy.specs.declared.fault.FrameFault.{FrameFault}
 use Rattle.macsec_secy.specs.Commands.{effect, refusal, unless_refused, uses}
 use Rattle.macsec_secy.specs.Counting.{count_leaving, count_protected}
-use Rattle.macsec_secy.specs.GivenUp.{RepeatsAlike, StepsAlike, new_bytes, replacing, with_bytes}
+use Rattle.macsec_secy.specs.GivenUp.{RepeatsAlike, StepsAlike, new_bytes, replacing}
 use Rattle.macsec_secy.specs.Reception.{judge_reading, state_after_receiving}
 use Rattle.macsec_secy.specs.State.{State, rx_options, tx_options}
 use Rattle.macsec_secy.specs.Step.{Input, Output, operator_command, client_frame, uncontrolled_frame, link_frame, command_output, done, frame_fault, leaves}
@@ -63,13 +63,13 @@ same_by g bytes n same (Some row) = by_test (row.number == n)
     by_test true = same row
     by_test false = refl
 
-alike : {A : Type 0} (g : Option InstalledKey → A) (keys : List InstalledKey) (n : ℕ) (bytes : List ℕ) (k : ℕ) →
+pub alike : {A : Type 0} (g : Option InstalledKey → A) (keys : List InstalledKey) (n : ℕ) (bytes : List ℕ) (k : ℕ) →
     ((row : InstalledKey) → g (Some (with_bytes bytes row)) ≡ g (Some row)) → g (key_row (with_key (with_bytes bytes) n keys) k) ≡ g (key_row keys k)
 alike g keys n bytes k same =
     ap g (row-map (at_number (with_bytes bytes) n) (same_number (with_bytes bytes) (λ key. refl) n) keys k) ∙ same_by g bytes n same (key_row keys k)
 
 -- the row of another number stays
-another : (keys : List InstalledKey) (n : ℕ) (bytes : List ℕ) (k : ℕ) → (k == n) ≡ false → key_row (with_key (with_bytes bytes) n keys) k ≡ key_row keys k
+pub another : (keys : List InstalledKey) (n : ℕ) (bytes : List ℕ) (k : ℕ) → (k == n) ≡ false → key_row (with_key (with_bytes bytes) n keys) k ≡ key_row keys k
 another [] n bytes k differs = refl
 another (row ∷ keys) n bytes k differs =
     subst (λ m. (if m == k then Some (at_number (with_bytes bytes) n row) else key_row (with_key (with_bytes bytes) n keys) k) ≡ key_row (row ∷ keys) k)
@@ -86,7 +86,7 @@ another (row ∷ keys) n bytes k differs =
 
 -- ---- the keys
 
-widest-alike : (keys : List InstalledKey) (n : ℕ) (bytes : List ℕ) → list_any is_extended (with_key (with_bytes bytes) n keys) ≡ list_any is_extended keys
+pub widest-alike : (keys : List InstalledKey) (n : ℕ) (bytes : List ℕ) → list_any is_extended (with_key (with_bytes bytes) n keys) ≡ list_any is_extended keys
 widest-alike [] n bytes = refl
 widest-alike (row ∷ keys) n bytes = by_test (row.number == n) (widest-alike keys n bytes)
   where
@@ -239,7 +239,7 @@ command-alike s n bytes c (Some r) does = refl
 -- ---- client frames
 
 -- what is found among the SAs uses another key
-found_unused : {A : Type 0} (p q : A → Bool) (xs : List A) (x : A) → list_any p xs ≡ false → find q xs ≡ Some x → p x ≡ false
+pub found_unused : {A : Type 0} (p q : A → Bool) (xs : List A) (x : A) → list_any p xs ≡ false → find q xs ≡ Some x → p x ≡ false
 found_unused p q [] x none is = cc
 found_unused p q (y ∷ ys) x none is =
     let parts = or_parts (p y) (list_any p ys) none in
@@ -261,7 +261,7 @@ by_row-alike options keys n bytes frame None differs = refl
 by_row-alike options keys n bytes frame (Some row) differs =
     ap (λ (o : Option InstalledKey). sent_by options frame row (unwrap_or o no_key)) (another keys n bytes row.key (differs row refl))
 
-sending-alike : (options : TxOptions) (keys : List InstalledKey) (n : ℕ) (bytes : List ℕ) (rows : List TxRow) (frame : List ℕ) → tx_uses rows n ≡ false →
+pub sending-alike : (options : TxOptions) (keys : List InstalledKey) (n : ℕ) (bytes : List ℕ) (rows : List TxRow) (frame : List ℕ) → tx_uses rows n ≡ false →
     sending options (with_key (with_bytes bytes) n keys) rows frame ≡ sending options keys rows frame
 sending-alike options keys n bytes rows frame unused =
     ap (λ (sent : Sending). if options.protect then sent else not_protected (if nat_lt options.max_frame (length frame) then too_long else plain))

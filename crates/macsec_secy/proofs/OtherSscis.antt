@@ -5,7 +5,7 @@ use Rattle.std.specs.List.{All}
 use Rattle.std.proofs.lemmas.List.Elements.{All-append, All-cons, All-map, All-nil, All-weaker}
 use Rattle.macsec_tag.specs.declared.identifiers.Sci.{Sci}
 use Rattle.macsec_suite.specs.declared.refusal.Refusal.TheVariants.{NoKey}
-use Rattle.macsec_suite.specs.KeyRows.{InstalledKey, at_number, keys_retiring, retired_row, row_noting, the_key}
+use Rattle.macsec_suite.specs.KeyRows.{InstalledKey, at_number, keys_replacing, keys_retiring, retired_row, row_noting, the_key, with_bytes}
 use Rattle.macsec_suite.specs.Refusals.{first_refusal, is_number_used}
 use Rattle.macsec_tx.specs.declared.TxRow.{TxRow}
 use Rattle.macsec_tx.specs.Transmit.{keys_after}
@@ -62,6 +62,10 @@ one_key_changed change same number keys rows have = All-weaker (HasOtherSsci key
 pub with_a_key_retired : (keys : List InstalledKey) (rows : List RxRow) (number : ℕ) → HaveOtherSscis keys rows → HaveOtherSscis (keys_retiring keys number) rows
 with_a_key_retired keys rows number have =
     one_key_changed retired_row (record { number = λ key. refl; suite = λ key. refl; ssci = λ key. refl }) number keys rows have
+
+pub with_a_key_replaced : (keys : List InstalledKey) (rows : List RxRow) (number : ℕ) (bytes : List ℕ) → HaveOtherSscis keys rows → HaveOtherSscis (keys_replacing keys number bytes) rows
+with_a_key_replaced keys rows number bytes have =
+    one_key_changed (with_bytes bytes) (record { number = λ key. refl; suite = λ key. refl; ssci = λ key. refl }) number keys rows have
 
 pub after_sending : (keys : List InstalledKey) (rows : List RxRow) (by : Option TxRow) → HaveOtherSscis keys rows → HaveOtherSscis (keys_after keys by) rows
 after_sending keys rows None have = have

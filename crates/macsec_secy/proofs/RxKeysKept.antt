@@ -4,7 +4,7 @@ use Rattle.std.specs.Prelude.{not, Option, Some, None}
 use Rattle.std.proofs.lemmas.List.Elements.{All-append, All-cons, All-filter, All-head, All-nil, All-tail, All-weaker}
 use Rattle.macsec_tag.specs.declared.identifiers.Sci.{Sci}
 use Rattle.macsec_suite.specs.declared.refusal.Refusal.TheVariants.{NoKey}
-use Rattle.macsec_suite.specs.KeyRows.{InstalledKey, keys_noting, keys_retiring}
+use Rattle.macsec_suite.specs.KeyRows.{InstalledKey, keys_noting, keys_replacing, keys_retiring}
 use Rattle.macsec_suite.specs.Refusals.{first_refusal, is_number_used}
 use Rattle.macsec_tx.specs.declared.TxRow.{TxRow}
 use Rattle.macsec_tx.specs.Transmit.{keys_after}
@@ -13,7 +13,7 @@ use Rattle.macsec_rx.specs.Channels.{Channels, at_place, is_at, same_sci, with_r
 use Rattle.macsec_rx.specs.Commands.{HaveRxKeys, channels_narrowed, row_narrowed, row_raised, row_switched, rx_sa_refusals}
 use Rattle.macsec_rx.specs.Commands.{with_rx_low, with_rx_on, with_rx_sa, without_channel, without_rx}
 use Rattle.macsec_rx.specs.Judge.{Judgement, accepted_number, row_accepting, rows_accepting, rows_after}
-use Rattle.macsec_secy.proofs.KeysKept.{IsThere, field_kept, not_refused, there_noting, there_retiring, there_with_more}
+use Rattle.macsec_secy.proofs.KeysKept.{IsThere, field_kept, not_refused, there_noting, there_replacing, there_retiring, there_with_more}
 
 abbrev KeyIsThere : List InstalledKey → RxRow → Type 0
 KeyIsThere keys row = IsThere keys row.key
@@ -27,6 +27,10 @@ with_another_key keys rows new have =
 pub with_a_key_retired : (keys : List InstalledKey) (rows : List RxRow) (number : ℕ) → HaveRxKeys keys rows → HaveRxKeys (keys_retiring keys number) rows
 with_a_key_retired keys rows number have =
     All-weaker (KeyIsThere keys) (KeyIsThere (keys_retiring keys number)) (λ row there. there_retiring keys number row.key there) rows have
+
+pub with_a_key_replaced : (keys : List InstalledKey) (rows : List RxRow) (number : ℕ) (bytes : List ℕ) → HaveRxKeys keys rows → HaveRxKeys (keys_replacing keys number bytes) rows
+with_a_key_replaced keys rows number bytes have =
+    All-weaker (KeyIsThere keys) (KeyIsThere (keys_replacing keys number bytes)) (λ row there. there_replacing keys number bytes row.key there) rows have
 
 pub after_sending : (keys : List InstalledKey) (rows : List RxRow) (by : Option TxRow) → HaveRxKeys keys rows → HaveRxKeys (keys_after keys by) rows
 after_sending keys rows None have = have

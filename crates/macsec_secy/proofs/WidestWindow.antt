@@ -6,7 +6,7 @@ use Rattle.std.proofs.lemmas.Bool.{ltb-false}
 use Rattle.macsec_suite.specs.declared.key_row.NewKey.{NewKey}
 use Rattle.macsec_suite.specs.declared.suite.Suite.{Suite}
 use Rattle.macsec_suite.specs.Suites.{is_xpn, widest_extended_window, widest_short_window}
-use Rattle.macsec_suite.specs.KeyRows.{InstalledKey, at_number, is_extended, keys_noting, keys_retiring, keys_with, new_row, retired_row, row_noting, widest_beside}
+use Rattle.macsec_suite.specs.KeyRows.{InstalledKey, at_number, is_extended, keys_noting, keys_replacing, keys_retiring, keys_with, new_row, retired_row, row_noting, widest_beside, with_bytes}
 use Rattle.macsec_suite.specs.Refusals.{is_too_wide}
 
 -- the widest window, by whether packet numbers are extended under one of the keys
@@ -84,3 +84,7 @@ with_one_retired keys number window within = omega (arith, within, changed (at_n
 pub with_one_noting : (keys : List InstalledKey) (number pn window : ℕ) → window ≤ widest_beside keys → window ≤ widest_beside (keys_noting keys number pn)
 with_one_noting keys number pn window within =
     omega (arith, within, changed (at_number (row_noting pn) number) (at_one (row_noting pn) (λ key is. is) number) keys)
+
+pub with_one_replaced : (keys : List InstalledKey) (number : ℕ) (bytes : List ℕ) (window : ℕ) → window ≤ widest_beside keys → window ≤ widest_beside (keys_replacing keys number bytes)
+with_one_replaced keys number bytes window within =
+    omega (arith, within, changed (at_number (with_bytes bytes) number) (at_one (with_bytes bytes) (λ key is. is) number) keys)

@@ -1,9 +1,10 @@
 -- What the octets of a key decide once the key is retired: only the refusal KeyRepeated.
-use Rattle.std.specs.Prelude.{◌≡◌, ℕ, List, true, false}
+use Rattle.std.specs.Prelude.{◌≡◌, ℕ, List, true, false, if◌then◌else◌}
 use Rattle.macsec_suite.specs.declared.key_row.NewKey.{NewKey}
 use Rattle.macsec_suite.specs.declared.suite.Suite.TheVariants.{Gcm128}
-use Rattle.macsec_suite.specs.KeyRows.{InstalledKey, new_row, with_key}
+use Rattle.macsec_suite.specs.KeyRows.{keys_replacing, new_row}
 use Rattle.macsec_suite.specs.Refusals.{is_repeated, is_retired}
+use Rattle.macsec_suite.specs.Replacing.{can_replace}
 use Rattle.macsec_commands.specs.declared.command.Command.TheVariants.{Key, Retire}
 use Rattle.macsec_secy.specs.Commands.{uses}
 use Rattle.macsec_secy.specs.State.{State}
@@ -21,13 +22,17 @@ GivesUp s n = (step s (operator_command (Retire n))).0 ≡ done → IsGivenUp (s
 abbrev pub StaysGivenUp : State → ℕ → Input → Type 0
 StaysGivenUp s n input = IsGivenUp s n → IsGivenUp (step s input).1 n
 
--- the row with other octets in place of its own
-abbrev pub with_bytes : List ℕ → InstalledKey → InstalledKey
-with_bytes bytes row = record row { bytes = bytes }
-
 -- the state, except that the key of this number has these octets
 abbrev pub replacing : ℕ → List ℕ → State → State
-replacing n bytes s = record s { keys = with_key (with_bytes bytes) n s.keys }
+replacing n bytes s = record s { keys = keys_replacing s.keys n bytes }
+
+-- the state after the key of this number gets these octets: unchanged if they may not replace its own
+abbrev pub state_after_replacing : ℕ → List ℕ → State → State
+state_after_replacing n bytes s = if can_replace s.keys n bytes then replacing n bytes s else s
+
+-- a key stays retired and unused when the octets of a key are replaced, its own or another's
+abbrev pub StaysReplaced : State → ℕ → ℕ → List ℕ → Type 0
+StaysReplaced s m n bytes = IsGivenUp s m → IsGivenUp (replacing n bytes s) m
 
 -- the octets of a key to install, whatever its suite
 abbrev pub new_bytes : NewKey → List ℕ

@@ -13,7 +13,7 @@ ghost use Rattle.macsec_secy.specs.Frames.{HasFrameLengths, HasLengthsFrom};
 ghost use Rattle.macsec_secy.specs.Laws.{UsesNoNumberTwice, UsesRisingNumbers};
 ghost use Rattle.macsec_secy.specs.Accepts.{AcceptsSent};
 ghost use Rattle.macsec_secy.specs.Kept.{KeysAreApart, KeysStay, RxRowStays, RxRowsAreApart};
-ghost use Rattle.macsec_secy.specs.GivenUp.{GivesUp, StaysGivenUp, StepsAlike};
+ghost use Rattle.macsec_secy.specs.GivenUp.{GivesUp, StaysGivenUp, StaysReplaced, StepsAlike};
 ghost use Rattle.macsec_rx.specs.declared.OpenJob.{OpenJob};
 ghost use Rattle.macsec_rx.specs.declared.OpenedFrame.{OpenedFrame};
 ghost use Rattle.macsec_tx.specs.declared.SealJob.{SealJob};
@@ -81,12 +81,14 @@ pub fn keys_stay()
     ensures stay { (s : State) (input : Input) → IsSound s → KeysStay s (step s input).1 }
 {}
 
-/// From the command on that retires a key, it stays retired and no SA uses it. Its octets then decide nothing but the
-/// refusal `KeyRepeated`: with any other octets in its row every input has the same output, and the same state after it
-/// except for those octets, unless it installs a key that only one of the two states has.
+/// From the command on that retires a key, it stays retired and no SA uses it, whatever the inputs are and whichever key
+/// `replace_key` gives other octets. Its octets then decide nothing but the refusal `KeyRepeated`: with any other octets
+/// in its row every input has the same output, and the same state after it except for those octets, unless it installs a
+/// key that only one of the two states has.
 pub fn retired_keys_decide_nothing()
     ensures begins { (s : State) (n : ℕ) → GivesUp s n }
     ensures stays { (s : State) (n : ℕ) (input : Input) → StaysGivenUp s n input }
+    ensures replaced { (s : State) (m n : ℕ) (bytes : List ℕ) → StaysReplaced s m n bytes }
     ensures alike { (s : State) (n : ℕ) (bytes : List ℕ) (input : Input) → StepsAlike s n bytes input }
 {}
 
@@ -120,7 +122,7 @@ pub fn delivers_in_time()
     ensures { (s : State) (frame : List ℕ) (row : RxRow) (delivered : List ℕ) → DeliversFrom s frame row delivered }
 {}
 
-/// Whatever the endpoint does between a plan and its job: a key stays as it was prepared, a job seals the frame that it
+/// Whatever the inputs between a plan and its job are: a key stays as it was prepared, a job seals the frame that it
 /// was planned for, and what was opened with the job's key can be used by `finish_receive`.
 pub fn jobs_stay()
     ensures keys { (s : State) (inputs : List Input) (n : ℕ) → KeyStaysPrepared s inputs n }

@@ -9,13 +9,14 @@
 //! InPkts counters of the endpoint and its receive SCs by one, modulo 2^64. Of all other calls only a `command` that
 //! deletes a receive SC can change that sum (`AddsFrames`). The calls that make or change an endpoint also state what
 //! holds of it at all times (`IsSound`, which includes `Agrees`). By its type only `new` takes an allocator.
+//! `replace_key` is no step: it gives a retired key other octets and changes nothing else.
 //!
 //! Proved: the cipher's work for a frame can be left to another thread. `plan_send` is the step of `send` and returns a
 //! `SealJob`, which makes the frame that `send` would return. `plan_receive` changes nothing and returns the `OpenJob`
 //! that a link frame needs now; `finish_receive` is the step of `receive`, with the result of that job or without one.
-//! `prepared` returns the key of a job. The law `jobs_stay`: whatever the endpoint does between a plan and its job, the
-//! result of the job is the same. `send_by` and `plan_send_by` are `send` and `plan_send` for a caller that has found
-//! the enabled SA already (`enabled_sa`).
+//! `prepared` returns the key of a job, and `installed` the row of that key. The law `jobs_stay`: whatever the inputs
+//! between a plan and its job are, the result of the job is the same. `send_by` and `plan_send_by` are `send` and
+//! `plan_send` for a caller that has found the enabled SA already (`enabled_sa`).
 //!
 //! Laws of the machine (`laws`). `uses_no_number_twice`: for every list of inputs, the packet numbers of the frames
 //! sent protected under one key number rise in the order of sending. `accepts_sent`: a frame that another endpoint
@@ -45,6 +46,7 @@ mod associations;
 mod counters;
 mod counting;
 mod fault;
+mod installed;
 pub mod laws;
 mod managing;
 mod options;
@@ -270,6 +272,7 @@ impl Secy {
 
     /// Plans a client frame as `plan_send` does, without a search for the enabled SA. `enabled` is the result of
     /// `enabled_sa`, and the endpoint has not changed since.
+    #[inline(always)]
     pub fn plan_send_by<'a>(
         &mut self,
         enabled: &Option<EnabledSa>,
@@ -307,7 +310,7 @@ impl Secy {
         }
     }
 
-    /// The prepared key of this number, for `SealJob::seal`. It stays the same while the endpoint exists.
+    /// The prepared key of this number, for `SealJob::seal`. It stays the same until `replace_key` replaces it.
     pub fn prepared(&self, number: KeyNumber) -> Option<&SuiteKey>
         ensures { option_map (λ key. key.now) result ≡ option_map prepared_key (key_row self.now.keys number) }
     {

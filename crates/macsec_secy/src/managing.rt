@@ -1,17 +1,46 @@
-//! Commands that the endpoint carries out itself, and the options that it passes to transmission.
+//! Commands that the endpoint carries out itself, the replacement of a retired key, and the options that it passes to
+//! transmission.
 
 ghost use Rattle.std.specs.Prelude.{◌≡◌};
-ghost use Rattle.macsec_suite.specs.Refusals.{refusal_of};
+ghost use Rattle.macsec_aes.specs.Keys.{key_bytes};
+ghost use Rattle.macsec_suite.specs.Refusals.{has_retired, refusal_of};
+ghost use Rattle.macsec_suite.specs.Replacing.{can_replace};
 ghost use Rattle.macsec_commands.specs.declared.command.Command.TheVariants as by;
 ghost use Rattle.macsec_secy.specs.State.{tx_options};
 ghost use Rattle.macsec_secy.specs.Sound.{IsSound};
 ghost use Rattle.macsec_secy.specs.Commands.{refusal, state_after_command, uses};
+ghost use Rattle.macsec_secy.specs.GivenUp.{state_after_replacing};
 
-use crate::{KeyNumber, Mode, Refusal, Sci, Secy, TagForm};
+use crate::{Key, KeyNumber, Mode, Refusal, Sci, Secy, TagForm};
 use macsec_commands::is_unfit;
 use macsec_tx::TxOptions;
 
 impl Secy {
+    /// Replaces the octets of a retired key by `bytes`, as if it had been installed with them. Nothing else changes. The
+    /// old octets, and all that was prepared from them, are overwritten. So a keeper forgets a retired key: with a
+    /// fingerprint of its octets as `bytes`, the keeper can still refuse them. Returns false and changes nothing if
+    /// there is no such key or it is not retired, if its suite's keys have another length, or if a key has these octets
+    /// already, retired or not.
+    ///
+    /// `prepared` then returns the key of the new octets. So do not seal a job that was planned under the old ones, and
+    /// do not pass what was opened under them to `finish_receive`.
+    pub fn replace_key(&mut self, number: KeyNumber, bytes: Key) -> bool
+        ensures answer { result ≡ can_replace self.old.keys number (key_bytes bytes) }
+        ensures after { self.new ≡ state_after_replacing number (key_bytes bytes) self.old }
+        ensures sound { IsSound self.new }
+    {
+        // For the prover only: after this line it knows that the endpoint is sound. The compiler deletes the line.
+        let _ = &self.counters;
+        self.keys.replace(number, bytes)
+    }
+
+    /// Whether a retired key has these octets. It compares every key.
+    pub fn has_retired_key(&self, bytes: Key) -> bool
+        ensures { result ≡ has_retired self.now.keys (key_bytes bytes) }
+    {
+        self.keys.has_retired(bytes)
+    }
+
     /// Sets how received frames are validated.
     pub(crate) fn set_mode(&mut self, mode: Mode) -> Result<(), Refusal>
         ensures refusal { refusal_of result ≡ refusal self.old (by.Validate mode) }

@@ -64,6 +64,7 @@ impl Outcome {
 /// Receives a frame without a fault. `rx_counters` are the counters of the receive SCs, and `counters` are the
 /// endpoint's own. A frame that is delivered from a tagged one is in `out` afterwards. `opened` is what `open_frame`
 /// gave for the frame, if anything.
+#[inline(always)]
 pub(crate) fn receive_frame(
     channels: &mut RxChannels,
     rx_counters: &mut ArrayVec<ChannelCounters, MAX_CHANNEL_COUNT>,

@@ -13,7 +13,7 @@ use Rattle.macsec_suite.specs.KeyNumbers.{max_key_count}
 use Rattle.macsec_suite.specs.KeyTables.{HasOwnKey, IsIndex, IsPlace, stored_row}
 use Rattle.macsec_suite.specs.declared.key_table.KeyPlace.{KeyPlace}
 use Rattle.macsec_suite.specs.declared.key_table.StoredKey.{StoredKey}
-use Rattle.macsec_suite.proofs.KeyLemmas.{AreKeyRows-map, AreStoredKeys, cond_none, kept-at_number, number-at_number}
+use Rattle.macsec_suite.proofs.KeyLemmas.{AreKeyRows-with_key, AreStoredKeys, cond_none, number-at_number}
 
 -- ---- the index
 
@@ -169,11 +169,11 @@ pub record IsChanged (change : InstalledKey → InstalledKey) (number : ℕ) (pl
 
 -- the key that the index finds is changed at its index
 pub IsChanged-set : (change : InstalledKey → InstalledKey) → ((row : InstalledKey) → (change row).number ≡ row.number) →
-    ((row : InstalledKey) → IsKeyRow row → IsKeyRow (change row)) →
     (number place : ℕ) (places : List ℕ) (keys : List StoredKey) (old new : StoredKey) → AreStoredKeys keys → IsIndex places (map stored_row keys) →
     key_row (map stored_row keys) number ≡ slice_get (map stored_row keys) place → IsSome (key_row (map stored_row keys) number) → old ≡ get_or keys place old →
-    stored_row new ≡ change (stored_row old) → (HasOwnKey old.row → HasOwnKey new.row) → IsChanged change number places keys (set keys place new)
-IsChanged-set change same keeps number place places keys old new h index finds some read changed prepared =
+    stored_row new ≡ change (stored_row old) → (key_row (map stored_row keys) number ≡ Some (stored_row old) → IsKeyRow (stored_row old) → IsKeyRow (change (stored_row old))) →
+    (HasOwnKey old.row → HasOwnKey new.row) → IsChanged change number places keys (set keys place new)
+IsChanged-set change same number place places keys old new h index finds some read changed keeps prepared =
     let within : place < length keys = place_within keys (key_row (map stored_row keys) number) place some finds in
     let there : slice_get keys place ≡ Some old = slice_get_read keys (length keys) place old refl within read in
     let shown : slice_get (map stored_row keys) place ≡ Some (stored_row old) = slice_get-map stored_row keys place ∙ ap (option_map stored_row) there in
@@ -182,14 +182,19 @@ IsChanged-set change same keeps number place places keys old new h index finds s
     map-set stored_row keys place new ∙ ap (set (map stored_row keys) place) changed ∙
     sym (with_key-set change (map stored_row keys) number place (stored_row old) h.0 shown has_number) in
     let own : HasOwnKey old.row = subst (λ s. HasOwnKey s.row) (sym read) (h.1 place old within) in
+    let found : key_row (map stored_row keys) number ≡ Some (stored_row old) = finds ∙ shown in
     record {
       rows = rows;
       are = (
-        subst AreKeyRows (sym rows) (AreKeyRows-map (at_number change number) (number-at_number change same number) (kept-at_number change keeps number) (map stored_row keys) h.0),
+        subst AreKeyRows (sym rows) (AreKeyRows-with_key change same number (map stored_row keys) (λ row there is. kept_as (stored_row old) row (sym found ∙ there) (keeps found) is) h.0),
         All-set (λ s. HasOwnKey s.row) keys place new (prepared own) h.1,
       );
       index = subst (IsIndex places) (sym rows) (IsIndex-map (at_number change number) (number-at_number change same number) places (map stored_row keys) index);
     }
+  where
+    -- what is kept of the row that was found is kept of each row that is found
+    kept_as : (x y : InstalledKey) → Some x ≡ Some y → (IsKeyRow x → IsKeyRow (change x)) → IsKeyRow y → IsKeyRow (change y)
+    kept_as x y both kept is = let it : x ≡ y = cc in subst (λ r. IsKeyRow r → IsKeyRow (change r)) it kept is
 
 -- a look-up that finds a row finds one after a change of rows too
 some-map : (f : InstalledKey → InstalledKey) (row : Option InstalledKey) → IsSome row → IsSome (option_map f row)

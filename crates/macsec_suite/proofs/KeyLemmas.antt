@@ -5,11 +5,11 @@ use Rattle.std.specs.List.{All, IsDistinct, AllByRecursion, list_any}
 use Rattle.std.proofs.lemmas.List.{map-append, length-map}
 use Rattle.std.proofs.lemmas.List.Elements.{All-push}
 use Rattle.std.proofs.lemmas.Map.Steps.{length-le_from_distinct_below}
-use Rattle.std.proofs.lemmas.Bool.{ne_eqb, eqb-false}
+use Rattle.std.proofs.lemmas.Bool.{ne_eqb, eqb-false, eqb-true}
 use Rattle.std.proofs.lemmas.Bool.Decides.{eqb_tells}
-use Rattle.macsec_suite.specs.KeyRows.{AreKeyRows, InstalledKey, IsKeyRow, at_number, key_row}
+use Rattle.macsec_suite.specs.KeyRows.{AreKeyRows, InstalledKey, IsKeyRow, at_number, key_row, with_key}
 use Rattle.macsec_suite.specs.KeyNumbers.{max_key_count}
-use Rattle.macsec_suite.specs.Refusals.{is_repeated}
+use Rattle.macsec_suite.specs.Refusals.{has_retired, is_repeated, is_retired_with}
 use Rattle.macsec_gcm.specs.Octets.{same_octets}
 use Rattle.macsec_suite.specs.KeyTables.{HasOwnKey, stored_row}
 use Rattle.macsec_suite.specs.declared.key_table.StoredKey.{StoredKey}
@@ -84,13 +84,6 @@ free-map f same (row ∷ rows) n free =
     let parts = cond_none (row.number == n) row (key_row rows n) free in
     rw (same row, parts.0) (free-map f same rows n parts.1)
 
--- a change that keeps each row's number and bounds keeps `AreKeyRows`
-pub AreKeyRows-map : (f : InstalledKey → InstalledKey) → ((row : InstalledKey) → (f row).number ≡ row.number) → ((row : InstalledKey) → IsKeyRow row → IsKeyRow (f row)) →
-    (rows : List InstalledKey) → AreKeyRows rows → AreKeyRows (map f rows)
-AreKeyRows-map f same keeps [] h = tt
-AreKeyRows-map f same keeps (row ∷ rows) h =
-    (keeps row h.0, subst (λ n. key_row (map f rows) n ≡ None) (sym (same row)) (free-map f same rows row.number h.1), AreKeyRows-map f same keeps rows h.2)
-
 -- changing one row keeps the numbers of all rows, if it keeps that row's number
 pub number-at_number : (change : InstalledKey → InstalledKey) → ((row : InstalledKey) → (change row).number ≡ row.number) → (n : ℕ) (row : InstalledKey) →
     (at_number change n row).number ≡ row.number
@@ -100,14 +93,25 @@ number-at_number change same n row = by_test (row.number == n) (change row) row 
     by_test true x y e = e
     by_test false x y e = refl
 
--- and it keeps the bounds of all rows, if it keeps that row's bounds
-pub kept-at_number : (change : InstalledKey → InstalledKey) → ((row : InstalledKey) → IsKeyRow row → IsKeyRow (change row)) → (n : ℕ) (row : InstalledKey) →
-    IsKeyRow row → IsKeyRow (at_number change n row)
-kept-at_number change keeps n row is = by_test (row.number == n) (change row) row (keeps row is) is
+-- changing the row with a number keeps `AreKeyRows`, if it keeps that row's number and its bounds
+pub AreKeyRows-with_key : (change : InstalledKey → InstalledKey) → ((row : InstalledKey) → (change row).number ≡ row.number) → (n : ℕ) (rows : List InstalledKey) →
+    ((row : InstalledKey) → key_row rows n ≡ Some row → IsKeyRow row → IsKeyRow (change row)) → AreKeyRows rows → AreKeyRows (with_key change n rows)
+AreKeyRows-with_key change same n [] keeps h = tt
+AreKeyRows-with_key change same n (row ∷ rows) keeps h = (
+  first (row.number == n) refl,
+  subst (λ m. key_row (with_key change n rows) m ≡ None) (sym (number-at_number change same n row)) (free-map (at_number change n) (number-at_number change same n) rows row.number h.1),
+  AreKeyRows-with_key change same n rows (λ r there is. later (row.number == n) refl r there is) h.2,
+)
   where
-    by_test : (b : Bool) (x y : InstalledKey) → IsKeyRow x → IsKeyRow y → IsKeyRow (if b then x else y)
-    by_test true x y is_x is_y = is_x
-    by_test false x y is_x is_y = is_y
+    first : (b : Bool) → (row.number == n) ≡ b → IsKeyRow (if b then change row else row)
+    first true is = keeps row (ap (λ t. cond t (Some row) (key_row rows n)) is) h.0
+    first false is = h.0
+
+    later : (b : Bool) → (row.number == n) ≡ b → (r : InstalledKey) → key_row rows n ≡ Some r → IsKeyRow r → IsKeyRow (change r)
+    later true is r there =
+        let none : key_row rows n ≡ None = subst (λ m. key_row rows m ≡ None) (eqb-true row.number n is) h.1 in
+        absurd (let no = sym none ∙ there in cc)
+    later false is r there = keeps r (ap (λ t. cond t (Some row) (key_row rows n)) is ∙ there)
 
 -- the invariant of the stored keys
 abbrev pub AreStoredKeys : List StoredKey → Type 0
@@ -125,6 +129,11 @@ AreStoredKeys-push keys new h free new_is own = (
 pub is_repeated-map : (keys : List StoredKey) (bytes : List ℕ) → is_repeated (map stored_row keys) bytes ≡ list_any (λ key. same_octets (stored_row key).bytes bytes) keys
 is_repeated-map [] bytes = refl
 is_repeated-map (key ∷ keys) bytes = ap (λ rest. same_octets (stored_row key).bytes bytes || rest) (is_repeated-map keys bytes)
+
+-- whether a retired key has these bytes
+pub has_retired-map : (keys : List StoredKey) (bytes : List ℕ) → has_retired (map stored_row keys) bytes ≡ list_any (λ key. is_retired_with bytes (stored_row key)) keys
+has_retired-map [] bytes = refl
+has_retired-map (key ∷ keys) bytes = ap (λ rest. is_retired_with bytes (stored_row key) || rest) (has_retired-map keys bytes)
 
 -- comparing one more octet of each
 and_of_three : (p q r : Bool) → (p && (q && r)) ≡ ((p && q) && r)

@@ -71,6 +71,14 @@ retired_row row = record row { retired = true }
 abbrev pub keys_retiring : List InstalledKey → ℕ → List InstalledKey
 keys_retiring rows number = with_key retired_row number rows
 
+-- the row with other octets in place of its own
+abbrev pub with_bytes : List ℕ → InstalledKey → InstalledKey
+with_bytes bytes row = record row { bytes = bytes }
+
+-- the rows after the key with this number got other octets
+abbrev pub keys_replacing : List InstalledKey → ℕ → List ℕ → List InstalledKey
+keys_replacing rows number bytes = with_key (with_bytes bytes) number rows
+
 abbrev pub row_noting : ℕ → InstalledKey → InstalledKey
 row_noting pn row = record row { first_unused = pn + 1 }
 

@@ -10,5 +10,6 @@ pub mod KeyNumbers
 pub mod KeyRows
 pub mod CipherUses
 pub mod Refusals
+pub mod Replacing
 pub mod RefusalNumbers
 pub mod KeyTables

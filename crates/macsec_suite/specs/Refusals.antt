@@ -32,6 +32,14 @@ is_number_used rows number = is_some (key_row rows number)
 abbrev pub is_repeated : List InstalledKey → List ℕ → Bool
 is_repeated rows bytes = list_any (λ row. same_octets row.bytes bytes) rows
 
+-- the key is retired and has these bytes
+abbrev pub is_retired_with : List ℕ → InstalledKey → Bool
+is_retired_with bytes row = row.retired && same_octets row.bytes bytes
+
+-- a retired key has these bytes
+abbrev pub has_retired : List InstalledKey → List ℕ → Bool
+has_retired rows bytes = list_any (is_retired_with bytes) rows
+
 abbrev pub is_retired : List InstalledKey → ℕ → Bool
 is_retired rows number = holds_of (λ row. row.retired) (key_row rows number)
 

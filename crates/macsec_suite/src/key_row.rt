@@ -1,8 +1,12 @@
 //! New keys and installed keys.
 
 ghost use Rattle.std.specs.Prelude.{◌≡◌, ◌<◌};
+ghost use Rattle.macsec_aes.specs.Keys.{key_bytes};
 ghost use Rattle.macsec_suite.specs.KeyNumbers.{max_key_count};
+ghost use Rattle.macsec_suite.specs.KeyTables.{row_shown};
+ghost use Rattle.macsec_suite.specs.Replacing.{can_have};
 
+use crate::suite_key::octets_of;
 use crate::{KeyNumber, Suite, SuiteKey};
 use macsec_aes::Key;
 
@@ -41,5 +45,12 @@ impl KeyRow {
         ensures below { result < max_key_count }
     {
         usize::from(self.key.number.number())
+    }
+
+    /// Whether the key is retired, and its suite's keys have as many octets as these.
+    pub(crate) fn can_have(&self, bytes: &Key) -> bool
+        ensures { result ≡ can_have (key_bytes bytes.now) (row_shown self.now 1) }
+    {
+        self.retired && octets_of(bytes).len() == self.suite_key.suite().key_length()
     }
 }

@@ -1,13 +1,15 @@
 //! The table of an endpoint's keys (IEEE 802.1AE, 10.7).
 
 ghost use Rattle.std.specs.Prelude.{◌≡◌, ◌≤◌, ◌+◌, [], ◌∷◌, ◌++◌, length, slice_get, IfOk, OnOk, OnErr, IfSome, MatchOption, is_some, option_map, Some, None};
+ghost use Rattle.std.specs.Bool.{OnTrue, OnFalse};
 ghost use Rattle.std.specs.List.{list_any};
 ghost use Rattle.macsec_aes.specs.Keys.{key_bytes};
 ghost use Rattle.macsec_gcm.specs.Octets.{same_octets};
-ghost use Rattle.macsec_suite.specs.KeyRows.{AreKeyRows, is_extended, key_row, keys_noting, keys_retiring, keys_with, max_key_count, suite_of, the_key, widest_beside};
+ghost use Rattle.macsec_suite.specs.KeyRows.{AreKeyRows, is_extended, key_row, keys_noting, keys_replacing, keys_retiring, keys_with, max_key_count, suite_of, the_key, widest_beside, with_bytes};
 ghost use Rattle.macsec_suite.specs.KeyTables.{HasOwnKey, IsPlace, extended_count, first_unused_of, row_shown, stored_row};
 ghost use Rattle.macsec_suite.specs.Suites.{key_length};
-ghost use Rattle.macsec_suite.specs.Refusals.{first_refusal, install_refusals, is_repeated, refusal_of, retire_refusals};
+ghost use Rattle.macsec_suite.specs.Refusals.{first_refusal, has_retired, install_refusals, is_repeated, is_retired_with, refusal_of, retire_refusals};
+ghost use Rattle.macsec_suite.specs.Replacing.{can_replace};
 
 use crate::key_number::MAX_KEY_COUNT;
 use crate::suite::{WIDEST_EXTENDED_WINDOW, WIDEST_SHORT_WINDOW};
@@ -148,6 +150,30 @@ impl KeyTable {
         Ok(())
     }
 
+    /// Replaces the octets of a retired key by `bytes`, as if it had been installed with them. The old octets, and all
+    /// that was prepared from them, are overwritten. Returns false and changes nothing if there is no such key or it is
+    /// not retired, if its suite's keys have another length, or if a key has these octets already, retired or not.
+    pub fn replace(&mut self, number: KeyNumber, bytes: Key) -> bool
+        ensures answer { result ≡ can_replace self.old number (key_bytes bytes) }
+        ensures replaced { OnTrue result (self.new ≡ keys_replacing self.old number (key_bytes bytes)) }
+        ensures unchanged { OnFalse result (self.new ≡ self.old) }
+        ensures rows { OnTrue result (AreKeyRows self.new) }
+    {
+        let Some(row) = self.key(number) else {
+            return false;
+        };
+        if !row.can_have(&bytes) {
+            return false;
+        }
+        if self.has_bytes(bytes) {
+            return false;
+        }
+        let index = self.index_of(number) as usize;
+        let stored = &mut self.rows[index];
+        stored.replace(bytes);
+        true
+    }
+
     /// Returns the row of a key. Its `suite_key` is prepared from the key's own suite, bytes and offset.
     pub fn key(&self, number: KeyNumber) -> Option<&KeyRow>
         ensures row { MatchOption result (key_row self.now number ≡ None)
@@ -253,6 +279,18 @@ impl KeyTable {
         found
     }
 
+    /// Whether a retired key has these bytes. It compares every row.
+    pub fn has_retired(&self, bytes: Key) -> bool
+        ensures { result ≡ has_retired self.now (key_bytes bytes) }
+    {
+        let rows = self.rows.as_slice();
+        let mut found = false;
+        'rows: for i in 0..rows.len() {
+            found |= rows[i].is_retired_with(bytes);
+        }
+        found
+    }
+
     /// Appends a row, in the space that `new` reserved.
     fn append(&mut self, added: KeyRow)
         requires free { key_row self.old added.key.number ≡ None }
@@ -292,10 +330,27 @@ impl StoredKey {
     {
         are_same(octets_of(&self.row.key.bytes), octets_of(&bytes))
     }
+
+    /// Whether the key is retired and has these bytes. It compares them in either case.
+    fn is_retired_with(&self, bytes: Key) -> bool
+        ensures { result ≡ is_retired_with (key_bytes bytes) (stored_row self.now) }
+    {
+        let same = self.has_bytes(bytes);
+        self.row.retired & same
+    }
+
+    /// Replaces the octets of the key by `bytes`, and prepares it again.
+    fn replace(&mut self, bytes: Key)
+        ensures row { stored_row self.new ≡ with_bytes (key_bytes bytes) (stored_row self.old) }
+        ensures prepared { HasOwnKey self.old.row → HasOwnKey self.new.row }
+    {
+        self.row.suite_key.replace(bytes);
+        self.row.key.bytes = bytes;
+    }
 }
 
 /// Whether the octets are the same. It compares all of them, if they are as many.
-fn are_same(a: &[u8], b: &[u8]) -> bool
+pub(crate) fn are_same(a: &[u8], b: &[u8]) -> bool
     ensures { result ≡ same_octets a.now b.now }
 {
     if a.len() != b.len() {

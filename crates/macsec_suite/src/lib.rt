@@ -17,7 +17,9 @@
 //! Proved: a `KeyTable` is the list of its keys in the order of their installation. `install` and `retire` refuse with
 //! the first refusal that applies, and then change nothing. Otherwise they change the one key and no other, as does
 //! `note_used`, which like `key_at` requires the place of a key. So no key number and no key bytes are installed twice,
-//! even after a key is retired. Only `KeyTable::new` takes an allocator.
+//! even after a key is retired. `replace` gives a retired key other bytes, which no key has; after it the new ones are
+//! refused, and no longer the old ones. Only `KeyTable::new` takes an allocator. `KeyRow::prepared_again` returns an
+//! equal row.
 #![tactic(auto)]
 
 mod in_place;
@@ -27,6 +29,7 @@ mod key_row;
 mod key_table;
 pub mod laws;
 mod pieces;
+mod prepared_again;
 mod refusal;
 mod suite;
 mod suite_key;

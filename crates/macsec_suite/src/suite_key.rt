@@ -68,6 +68,14 @@ impl SuiteKey {
         })
     }
 
+    /// Prepares another key for the same suite and with the same offset. What was prepared from the old one is
+    /// overwritten.
+    pub(crate) fn replace(&mut self, key: Key)
+        ensures { self.new ≡ prepared_from self.old.suite key self.old.offset }
+    {
+        self.key = GcmKey::new(key);
+    }
+
     /// The suite that the key is prepared for.
     pub fn suite(&self) -> Suite
         ensures { result ≡ self.now.suite }

@@ -13,6 +13,7 @@ use byteorder::{BigEndian, ByteOrder};
 
 /// Reads a frame. Returns its parts if it is tagged, `Untagged` if another EtherType follows its addresses, and
 /// otherwise its first fault.
+#[inline(always)]
 pub fn read(frame: &[u8]) -> Read<'_>
     // The parts are returned exactly if the grammar has them.
     ensures is_tagged { (p : MpduParts) → (reading_of result ≡ tagged p) ↔ IsTagged frame.now p }

@@ -94,6 +94,7 @@ impl SealJob {
 
     /// Writes the protected frame to the start of `out`, and returns its length. `key` is the prepared key of the job's
     /// number, and `frame` the client frame that was planned. A job is sealed once: its IV serves for one frame.
+    #[inline(always)]
     pub fn seal(self, key: &SuiteKey, frame: &[u8], out: &mut [u8]) -> usize
         requires frame_long { min_frame_len ≤ length frame.now }
         requires frame_short { length frame.now ≤ max_frame_len }

@@ -14,10 +14,10 @@ is_changed : (c : goal.After-self-1) → IsChanged (row_noting c.args.pn) c.args
 is_changed c =
     let keys = c.self.inside.rows.items in
     let place = c.args.place.now.index in
-    IsChanged-set (row_noting c.args.pn) (λ row. refl)
-    (λ row is. record { number = is.number; bytes = is.bytes; salt = is.salt; ssci = is.ssci; first_unused_least = omega arith; first_unused = omega (arith, c.ranges.pn.fits) })
-    c.args.place.now.number place c.self.inside.places.items keys c.index_mut-stored.result.now _ (c.self.invariant.1, c.self.invariant.2) c.self.invariant.3
-    (rw c.self.view_is c.requires.finds) (rw c.self.view_is c.requires.there) c.index_mut-stored.ensures.value (rw c.from.ensures refl) (λ own. own)
+    IsChanged-set (row_noting c.args.pn) (λ row. refl) c.args.place.now.number place c.self.inside.places.items keys c.index_mut-stored.result.now _ (c.self.invariant.1, c.self.invariant.2) c.self.invariant.3
+    (rw c.self.view_is c.requires.finds) (rw c.self.view_is c.requires.there) c.index_mut-stored.ensures.value (rw c.from.ensures refl)
+    (λ there is. record { number = is.number; bytes = is.bytes; salt = is.salt; ssci = is.ssci; first_unused_least = omega arith; first_unused = omega (arith, c.ranges.pn.fits) })
+    (λ own. own)
 
 -- the count of keys with extended packet numbers is the same
 same_count : (c : goal.After-self-1) → extended_count (map stored_row (set c.self.inside.rows.items c.args.place.now.index (record { row = c.index_mut-stored.result.now.row; first_unused = c.from.result + 1 })))

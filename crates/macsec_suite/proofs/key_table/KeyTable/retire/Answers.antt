@@ -18,11 +18,11 @@ is_changed : (c : goal.After-self-1) → IsChanged retired_row c.args.number c.s
     (set c.self.inside.rows.items c.index_of-index.result (retired c.index_mut-stored.result.now))
 is_changed c =
     let some : IsSome (key_row c.args.self.now c.args.number) = rw c.in-Some.ensures.row refl in
-    IsChanged-set retired_row (λ row. refl)
-    (λ row is. record { number = is.number; bytes = is.bytes; salt = is.salt; ssci = is.ssci; first_unused_least = is.first_unused_least; first_unused = is.first_unused })
-    c.args.number c.index_of-index.result c.self.inside.places.items c.self.inside.rows.items c.index_mut-stored.result.now _
+    IsChanged-set retired_row (λ row. refl) c.args.number c.index_of-index.result c.self.inside.places.items c.self.inside.rows.items c.index_mut-stored.result.now _
     (c.self.invariant.1, c.self.invariant.2) c.self.invariant.3
-    (rw c.self.view_is c.index_of-index.ensures) (rw c.self.view_is some) c.index_mut-stored.ensures.value refl (λ own. own)
+    (rw c.self.view_is c.index_of-index.ensures) (rw c.self.view_is some) c.index_mut-stored.ensures.value refl
+    (λ there is. record { number = is.number; bytes = is.bytes; salt = is.salt; ssci = is.ssci; first_unused_least = is.first_unused_least; first_unused = is.first_unused })
+    (λ own. own)
 
 pub overflow_sub-self : goal.overflow_sub-self
 overflow_sub-self c =

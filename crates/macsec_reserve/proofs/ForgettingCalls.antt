@@ -1,0 +1,98 @@
+-- What the calls that forget a key leave.
+use Rattle.std.proofs.Common.{◌≡◌, ℕ, Bool, true, false, List, [], ◌∷◌, length, map, take, refl, ap, sym, subst, ◌∙◌}
+use Rattle.std.specs.Prelude.{◌==◌, ◌&&◌, if◌then◌else◌, Option, Some, None, option_map, unwrap_or}
+use Rattle.macsec_aes.specs.Keys.{key_bytes}
+use Rattle.macsec_aes.specs.declared.Key.{Key as KeyOctets}
+use Rattle.macsec_suite.specs.declared.key_row.NewKey.{NewKey}
+use Rattle.macsec_suite.specs.Refusals.{has_retired}
+use Rattle.macsec_commands.specs.declared.command.Command.{Command}
+use Rattle.macsec_commands.specs.declared.command.Command.TheVariants.{Retire}
+use Rattle.macsec_secy.specs.Step.{operator_command, done}
+use Rattle.macsec_suite.specs.KeyRows.{AreKeyRows, InstalledKey, key_row, no_key, prepared_key, with_bytes, with_key}
+use Rattle.macsec_suite.specs.Keys.{PreparedKey}
+use Rattle.macsec_suite.specs.Replacing.{can_replace}
+use Rattle.macsec_suite.specs.Suites.{key_length}
+use Rattle.macsec_secy.specs.GivenUp.{replacing, state_after_replacing}
+use Rattle.macsec_secy.specs.State.{State}
+use Rattle.macsec_reserve.specs.declared.keeper.NamedKey.{NamedKey}
+use Rattle.macsec_reserve.specs.Forgetting.{as_taken, can_forget, fingerprint_of, forgetting, forgetting_step, is_done, key_of_fingerprint}
+use Rattle.macsec_reserve.specs.Journal.{sending_name}
+use Rattle.macsec_reserve.specs.Keeping.{Keeping, endpoint_input, endpoint_output, for_each_key, keeping_step, key_name}
+use Rattle.macsec_reserve.specs.Names.{HasNames, named, renamed}
+use Rattle.macsec_reserve.proofs.KnownKeys.{bytes_of_fingerprint}
+
+-- ---- names
+
+renamed_row : (salt : List ℕ) (n : ℕ) (bytes : List ℕ) (row : InstalledKey) → named salt (if row.number == n then with_bytes bytes row else row) ≡ renamed n (sending_name salt bytes) (named salt row)
+renamed_row salt n bytes row = by_number (row.number == n)
+  where
+    by_number : (b : Bool) → named salt (if b then with_bytes bytes row else row) ≡ (if b then record (named salt row) { name = sending_name salt bytes } else named salt row)
+    by_number true = refl
+    by_number false = refl
+
+renamed_rows : (salt : List ℕ) (n : ℕ) (bytes : List ℕ) (keys : List InstalledKey) →
+    map (named salt) (with_key (with_bytes bytes) n keys) ≡ map (renamed n (sending_name salt bytes)) (map (named salt) keys)
+renamed_rows salt n bytes [] = refl
+renamed_rows salt n bytes (row ∷ rows) =
+    ap (λ (x : NamedKey). x ∷ map (named salt) (with_key (with_bytes bytes) n rows)) (renamed_row salt n bytes row)
+    ∙ ap (λ (xs : List NamedKey). renamed n (sending_name salt bytes) (named salt row) ∷ xs) (renamed_rows salt n bytes rows)
+
+-- after the octets of a key are replaced, the keys have these names
+pub names_replaced : (salt : List ℕ) (n : ℕ) (bytes : List ℕ) (keys : List InstalledKey) (names : List NamedKey) → HasNames salt keys names →
+    HasNames salt (with_key (with_bytes bytes) n keys) (map (renamed n (sending_name salt bytes)) names)
+names_replaced salt n bytes keys names are = renamed_rows salt n bytes keys ∙ ap (λ (ns : List NamedKey). map (renamed n (sending_name salt bytes)) ns) are
+
+-- ---- the fingerprint of a key
+
+long_row : (keys : List InstalledKey) (n : ℕ) (row : InstalledKey) → AreKeyRows keys → key_row keys n ≡ Some row → length row.bytes ≡ key_length row.suite
+long_row [] n row are is = cc
+long_row (k ∷ keys) n row are is = by_test (k.number == n) (long_row keys n row are.2) is
+  where
+    by_test : (b : Bool) → (key_row keys n ≡ Some row → length row.bytes ≡ key_length row.suite) → (if b then Some k else key_row keys n) ≡ Some row → length row.bytes ≡ key_length row.suite
+    by_test true later here = let one : k ≡ row = cc in subst (λ (x : InstalledKey). length x.bytes ≡ key_length x.suite) one are.0.bytes
+    by_test false later here = later here
+
+-- the first octets of the name of a prepared key
+pub its_fingerprint : (k : Keeping) (n : ℕ) (p : PreparedKey) → AreKeyRows k.secy.keys → option_map prepared_key (key_row k.secy.keys n) ≡ Some p →
+    take (key_length p.suite) (key_name k.salt k.secy.keys n) ≡ fingerprint_of k n
+its_fingerprint k n p are is = by_row (key_row k.secy.keys n) refl is
+  where
+    by_row : (o : Option InstalledKey) → key_row k.secy.keys n ≡ o → option_map prepared_key o ≡ Some p →
+        take (key_length p.suite) (sending_name k.salt (unwrap_or o no_key).bytes) ≡ take (length (unwrap_or o no_key).bytes) (sending_name k.salt (unwrap_or o no_key).bytes)
+    by_row None found is' = cc
+    by_row (Some row) found is' =
+        let one : prepared_key row ≡ p = cc in
+        ap (λ m. take m (sending_name k.salt row.bytes)) (ap (λ (q : PreparedKey). key_length q.suite) (sym one) ∙ sym (long_row k.secy.keys n row are found))
+
+-- ---- a key is forgotten
+
+pub is_forgetting : (k : Keeping) (n : ℕ) (octets : List ℕ) → octets ≡ fingerprint_of k n → can_replace k.secy.keys n octets ≡ true →
+    record k { secy = replacing n octets k.secy; granted = for_each_key k.salt k.granted k.secy.keys } ≡ (if can_forget k n then forgetting k n else k)
+is_forgetting k n octets are can =
+    ap (λ (bytes : List ℕ). record k { secy = replacing n bytes k.secy; granted = for_each_key k.salt k.granted k.secy.keys }) are
+    ∙ sym (ap (λ (b : Bool). if b then forgetting k n else k) (ap (λ (bytes : List ℕ). can_replace k.secy.keys n bytes) (sym are) ∙ can))
+
+pub replaced_if : (s : State) (n : ℕ) (octets : List ℕ) (b : Bool) → can_replace s.keys n octets ≡ b → state_after_replacing n octets s ≡ (if b then replacing n octets s else s)
+replaced_if s n octets b is = ap (λ (c : Bool). if c then replacing n octets s else s) is
+
+-- ---- the calls
+
+pub taken_if : (k : Keeping) (key : NewKey) (bytes : KeyOctets) (s : State) (r b : Bool) → bytes ≡ key_of_fingerprint k.salt key.bytes → s ≡ k.secy →
+    r ≡ has_retired s.keys (key_bytes bytes) → r ≡ b → (if b then record key { bytes = bytes } else key) ≡ as_taken k key
+taken_if k key bytes s r b is_bytes is_secy test is =
+    ap (λ (octets : KeyOctets). if b then record key { bytes = octets } else key) is_bytes
+    ∙ ap (λ (t : Bool). if t then record key { bytes = key_of_fingerprint k.salt key.bytes } else key)
+    (sym is ∙ test ∙ ap (λ (t : State). has_retired t.keys (key_bytes bytes)) is_secy
+    ∙ ap (has_retired k.secy.keys) (ap key_bytes is_bytes ∙ bytes_of_fingerprint k.salt key.bytes))
+
+pub forgets_then : (k : Keeping) (c : Command) (n : ℕ) (after new : Keeping) → c ≡ Retire n → endpoint_output done ≡ (keeping_step k (endpoint_input (operator_command c))).0 →
+    after ≡ (keeping_step k (endpoint_input (operator_command c))).1 → new ≡ (if can_forget after n then forgetting after n else after) →
+    new ≡ (forgetting_step k (endpoint_input (operator_command c))).1
+forgets_then k c n after new is_retire output is_after is_new =
+    let own = keeping_step k (endpoint_input (operator_command (Retire n))) in
+    let output' : endpoint_output done ≡ own.0 = output ∙ ap (λ (d : Command). (keeping_step k (endpoint_input (operator_command d))).0) is_retire in
+    let after' : after ≡ own.1 = is_after ∙ ap (λ (d : Command). (keeping_step k (endpoint_input (operator_command d))).1) is_retire in
+    is_new
+    ∙ ap (λ (x : Keeping). if can_forget x n then forgetting x n else x) after'
+    ∙ ap (λ (b : Bool). if b && can_forget own.1 n then forgetting own.1 n else own.1) (ap is_done output')
+    ∙ ap (λ (d : Command). (forgetting_step k (endpoint_input (operator_command d))).1) (sym is_retire)

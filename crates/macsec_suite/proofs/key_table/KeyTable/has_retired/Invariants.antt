@@ -1,0 +1,9 @@
+use Rattle.std.proofs.Common.{◌≡◌, take}
+use Rattle.std.specs.List.{list_any}
+use Rattle.macsec_aes.specs.Keys.{key_bytes}
+use Rattle.macsec_suite.specs.KeyTables.{stored_row}
+use Rattle.macsec_suite.specs.Refusals.{is_retired_with}
+use Rattle.macsec_suite.proofs.key_table.KeyTable.has_retired.Given as goal
+
+abbrev pub invariant-rows : goal.invariant-rows
+invariant-rows l = l.found ≡ list_any (λ s. is_retired_with (key_bytes l.bytes) (stored_row s)) (take l.i l.rows)
