@@ -4,7 +4,7 @@
 //! status; `tests/program/stored-runs` compares them.
 #![tactic(auto)]
 
-use macsec_cli_args::run_program;
+use macsec_cli_runs::run_program;
 use std::process::ExitCode;
 
 fn main(rt: HostRuntime) -> ExitCode {

@@ -1,2 +1,5 @@
 pub mod Flushed
 pub mod FlushedText
+pub mod Examples
+pub mod Matched
+pub mod Plain

@@ -1,3 +1,5 @@
 pub mod Failures
 pub mod Captures
 pub mod SomeText
+pub mod Words
+pub mod Ends

@@ -1,5 +1,5 @@
-//! The runs of the program `macsec` over named files, and how it reports failures: a line on standard error and the
-//! exit status.
+//! The program `macsec` except its `main`: the run that its arguments ask for, over named files, and how it reports
+//! failures, by a line on standard error and the exit status.
 //!
 //! Proved, of `run_named`: with the name `-`, over standard input whose octets a contract can name, it returns and
 //! writes what `run_script` may, and after `Ok` the four promises hold of these octets. With another name, standard
@@ -19,17 +19,33 @@
 //! `Memory` for an error that is out of memory, else `Usage`. If `open_stand_ins` fails, the failure is that `/` can't
 //! be opened; no clause says when it fails. A failed flush of the text never replaces a fault of the run (private
 //! functions).
+//!
+//! Proved: `task_of_words` returns the task that the arguments ask for, as `clap`'s definitions read the program's
+//! three forms (`specs/Words.antt`); or `Usage`, only if they match no form; or `Memory`. `run_words` returns `Ok` only
+//! if the arguments match a form, `Usage` only if they match none, and `CannotOpen` only for a file that they name. It
+//! returns a fault of a capture file only if they ask for a capture, and a fault of a script other than `Memory` only
+//! if they match a form. No clause says that it does what they ask for.
+//!
+//! Proved: `run_and_tell` returns the exit status of some result and, if the line was written, wrote the line of that
+//! result to a writer whose octets a contract can name. The result is one that `run_words` may return for these
+//! arguments, or that `/` can't be opened. `run_program` returns the exit status and writes the line of *some*
+//! arguments, or of arguments that can't be read. No contract says that they are the process's. Worked command lines
+//! are in `proofs/Examples.antt`.
 #![tactic(auto)]
 
+mod arguments;
 mod captures;
 mod failures;
+mod program;
 mod scripts;
 mod streams;
 
+pub use arguments::{Task, run_words, task_of_words};
 pub use captures::{CapturePaths, capture_named};
 pub use failures::{Failure, failure_of_words, tell};
 pub use macsec_capture::Direction;
 pub use macsec_pcap::PcapFault;
 pub use macsec_script_parser::ScriptFault;
+pub use program::{run_and_tell, run_program};
 pub use scripts::run_named;
 pub use streams::{StandIns, open_stand_ins};

@@ -1,30 +1,16 @@
 //! The arguments of the program, and the run that they ask for.
-//!
-//! Proved: `task_of_words` returns the task that the arguments ask for, as `clap`'s definitions read the program's
-//! three forms (`specs/Words.antt`); or `Usage`, only if they match no form; or `Memory`. `run_words` returns `Ok` only
-//! if the arguments match a form, `Usage` only if they match none, and `CannotOpen` only for a file that they name. It
-//! returns a fault of a capture file only if they ask for a capture, and a fault of a script other than `Memory` only
-//! if they match a form. No clause says that it does what they ask for.
-//!
-//! Proved: `run_and_tell` returns the exit status of some result and, if the line was written, wrote the line of that
-//! result to a writer whose octets a contract can name. The result is one that `run_words` may return for these
-//! arguments, or that `/` can't be opened. `run_program` returns the exit status and writes the line of *some*
-//! arguments, or of arguments that can't be read. No contract says that they are the process's. Worked command lines
-//! are in `proofs/Examples.antt`.
-#![tactic(auto)]
-
-mod program;
 
 ghost use Rattle.std.specs.Prelude.{◌≡◌, false, map, option_map, string_bytes, IfErr, IfOk, IsSome};
 ghost use Rattle.clap.specs.Words.{app_of, first_of, found_of, rows_of, rule_of, subcommand_rows_of};
-ghost use Rattle.macsec_cli_args.specs.Words.{Asks, FailsBy, asked, asked_by, asked_in, capture_app, capture_in, kind_failure, macsec_app, name_rule, run_in};
+ghost use Rattle.macsec_cli_runs.specs.Words.{Asks, FailsBy, asked, asked_by, asked_in, capture_app, capture_in, kind_failure, macsec_app, name_rule, run_in};
 
+use crate::captures::{CapturePaths, capture_named};
+use crate::failures::Failure;
+use crate::scripts::run_named;
 use clap::error::ErrorKind;
 use clap::{Arg, ArgAction, ArgMatches, Command};
 use macsec_capture::Direction;
-use macsec_cli_runs::{CapturePaths, Failure, capture_named, run_named};
 use macsec_script_parser::ScriptFault;
-pub use program::{run_and_tell, run_program};
 use std::alloc::{AllocError, Global};
 use std::io::BufWriter;
 

@@ -10,8 +10,8 @@ use Rattle.macsec_cli_runs.specs.declared.failures.Failure.TheVariants.{Usage, C
 use Rattle.macsec_script_parser.specs.declared.faults.ScriptFault.TheVariants.{Memory}
 use Rattle.macsec_capture.specs.declared.Direction.{Direction}
 use Rattle.macsec_capture.specs.declared.Direction.TheVariants.{Protect, Validate}
-use Rattle.macsec_cli_args.specs.declared.Task.{Task}
-use Rattle.macsec_cli_args.specs.declared.Task.TheVariants.{Run, Capture}
+use Rattle.macsec_cli_runs.specs.declared.arguments.Task.{Task}
+use Rattle.macsec_cli_runs.specs.declared.arguments.Task.TheVariants.{Run, Capture}
 
 -- what the arguments ask for: a run of this script, or a capture with a configuration, an input and an output
 pub data Asked : Type 0 where

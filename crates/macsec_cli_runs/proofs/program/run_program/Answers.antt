@@ -2,8 +2,8 @@
 use Rattle.std.specs.Prelude.{ℕ, List, Option, Result, Ok, Err, IfErr, IfOk, map, string_bytes}
 use Rattle.std.specs.declared.io.ErrorKind.{ErrorKind}
 use Rattle.clap.specs.Words.{Text}
-use Rattle.macsec_cli_args.specs.Ends.{EndsAtAll, EndsBy, IsTold, IsUnread, by_words, unread}
-use Rattle.macsec_cli_args.proofs.program.run_program.Goals as goal
+use Rattle.macsec_cli_runs.specs.Ends.{EndsAtAll, EndsBy, IsTold, IsUnread, by_words, unread}
+use Rattle.macsec_cli_runs.proofs.program.run_program.Goals as goal
 
 told_at_all : {V F E : Type 0} (words_of : V → List Text) (kind_of : F → ErrorKind) (own : Result V F) (old new : Option (List ℕ))
     (status : ℕ) (taken : Result (Unit {0}) E) →

@@ -8,7 +8,7 @@ use Rattle.macsec_script_parser.specs.declared.faults.ScriptFault.TheVariants.{M
 use Rattle.macsec_cli_runs.specs.declared.failures.Failure.{Failure}
 use Rattle.macsec_cli_runs.specs.declared.failures.Failure.TheVariants.{Script, Usage}
 use Rattle.macsec_cli_runs.specs.Failures.{FailsAsOpening, told_status, told_text}
-use Rattle.macsec_cli_args.specs.Words.{FailsBy, asked}
+use Rattle.macsec_cli_runs.specs.Words.{FailsBy, asked}
 
 -- the task of the arguments was carried out, or it failed, or `/` can't be opened
 abbrev pub EndsBy : List Text → Result (Unit {0}) Failure → Type 0

@@ -1,8 +1,8 @@
 -- The matches are what the arguments ask for. An error of clap is a fault of the arguments, or out of memory.
 use Rattle.std.proofs.Common.{ap, map, refl, string_bytes, ◌∙◌}
 use Rattle.clap.specs.Words.{is_simple_and_free}
-use Rattle.macsec_cli_args.proofs.Matched.{is_free, refused_words, taken_words}
-use Rattle.macsec_cli_args.proofs.task_of_words.Goals as goal
+use Rattle.macsec_cli_runs.proofs.Matched.{is_free, refused_words, taken_words}
+use Rattle.macsec_cli_runs.proofs.arguments.task_of_words.Goals as goal
 
 pub returns : goal.returns
 returns c =

@@ -2,10 +2,11 @@
 
 ghost use Rattle.std.specs.Prelude.{map, string_bytes, IfErr, IfOk};
 ghost use Rattle.std.specs.IoError.{error_kind};
-ghost use Rattle.macsec_cli_args.specs.Ends.{EndsAtAll, EndsBy, IsTold, IsUnread};
+ghost use Rattle.macsec_cli_runs.specs.Ends.{EndsAtAll, EndsBy, IsTold, IsUnread};
 
-use crate::run_words;
-use macsec_cli_runs::{Failure, failure_of_words, open_stand_ins, tell};
+use crate::arguments::run_words;
+use crate::failures::{Failure, failure_of_words, tell};
+use crate::streams::open_stand_ins;
 use std::env;
 use std::io::{self, Write};
 

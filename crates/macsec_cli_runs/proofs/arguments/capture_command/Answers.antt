@@ -1,7 +1,7 @@
 use Rattle.std.proofs.Common.{ap₂, ◌∙◌}
 use Rattle.std.proofs.lemmas.Result.{IfOk-weaker}
 use Rattle.clap.specs.Words.{with_rule}
-use Rattle.macsec_cli_args.proofs.capture_command.Goals as goal
+use Rattle.macsec_cli_runs.proofs.arguments.capture_command.Goals as goal
 
 pub returns : goal.returns
 returns c =

@@ -1,5 +1,5 @@
 -- The reported result is the result for the arguments.
-use Rattle.macsec_cli_args.proofs.program.run_and_tell.Goals as goal
+use Rattle.macsec_cli_runs.proofs.program.run_and_tell.Goals as goal
 
 pub returns : goal.returns
 returns g c = record {

@@ -7,7 +7,7 @@ use Rattle.clap.specs.declared.error.kind.ErrorKind.{ErrorKind}
 use Rattle.clap.specs.declared.error.kind.ErrorKind.TheVariants.{OutOfMemory}
 use Rattle.clap.specs.declared.parser.matches.ArgMatches.{ArgMatches}
 use Rattle.clap.proofs.OnLiterals.{clap_on_literals}
-use Rattle.macsec_cli_args.specs.Words.{Asked, Asks, asked, asked_in, kind_failure, macsec_app, without_fault}
+use Rattle.macsec_cli_runs.specs.Words.{Asked, Asks, asked, asked_in, kind_failure, macsec_app, without_fault}
 
 pub is_free : is_simple_and_free macsec_app ≡ true
 unfolding clap_on_literals

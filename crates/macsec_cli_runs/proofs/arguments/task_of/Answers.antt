@@ -3,8 +3,8 @@ use Rattle.std.proofs.Common.{◌≡◌, rules}
 use Rattle.std.specs.Option.{option_map}
 use Rattle.clap.specs.Words.{found_of, rows_of}
 use Rattle.macsec_capture.specs.declared.Direction.TheVariants.{Protect}
-use Rattle.macsec_cli_args.specs.Words.{asked_by, capture_in}
-use Rattle.macsec_cli_args.proofs.task_of.Goals as goal
+use Rattle.macsec_cli_runs.specs.Words.{asked_by, capture_in}
+use Rattle.macsec_cli_runs.proofs.arguments.task_of.Goals as goal
 
 pub returns-in-protect : goal.returns-in-protect
 returns-in-protect c =
