@@ -7,3 +7,6 @@ pub mod Histories
 pub mod TwoRunsEach
 pub mod NotSent
 pub mod Replays
+pub mod InsideBlocks
+pub mod ReservesAhead
+pub mod Extended

@@ -387,7 +387,7 @@ module _ (laws : EndpointLaws) (grammar : Grammar) (fresh : Fresh) (e : End) (by
   history events peers A = peers.a
   history events peers B = peers.b
 
-  in_order : (events : List Happening) → AtEach (IsOrderly e bytes sci an) [] events → ArePeers events → ComesInOrder e bytes sci an events
+  pub in_order : (events : List Happening) → AtEach (IsOrderly e bytes sci an) [] events → ArePeers events → ComesInOrder e bytes sci an events
   in_order events each peers =
       let now : OrderNow events = always [] events (with_peers [] events each peers) at_start in
       let sends = sent_in_all (runs_of (other_end e) events) in

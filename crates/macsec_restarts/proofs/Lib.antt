@@ -10,4 +10,11 @@ mod Origins
 mod SendsRise
 mod NextNumbers
 mod InOrder
+mod RowSteps
+mod AheadInside
+mod AheadAccepts
+mod AheadReserved
+mod AheadEnds
+mod AheadPast
+mod AheadOrder
 mod Examples

@@ -75,7 +75,7 @@ until_begins e f config journal (comes_in g i ∷ more) = ap (λ is. if same_end
 
 -- ---- the runs
 
-abbrev run_with : EndConfig → List ℕ → List KeepingInput → Run
+abbrev pub run_with : EndConfig → List ℕ → List KeepingInput → Run
 run_with config journal inputs = record { journal = journal; config = config; inputs = inputs }
 
 pub runs_of-input : (e f : End) (input : KeepingInput) (before : List Happening) → same_end e f ≡ true → runs_of e (before ++ comes_in f input ∷ []) ≡ with_last input (runs_of e before)

@@ -33,6 +33,7 @@ delivered_in run bytes sci an = delivered_at bytes sci an (delivered_from (openi
 
 -- it validates strictly and drops late frames, at a replay window of 0
 pub record HasStrictOrder (s : State) : Type 0 where
+  -- the initial options of an endpoint
   pub mode : s.options.mode ≡ Strict
   pub replay : s.options.replay ≡ true
   pub window : s.options.window ≡ 0
@@ -72,7 +73,7 @@ pub record IsOrderly (e : End) (bytes : List ℕ) (sci : Sci) (an : ℕ) (before
 
 -- ---- the promise
 
--- a client frame, after its PN: so two client frames with equal octets are told apart
+-- a client frame, after its PN: so two client frames with equal octets are distinguished
 abbrev pub numbered_delivery : Delivery → List ℕ
 numbered_delivery d = d.number ∷ d.frame
 

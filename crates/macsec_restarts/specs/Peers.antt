@@ -39,6 +39,7 @@ HasOctets other = Unit {0}
 -- two runs of one end: the same SCI, and under an XPN suite the same own SSCI for the same key octets. Otherwise a run
 -- could accept what an earlier run of its own end sent
 pub record IsSameEnd (run later : Run) : Type 0 where
+  -- the SCI is in the configuration, the own SSCI in each key
   pub sci : run.config.sci ≡ later.config.sci
   pub ssci : (x y : InstalledKey) → Contains (closing run).secy.keys x → Contains (closing later).secy.keys y → x.bytes ≡ y.bytes →
       is_xpn x.suite ≡ true → x.ssci ≡ y.ssci
@@ -48,6 +49,7 @@ pub record IsSameEnd (run later : Run) : Type 0 where
 -- crashes may leave any octets in it. The ends' SCIs differ, their keys with the same octets agree too, and under an XPN
 -- suite their own SSCIs differ
 pub record ArePeers (events : List Happening) : Type 0 where
+  -- in all runs of each end
   pub a : IsHistory (runs_of A events)
   pub b : IsHistory (runs_of B events)
   pub apart : All (λ run. All (AreOfTwoEnds run) (runs_of B events)) (runs_of A events)

@@ -46,8 +46,8 @@ sent_under bytes sends = filter (λ x. same_octets x.seal.key bytes) sends
 
 -- ---- it is what leaves, and what is sealed
 
--- a protected frame is that of a client frame and of the SA that protects it: its octets are the parts of the one use of
--- the cipher that the input seals
+-- a protected frame is made of a client frame by the SA that protects it: its octets are the parts of the one use of the
+-- cipher that the input seals
 pub record IsOfOneUse (k : Keeping) (input : KeepingInput) (octets : List ℕ) (key : ℕ) : Type 0 where
   pub client : List ℕ
   pub came : input ≡ endpoint_input (client_frame client)

@@ -1,11 +1,19 @@
 //! Laws: each is the contract of a function that does nothing.
 
-ghost use Rattle.std.specs.Prelude.{ℕ, List};
+ghost use Rattle.std.specs.Prelude.{ℕ, Bool, List};
 ghost use Rattle.macsec_tx.specs.declared.TxRow.{TxRow};
 ghost use Rattle.macsec_rx.specs.declared.RxRow.{RxRow};
+ghost use Rattle.macsec_tag.specs.declared.identifiers.Sci.{Sci};
+ghost use Rattle.macsec_commands.specs.declared.event.End.{End};
+ghost use Rattle.macsec_secy.specs.Step.{Input};
+ghost use Rattle.macsec_reserve.specs.declared.reservation.Reservation.{Reservation};
 ghost use Rattle.macsec_reserve.specs.Keeping.{Keeping, KeepingInput};
 ghost use Rattle.macsec_reserve.specs.Histories.{Run};
 ghost use Rattle.macsec_restarts.specs.Acceptance.{AcceptsInTime};
+ghost use Rattle.macsec_restarts.specs.Ahead.{Ahead, RxPn};
+ghost use Rattle.macsec_restarts.specs.AheadOrder.{ComesInOrderOnceWith};
+ghost use Rattle.macsec_restarts.specs.AheadRuns.{AcceptsAboveInAll, AcceptsReserved, DeliversEachListedWith};
+ghost use Rattle.macsec_restarts.specs.AheadSteps.{AsksWhereDropped, IsAsBefore, IsKeepingInside, KeepsEnds, PassesOnceReserved, RefusesBelowEnd, RemembersEnd, StepsInside, WantsEnough};
 ghost use Rattle.macsec_restarts.specs.Delivered.{DeliversEachListed, DeliversFromSas};
 ghost use Rattle.macsec_restarts.specs.Happenings.{Happening};
 ghost use Rattle.macsec_restarts.specs.Order.{ComesInOrderOnce};
@@ -86,4 +94,65 @@ pub fn accepts_in_time()
 {
     // The law that the proof cites; the call does nothing.
     accepts_sent();
+}
+
+/// An endpoint that can reserve ahead of receiving takes each step of the keeping endpoint inside, or nothing changes
+/// (`step`), so a run of it is a run of the keeping endpoint to which the same was reported (`run`). Without the option
+/// it differs only where a command creates an SA again at a packet number which the run may have accepted (`before`).
+pub fn is_keeping_inside()
+    ensures step { (a : Ahead) (input : KeepingInput) → StepsInside a input }
+    ensures run { (ahead : Bool) (run : Run) → IsKeepingInside ahead run }
+    ensures before { (a : Ahead) (input : Input) → IsAsBefore a input }
+{}
+
+/// The list of what it delivered has one entry for each client frame that comes out from a receive SA, and no other
+/// output adds to it.
+pub fn lists_each_delivery_ahead()
+    ensures { (a : Ahead) (input : KeepingInput) → DeliversEachListedWith a input }
+{}
+
+/// With the option, a run accepts only packet numbers above what its journal reserved when it began, and at most what was
+/// reported durable to it, whatever comes in, and whatever the modes, the replay protection and the windows are
+/// (`reserved`). So what a later run accepts from an SA has a higher packet number than all that an earlier run accepted
+/// from it (`later`). Premises of `later`: every later run reads the same salt of the journal, and what was reported
+/// durable; and every run has the option.
+pub fn accepts_above()
+    ensures reserved { (run : Run) → AcceptsReserved run }
+    ensures later { (runs : List Run) → AcceptsAboveInAll runs }
+{}
+
+/// A frame that was dropped because its packet number was not reserved asks for a record (`asks`). Such a record reaches
+/// the packet number (`enough`), and once it is durable the frame passes (`passes`).
+pub fn accepts_once_reserved()
+    ensures asks { (a : Ahead) (frame : List ℕ) (amount : ℕ) (row : RxRow) (at : RxPn) → AsksWhereDropped a frame amount row at }
+    ensures enough { (a : Ahead) (amount next : ℕ) (row : RxRow) (r : Reservation) → WantsEnough a amount next row r }
+    ensures passes { (a : Ahead) (frame : List ℕ) (row : RxRow) (delivered : List ℕ) (r : Reservation) → PassesOnceReserved a frame row delivered r }
+{
+    // The law that the proof cites; the call does nothing.
+    delivers_in_time();
+}
+
+/// Where a run deletes a receive SA, its end is remembered (`remembers`) for the rest of the run (`keeps`): at that end or
+/// below it the SA is not created again under the same key (`refuses`).
+pub fn begins_above_its_end()
+    ensures remembers { (a : Ahead) (input : KeepingInput) (row : RxRow) → RemembersEnd a input row }
+    ensures keeps { (a : Ahead) (inputs : List KeepingInput) (key : ℕ) (sci : Sci) (an : ℕ) → KeepsEnds a inputs key sci an }
+    ensures refuses { (a : Ahead) (sci : Sci) (an key ssci lowest : ℕ) → RefusesBelowEnd a sci an key ssci lowest }
+{}
+
+/// Order, and each frame at most once, of an end whose endpoint can reserve ahead of receiving. No premise is about the
+/// commands that create SAs. Premises: those of origin, of the keeping endpoints inside; where the end delivers from the
+/// SA, it validates strictly and drops late frames at a window of 0; and without the option, whenever one of its runs
+/// begins, its journal has saved all packet numbers that were delivered so far.
+pub fn comes_in_order_once_ahead()
+    ensures { (ahead : End → Bool) (events : List Happening) → ComesInOrderOnceWith ahead events }
+{
+    // Laws that the proof cites; the calls do nothing.
+    reads_by_grammar();
+    equal_ivs();
+    keys_stay();
+    rx_rows_stay();
+    protects_frames();
+    delivers_in_time();
+    delivers_above();
 }

@@ -144,7 +144,7 @@ module _ (left_out : Premise) (bytes : List ℕ) (sci : Sci) (an : ℕ) where
       step_next k (keeping_step k input).1 [] [] uses input (first ++ more) (own_step k uses input own.0) refl (no_delivery k input own.0)
       (after_own first more (keeping_step k input).1 uses own.1 rest)
 
-  -- ---- in a list of happenings, of which B is the receiver
+  -- ---- in a list of happenings; B is the receiver
 
   abbrev IsMet : List Happening → Happening → Type 0
   IsMet = IsOrderlyBut left_out B bytes sci an

@@ -18,7 +18,7 @@ use Rattle.macsec_restarts.specs.Order.{IsOrderly, SavedIn, delivered_so_far, nu
 use Rattle.macsec_restarts.specs.Peers.{ArePeers, IsSameEnd}
 use Rattle.macsec_restarts.specs.Sent.{SentIn, sent_in_all, sent_under}
 use Rattle.macsec_restarts.proofs.Examples.Blocks.{AreMet, EndRun, Told, blocks, met, of_end, runs_of-blocks}
-use Rattle.macsec_restarts.proofs.Examples.Premises.{ArePeersBut, LawWithout, NoPremise, Premise, each_suffices, peers_suffice}
+use Rattle.macsec_restarts.proofs.Examples.Premises.{AreOfTwoEndsBut, ArePeersBut, IsHistoryBut, IsSameEndBut, LawWithout, NoPremise, Premise, each_suffices, history_but, peers_suffice, same_end_but, two_ends_but}
 use Rattle.macsec_restarts.proofs.Sends.{seal_of_sent, seals_of_runs}
 use Rattle.macsec_restarts.proofs.SoundRuns.{IsSoundRun}
 
@@ -39,7 +39,7 @@ run_told ssci unused sci run sends ds last of_sci keys told = record {
       (unused, sym (only (key_row ssci unused) x (subst (λ (ks : List InstalledKey). Contains ks x) (ap (λ (k : Keeping). k.secy.keys) told.ends ∙ keys) there)));
 }
 
-of_keys : (R : InstalledKey → InstalledKey → Type 0) (ssci other : ℕ) (sci sci' : Sci) (p q : Run) → IsRunOf ssci sci p → IsRunOf other sci' q →
+pub of_keys : (R : InstalledKey → InstalledKey → Type 0) (ssci other : ℕ) (sci sci' : Sci) (p q : Run) → IsRunOf ssci sci p → IsRunOf other sci' q →
     ((n m : ℕ) → R (key_row ssci n) (key_row other m)) → (x y : InstalledKey) → Contains (closing p).secy.keys x → Contains (closing q).secy.keys y → R x y
 of_keys R ssci other sci sci' p q a b holds x y there there' =
     let k = a.keys x there in
@@ -80,14 +80,16 @@ peers left_out its ra salt_a durable_a rb salt_b durable_b =
     let a = sym (runs_of-blocks A its) in
     let b = sym (runs_of-blocks B its) in
     record {
-      a = subst IsHistory a (history 1 sci_a (of_end A its) ra salt_a durable_a);
-      b = subst IsHistory b (history 2 sci_b (of_end B its) rb salt_b durable_b);
-      apart = subst (λ (rs : List Run). All (λ run. All (AreOfTwoEnds run) (runs_of B (blocks its))) rs) a
-          (subst (λ (rs : List Run). All (λ run. All (AreOfTwoEnds run) rs) (of_end A its)) b
-          (All-weaker (IsRunOf 1 sci_a) (λ run. All (AreOfTwoEnds run) (of_end B its))
-          (λ run it. All-weaker (IsRunOf 2 sci_b) (AreOfTwoEnds run) (λ other it'. apart run other it it') (of_end B its) rb) (of_end A its) ra));
-      one_a = λ d. subst (AllPairs IsSameEnd) a (pairs_of_all (IsRunOf 1 sci_a) IsSameEnd (same_runs 1 sci_a) (of_end A its) ra);
-      one_b = λ d. subst (AllPairs IsSameEnd) b (pairs_of_all (IsRunOf 2 sci_b) IsSameEnd (same_runs 2 sci_b) (of_end B its) rb);
+      a = subst (IsHistoryBut left_out) a (history_but left_out (of_end A its) (history 1 sci_a (of_end A its) ra salt_a durable_a));
+      b = subst (IsHistoryBut left_out) b (history_but left_out (of_end B its) (history 2 sci_b (of_end B its) rb salt_b durable_b));
+      apart = subst (λ (rs : List Run). All (λ run. All (AreOfTwoEndsBut left_out run) (runs_of B (blocks its))) rs) a
+          (subst (λ (rs : List Run). All (λ run. All (AreOfTwoEndsBut left_out run) rs) (of_end A its)) b
+          (All-weaker (IsRunOf 1 sci_a) (λ run. All (AreOfTwoEndsBut left_out run) (of_end B its))
+          (λ run it. All-weaker (IsRunOf 2 sci_b) (AreOfTwoEndsBut left_out run) (λ other it'. two_ends_but left_out run other (apart run other it it')) (of_end B its) rb) (of_end A its) ra));
+      one_a = subst (AllPairs (IsSameEndBut left_out)) a
+          (pairs_of_all (IsRunOf 1 sci_a) (IsSameEndBut left_out) (λ p q x y. same_end_but left_out p q (same_runs 1 sci_a p q x y)) (of_end A its) ra);
+      one_b = subst (AllPairs (IsSameEndBut left_out)) b
+          (pairs_of_all (IsRunOf 2 sci_b) (IsSameEndBut left_out) (λ p q x y. same_end_but left_out p q (same_runs 2 sci_b p q x y)) (of_end B its) rb);
     }
 
 -- the uses of the cipher are those of what was sent

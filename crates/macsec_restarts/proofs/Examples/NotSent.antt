@@ -1,11 +1,12 @@
 -- Runs that meet all premises of order and once but one, and in which B delivers a client frame that A never sent: an ICV
 -- is forged; B does not validate; B sent the frame itself, in an earlier run with another SCI.
-use Rattle.std.proofs.Common.{◌≡◌, ℕ, ◌<◌, true, false, List, [], ◌∷◌, ◌++◌, map, refl, ap, sym, subst, ◌∙◌, arith, All, Contains, append-nil}
+use Rattle.std.proofs.Common.{◌≡◌, ℕ, ◌<◌, true, false, List, [], ◌∷◌, ◌++◌, map, refl, ap, sym, subst, ◌∙◌, arith, All, AllPairs, Contains, append-nil}
 use Rattle.std.specs.Prelude.{slice_get, Some}
 use Rattle.std.proofs.lemmas.List.Elements.{All-cons, All-nil}
 use Rattle.sha2.specs.Sha256.{compress, digest_bytes, first_words, hash_after, rounds, schedule, sha256}
 use Rattle.macsec_gcm.specs.Octets.{same_octets}
 use Rattle.macsec_suite.specs.CipherUses.{CipherUse}
+use Rattle.macsec_suite.specs.Suites.{is_xpn}
 use Rattle.macsec_commands.specs.declared.command.Command.TheVariants.{Validate}
 use Rattle.macsec_commands.specs.declared.event.End.TheVariants.{A, B}
 use Rattle.macsec_commands.specs.declared.mode.Mode.TheVariants.{Disabled}
@@ -18,10 +19,9 @@ use Rattle.macsec_secy.specs.State.{State}
 use Rattle.macsec_secy.specs.Step.{link_frame, step}
 use Rattle.macsec_secy.proofs.StaysSound.{after_effect}
 use Rattle.macsec_link.specs.Origin.{IsSubsequence}
-use Rattle.macsec_reserve.specs.Histories.{AgreeOnKeys, IsHistory, KeepsDurable, Run, SameSalt, opening, sealed_in_all}
+use Rattle.macsec_reserve.specs.Histories.{AgreeOnKeys, KeepsDurable, Run, SameSalt, opening, sealed_in_all}
 use Rattle.macsec_reserve.specs.Journal.{highest, sending_name}
 use Rattle.macsec_reserve.specs.Keeping.{Keeping, KeepingInput, keeping_after, keeping_step}
-use Rattle.macsec_reserve.specs.TwoEnds.{AreOfTwoEnds}
 use Rattle.macsec_reserve.proofs.HighestOf.{highest_of_one}
 use Rattle.macsec_reserve.proofs.Pairs.{no_pairs, one_alone}
 use Rattle.macsec_counterexamples.proofs.Link.Exchange.{client, key_row}
@@ -35,8 +35,8 @@ use Rattle.macsec_restarts.specs.Happenings.{runs_of}
 use Rattle.macsec_restarts.specs.Order.{SavedIn}
 use Rattle.macsec_restarts.specs.Sent.{SentIn}
 use Rattle.macsec_restarts.proofs.Examples.Blocks.{AreOwn, AreSteps, Told, after_own, blocks, no_step, runs_of-blocks, step_next, told_end, told_next}
-use Rattle.macsec_restarts.proofs.Examples.Histories.{IsRunOf, agree, history, nothing_saved, peers, refuted, run_told, seals_are}
-use Rattle.macsec_restarts.proofs.Examples.Premises.{IsNotForged, IsStrict, KeepsSci, LawWithout, Premise}
+use Rattle.macsec_restarts.proofs.Examples.Histories.{IsRunOf, agree, history, nothing_saved, of_keys, peers, refuted, run_told, seals_are}
+use Rattle.macsec_restarts.proofs.Examples.Premises.{AreOfTwoEndsBut, IsHistoryBut, IsNotForged, IsSameEndBut, IsStrict, KeepsSci, LawWithout, Premise, history_but}
 use Rattle.macsec_restarts.proofs.Examples.Receivers as receiver
 use Rattle.macsec_restarts.proofs.Examples.Tags.{octets_1}
 use Rattle.macsec_restarts.proofs.SoundRuns.{IsSoundRun}
@@ -198,22 +198,27 @@ module _ (s r : Run) (sends : Facts 1 sci_a s (sender.sent false) []) (receives 
         ),
       )
       (record {
-        a = subst IsHistory (sym (runs_of-blocks A ((B, s) ∷ (B, r) ∷ []))) (history 1 sci_a [] (All-nil (IsRunOf 1 sci_a)) (no_pairs SameSalt) (no_pairs KeepsDurable));
-        b = subst IsHistory (sym (runs_of-blocks B ((B, s) ∷ (B, r) ∷ []))) (record {
-          sound = both IsSoundRun s r sends.of.sound receives.of.sound;
+        a = subst (IsHistoryBut KeepsSci) (sym (runs_of-blocks A ((B, s) ∷ (B, r) ∷ [])))
+            (history_but KeepsSci [] (history 1 sci_a [] (All-nil (IsRunOf 1 sci_a)) (no_pairs SameSalt) (no_pairs KeepsDurable)));
+        b = subst (IsHistoryBut KeepsSci) (sym (runs_of-blocks B ((B, s) ∷ (B, r) ∷ []))) (record {
+          sound = λ d. both IsSoundRun s r sends.of.sound receives.of.sound;
           agree = pair AgreeOnKeys s r (agree 1 2 sci_a sci_b s r sends.of receives.of);
           salt = pair SameSalt s r salts;
           durable = pair KeepsDurable s r durable;
         });
-        apart = subst (λ (ra : List Run). All (λ run. All (AreOfTwoEnds run) (runs_of B (blocks ((B, s) ∷ (B, r) ∷ [])))) ra) (sym (runs_of-blocks A ((B, s) ∷ (B, r) ∷ []))) (All-nil (λ run. All (AreOfTwoEnds run) (runs_of B (blocks ((B, s) ∷ (B, r) ∷ [])))));
-        one_a = λ d. absurd (d refl);
-        one_b = λ d. absurd (d refl);
+        apart = subst (λ (ra : List Run). All (λ run. All (AreOfTwoEndsBut KeepsSci run) (runs_of B (blocks ((B, s) ∷ (B, r) ∷ [])))) ra) (sym (runs_of-blocks A ((B, s) ∷ (B, r) ∷ [])))
+            (All-nil (λ run. All (AreOfTwoEndsBut KeepsSci run) (runs_of B (blocks ((B, s) ∷ (B, r) ∷ [])))));
+        one_a = subst (AllPairs (IsSameEndBut KeepsSci)) (sym (runs_of-blocks A ((B, s) ∷ (B, r) ∷ []))) (no_pairs (IsSameEndBut KeepsSci));
+        one_b = subst (AllPairs (IsSameEndBut KeepsSci)) (sym (runs_of-blocks B ((B, s) ∷ (B, r) ∷ []))) (pair (IsSameEndBut KeepsSci) s r (record {
+          sci = λ d. absurd (d refl);
+          ssci = λ d. of_keys (λ x y. x.bytes ≡ y.bytes → is_xpn x.suite ≡ true → x.ssci ≡ y.ssci) 1 2 sci_a sci_b s r sends.of receives.of (λ n m same xpn. cc);
+        }));
       })
       refl
       (ap (λ (xs : List Delivery). xs ++ delivered_in_all (r ∷ [])) sends.told.delivers ∙ ap (λ (xs : List Delivery). xs ++ []) receives.told.delivers)
       (not_of_none (1 ∷ client 1))
 
-names_differ : same_octets (sending_name (salt false) bytes) (name_of (salt false)) ≡ false
+pub names_differ : same_octets (sending_name (salt false) bytes) (name_of (salt false)) ≡ false
 unfolding first_words schedule rounds compress hash_after digest_bytes sha256
 names_differ = refl
 

@@ -1,12 +1,15 @@
 -- The premises of order and once, with names, and the promise without one of them.
-use Rattle.std.proofs.Common.{◌≡◌, ◌≢◌, ℕ, List, [], ◌∷◌, ◌++◌, true, AllPairs, All, Contains}
+use Rattle.std.proofs.Common.{◌≡◌, ◌≢◌, ℕ, List, [], ◌∷◌, ◌++◌, get_or, true, AllPairs, All, Contains}
+use Rattle.std.proofs.lemmas.List.Elements.{All-weaker}
 use Rattle.std.specs.Prelude.{IfSome, Option, Some, None}
 use Rattle.macsec_tag.specs.declared.identifiers.Sci.{Sci}
+use Rattle.macsec_suite.specs.KeyRows.{InstalledKey}
+use Rattle.macsec_suite.specs.Suites.{is_xpn}
 use Rattle.macsec_commands.specs.declared.event.End.{End}
 use Rattle.macsec_commands.specs.declared.event.End.TheVariants.{A, B}
 use Rattle.macsec_commands.specs.declared.mode.Mode.TheVariants.{Strict}
 use Rattle.macsec_secy.specs.State.{State}
-use Rattle.macsec_reserve.specs.Histories.{IsHistory, Run, closing}
+use Rattle.macsec_reserve.specs.Histories.{AgreeOnKeys, IsHistory, KeepsDurable, Run, SameSalt, StaysSound, closing, opening}
 use Rattle.macsec_reserve.specs.Keeping.{KeepingInput, keeping_step}
 use Rattle.macsec_reserve.specs.TwoEnds.{AreOfTwoEnds}
 use Rattle.macsec_restarts.specs.Delivered.{Delivery, delivered_at, newly_delivered}
@@ -22,6 +25,9 @@ pub data Premise : Type 0 where
   DropsLate : Premise
   HasWindowOf0 : Premise
   KeepsSci : Premise
+  KeepsSsci : Premise
+  HasOneSalt : Premise
+  StaysSoundAlways : Premise
   -- where none is left out
   NoPremise : Premise
 
@@ -45,12 +51,32 @@ pub record IsOrderlyBut (left_out : Premise) (e : End) (bytes : List ℕ) (sci :
   pub octets : HasOctets h
   pub ordered : IsOrderedAtBut left_out e bytes sci an before h
 
+pub record IsSameEndBut (left_out : Premise) (run later : Run) : Type 0 where
+  pub sci : KeepsSci ≢ left_out → run.config.sci ≡ later.config.sci
+  pub ssci : KeepsSsci ≢ left_out → (x y : InstalledKey) → Contains (closing run).secy.keys x → Contains (closing later).secy.keys y → x.bytes ≡ y.bytes →
+      is_xpn x.suite ≡ true → x.ssci ≡ y.ssci
+
+pub record AgreeAtBothBut (left_out : Premise) (x y : InstalledKey) : Type 0 where
+  pub suite : x.suite ≡ y.suite
+  pub salt : HasOneSalt ≢ left_out → is_xpn x.suite ≡ true → x.salt ≡ y.salt
+  pub ssci : is_xpn x.suite ≡ true → x.ssci ≢ y.ssci
+
+pub record AreOfTwoEndsBut (left_out : Premise) (run other : Run) : Type 0 where
+  pub sci : run.config.sci ≢ other.config.sci
+  pub keys : (x y : InstalledKey) → Contains (closing run).secy.keys x → Contains (closing other).secy.keys y → x.bytes ≡ y.bytes → AgreeAtBothBut left_out x y
+
+pub record IsHistoryBut (left_out : Premise) (runs : List Run) : Type 0 where
+  pub sound : StaysSoundAlways ≢ left_out → All (λ run. StaysSound (opening run) run.inputs) runs
+  pub agree : AllPairs AgreeOnKeys runs
+  pub salt : AllPairs SameSalt runs
+  pub durable : AllPairs KeepsDurable runs
+
 pub record ArePeersBut (left_out : Premise) (events : List Happening) : Type 0 where
-  pub a : IsHistory (runs_of A events)
-  pub b : IsHistory (runs_of B events)
-  pub apart : All (λ run. All (AreOfTwoEnds run) (runs_of B events)) (runs_of A events)
-  pub one_a : KeepsSci ≢ left_out → AllPairs IsSameEnd (runs_of A events)
-  pub one_b : KeepsSci ≢ left_out → AllPairs IsSameEnd (runs_of B events)
+  pub a : IsHistoryBut left_out (runs_of A events)
+  pub b : IsHistoryBut left_out (runs_of B events)
+  pub apart : All (λ run. All (AreOfTwoEndsBut left_out run) (runs_of B events)) (runs_of A events)
+  pub one_a : AllPairs (IsSameEndBut left_out) (runs_of A events)
+  pub one_b : AllPairs (IsSameEndBut left_out) (runs_of B events)
 
 -- the promise without one of the premises
 abbrev pub LawWithout : Premise → List Happening → Type 0
@@ -79,5 +105,41 @@ each_suffices e bytes sci an before (h ∷ more) each = (
   each_suffices e bytes sci an (before ++ h ∷ []) more each.1,
 )
 
+same_end_suffices : (run later : Run) → IsSameEndBut NoPremise run later → IsSameEnd run later
+same_end_suffices run later is = record { sci = is.sci (λ none. cc); ssci = is.ssci (λ none. cc) }
+
+two_ends_suffice : (run other : Run) → AreOfTwoEndsBut NoPremise run other → AreOfTwoEnds run other
+two_ends_suffice run other are = record {
+  sci = are.sci;
+  keys = λ x y here there bytes.
+      let it = are.keys x y here there bytes in
+      record { agree = record { suite = it.suite; salt = it.salt (λ none. cc) }; ssci = it.ssci };
+}
+
+history_suffices : (runs : List Run) → IsHistoryBut NoPremise runs → IsHistory runs
+history_suffices runs is = record { sound = is.sound (λ none. cc); agree = is.agree; salt = is.salt; durable = is.durable }
+
 pub peers_suffice : (events : List Happening) → ArePeersBut NoPremise events → ArePeers events
-peers_suffice events is = record { a = is.a; b = is.b; apart = is.apart; one_a = is.one_a (λ none. cc); one_b = is.one_b (λ none. cc) }
+peers_suffice events is = record {
+  a = history_suffices (runs_of A events) is.a;
+  b = history_suffices (runs_of B events) is.b;
+  apart = All-weaker (λ run. All (AreOfTwoEndsBut NoPremise run) (runs_of B events)) (λ run. All (AreOfTwoEnds run) (runs_of B events))
+      (λ run all. All-weaker (AreOfTwoEndsBut NoPremise run) (AreOfTwoEnds run) (two_ends_suffice run) (runs_of B events) all) (runs_of A events) is.apart;
+  one_a = λ i j d less within. same_end_suffices (get_or (runs_of A events) i d) (get_or (runs_of A events) j d) (is.one_a i j d less within);
+  one_b = λ i j d less within. same_end_suffices (get_or (runs_of B events) i d) (get_or (runs_of B events) j d) (is.one_b i j d less within);
+}
+
+-- and each of them suffices without another
+pub history_but : (left_out : Premise) (runs : List Run) → IsHistory runs → IsHistoryBut left_out runs
+history_but left_out runs is = record { sound = λ d. is.sound; agree = is.agree; salt = is.salt; durable = is.durable }
+
+pub same_end_but : (left_out : Premise) (run later : Run) → IsSameEnd run later → IsSameEndBut left_out run later
+same_end_but left_out run later is = record { sci = λ d. is.sci; ssci = λ d. is.ssci }
+
+pub two_ends_but : (left_out : Premise) (run other : Run) → AreOfTwoEnds run other → AreOfTwoEndsBut left_out run other
+two_ends_but left_out run other are = record {
+  sci = are.sci;
+  keys = λ x y here there bytes.
+      let it = are.keys x y here there bytes in
+      record { suite = it.agree.suite; salt = λ d. it.agree.salt; ssci = it.ssci };
+}

@@ -45,13 +45,13 @@ commands again = command (Key (new_key no_salt 2)) ∷ command (RxSc sci_a) ∷ 
 
 -- ---- its states
 
-abbrev with_key : State
+abbrev pub with_key : State
 with_key = effect (start gcm_b) (Key (new_key no_salt 2))
 
-abbrev with_sc : State
+abbrev pub with_sc : State
 with_sc = effect with_key (RxSc sci_a)
 
-abbrev with_sa : Bool → State
+abbrev pub with_sa : Bool → State
 with_sa again = effect with_sc (RxSa sci_a 0 0 1 (lowest_of again))
 
 abbrev pub ready : Bool → State
@@ -159,11 +159,11 @@ module _ (salt : List ℕ) (before : List Reservation) where
       (keeping_step (at s) (link number t)).1 ≡ at (state_after_receiving s (frame number t) j)
   next_is s number t j is = link_step (at s) (frame number t) ∙ ap at is
 
-  creates : (again : Bool) → highest before (name_of salt) < lowest_of again → (keeping_step (at with_sc) (command (RxSa sci_a 0 0 1 (lowest_of again)))).1 ≡ at (with_sa again)
+  pub creates : (again : Bool) → highest before (name_of salt) < lowest_of again → (keeping_step (at with_sc) (command (RxSa sci_a 0 0 1 (lowest_of again)))).1 ≡ at (with_sa again)
   creates false free = command_step (at with_sc) (RxSa sci_a 0 0 1 1) (is_new before (name_of salt) 1 free)
   creates true free = command_step (at with_sc) (RxSa sci_a 0 0 1 2) (is_new before (name_of salt) 2 free)
 
-  enables : (again : Bool) → (keeping_step (at (with_sa again)) (command (RxOn sci_a 0))).1 ≡ at (ready again)
+  pub enables : (again : Bool) → (keeping_step (at (with_sa again)) (command (RxOn sci_a 0))).1 ≡ at (ready again)
   enables false = command_step (at (with_sa false)) (RxOn sci_a 0) refl
   enables true = command_step (at (with_sa true)) (RxOn sci_a 0) refl
 

@@ -17,15 +17,15 @@ use Rattle.macsec_counterexamples.proofs.Link.SealedFrames.{Sealed, items, seale
 use Rattle.macsec_counterexamples.proofs.Link.WorkedEnds.{bytes}
 use Rattle.macsec_restarts.proofs.Examples.Receivers.{frame}
 
-abbrev are_small : List ℕ → Bool
+abbrev pub are_small : List ℕ → Bool
 are_small [] = true
 are_small (x ∷ xs) = nat_lt x 256 && are_small xs
 
-small : (xs : List ℕ) → are_small xs ≡ true → AreOctets xs
+pub small : (xs : List ℕ) → are_small xs ≡ true → AreOctets xs
 small [] are = All-nil (λ x. x < 256)
 small (x ∷ xs) are = let both = and_parts (nat_lt x 256) (are_small xs) are in All-cons (λ y. y < 256) x xs (ltb-true x 256 both.0) (small xs both.1)
 
-small_at : (xs : List ℕ) → are_small xs ≡ true → (k : ℕ) → slice_index xs k < 256
+pub small_at : (xs : List ℕ) → are_small xs ≡ true → (k : ℕ) → slice_index xs k < 256
 small_at [] are k = omega arith
 small_at (x ∷ xs) are zero = ltb-true x 256 (and_parts (nat_lt x 256) (are_small xs) are).0
 small_at (x ∷ xs) are (suc k) = small_at xs (and_parts (nat_lt x 256) (are_small xs) are).1 k
@@ -45,7 +45,7 @@ hash_of key aad = ghash (hash_subkey key) (pad aad ++ (pad [] ++ pad (length_blo
 sum_at : (hash : ℕ) (block : List ℕ) → ((k : ℕ) → slice_index block k < 256) → (k : ℕ) → bit_xor (slice_index (to_be_bytes w128 hash) k) (slice_index block k) < 256
 sum_at hash block are k = xor_of_8 (slice_index (to_be_bytes w128 hash) k) (slice_index block k) (of_number 16 hash k) (are k)
 
-tag_is : (key iv aad : List ℕ) → ((k : ℕ) → slice_index (aes key (pre_counter_block iv)) k < 256) → AreOctets (seal_of key iv aad []).1
+pub tag_is : (key iv aad : List ℕ) → ((k : ℕ) → slice_index (aes key (pre_counter_block iv)) k < 256) → AreOctets (seal_of key iv aad []).1
 unfolding seal_of authentication_tag gctr hash_of
 tag_is key iv aad are = All-from_recursion (λ x. x < 256) (seal_of key iv aad []).1 (octet 0, (octet 1, (octet 2, (octet 3, (octet 4, (octet 5, (octet 6, (octet 7, (octet 8, (octet 9, (octet 10, (octet 11, (octet 12, (octet 13, (octet 14, (octet 15, tt))))))))))))))))
   where

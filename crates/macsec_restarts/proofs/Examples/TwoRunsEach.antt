@@ -50,7 +50,7 @@ pub record Facts (ssci : ℕ) (sci : Sci) (run : Run) (sends : List SentIn) (ds 
 abbrev pub use_1 : CipherUse
 use_1 = use_of 1 (client 1) (tag 1 (client 1))
 
-abbrev use_3 : CipherUse
+abbrev pub use_3 : CipherUse
 use_3 = use_of 3 (client 3) (tag 3 (client 3))
 
 pub pair : {X : Type 0} (R : X → X → Type 0) (x y : X) → R x y → AllPairs R (x ∷ y ∷ [])
@@ -82,7 +82,7 @@ module _ (a a' b b' : Run) (first : Facts 1 sci_a a (sender.sent false) []) (sec
   has_sealed_3 =
       subst (λ (us : List CipherUse). Contains (us ++ sealed_in_all (b ∷ [])) use_3) (sym (seals_are (a ∷ a' ∷ []) (sender.sent false ++ sender.sent true) sent_both)) (2, omega arith, refl)
 
-  meets : AreOwn a.inputs → AreOwn a'.inputs → SameSalt a a' → KeepsDurable a a' → SameSalt b b' → KeepsDurable b b' → SavedIn b'.journal bytes sci_a 0 (receiver.delivery 1 ∷ []) →
+  pub meets : AreOwn a.inputs → AreOwn a'.inputs → SameSalt a a' → KeepsDurable a a' → SameSalt b b' → KeepsDurable b b' → SavedIn b'.journal bytes sci_a 0 (receiver.delivery 1 ∷ []) →
       ((uses : List CipherUse) → Contains uses use_1 → AreSteps NoPremise bytes sci_a 0 (opening b) [] uses b.inputs) →
       ((uses : List CipherUse) → Contains uses use_3 → AreSteps NoPremise bytes sci_a 0 (opening b') [] uses b'.inputs) →
       MeetsAll ((A, a) ∷ (B, b) ∷ (A, a') ∷ (B, b') ∷ []) ((1 ∷ client 1) ∷ (2 ∷ client 1) ∷ (3 ∷ client 3) ∷ []) ((1 ∷ client 1) ∷ (3 ∷ client 3) ∷ [])
@@ -325,7 +325,7 @@ steps_2 uses there =
 pub is_durable : (r : Reservation) → All IsReservation (r ∷ []) → (name : List ℕ) → highest (r ∷ []) name ≤ highest (reservations (journal false (r ∷ []))) name
 is_durable r are name = omega (arith, says false (r ∷ []) are name)
 
-is_saved : SavedIn (journal false (saved_1 ∷ [])) bytes sci_a 0 (receiver.delivery 1 ∷ [])
+pub is_saved : SavedIn (journal false (saved_1 ∷ [])) bytes sci_a 0 (receiver.delivery 1 ∷ [])
 is_saved =
     let name = name_of (salt false) in
     let own : highest (saved_1 ∷ []) name ≡ 1 = ap (λ (same : Bool). if same then max 1 0 else 0) (same_octets-refl name) in

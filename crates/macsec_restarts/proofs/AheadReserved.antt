@@ -1,0 +1,180 @@
+-- A frame that was dropped because its PN was not reserved asks for a record, and passes once it is durable.
+use Rattle.std.proofs.Common.{◌≡◌, ℕ, ◌<◌, ◌≤◌, Bool, true, false, List, [], ◌∷◌, map, inl, inr, refl, ap, sym, subst, ◌∙◌, arith}
+use Rattle.std.specs.Prelude.{◌==◌, ◌+◌, ◌-◌, ◌/◌, ◌^◌, not, nat_le, max, min, if◌then◌else◌, option_map, Option, Some, None, IsSome}
+use Rattle.std.proofs.lemmas.Bool.{le-leb, leb-false, leb-true, lt-leb}
+use Rattle.macsec_gcm.specs.Octets.{same_octets}
+use Rattle.macsec_rx.specs.declared.RxRow.{RxRow}
+use Rattle.macsec_rx.specs.Judge.{Judgement}
+use Rattle.macsec_secy.specs.declared.fault.FrameFault.{FrameFault}
+use Rattle.macsec_secy.specs.Delivers.{DeliversFrom}
+use Rattle.macsec_secy.specs.Reception.{judgement_of}
+use Rattle.macsec_secy.specs.State.{State}
+use Rattle.macsec_secy.specs.Step.{frame_fault, link_frame}
+use Rattle.macsec_link.proofs.Members.{IsMember, member_of_map}
+use Rattle.macsec_reserve.specs.declared.reservation.Reservation.{Reservation}
+use Rattle.macsec_reserve.specs.Entries.{raised_by}
+use Rattle.macsec_reserve.specs.Journal.{highest}
+use Rattle.macsec_reserve.specs.Keeping.{Keeping, KeepingOutput, endpoint_input, keeping_step, now_durable, wanted_last}
+use Rattle.macsec_reserve.specs.Replay.{row_name}
+use Rattle.macsec_reserve.proofs.Written.{same_octets-refl}
+use Rattle.macsec_restarts.specs.Ahead.{Ahead, RxPn, Standing, ahead_by, ahead_step, before_this_run, dropped_not_reserved, for_each_row, not_yet, passes, standing_by}
+use Rattle.macsec_restarts.specs.AheadSteps.{AsksWhereDropped, PassesOnceReserved, ReachesPn, WantsEnough}
+use Rattle.macsec_restarts.proofs.RowSteps.{found_row}
+
+-- ---- a report raises an entry of its name to its number
+
+more_of : (e : Reservation) (es : List Reservation) (name : List ℕ) → highest es name ≤ highest (e ∷ es) name
+more_of e es name = by_name (same_octets e.name name)
+  where
+    by_name : (b : Bool) → highest es name ≤ (if b then max e.last (highest es name) else highest es name)
+    by_name true = omega arith
+    by_name false = omega arith
+
+first_of : (e : Reservation) (es : List Reservation) → e.last ≤ highest (e ∷ es) e.name
+first_of e es = by_name (same_octets e.name e.name) (same_octets-refl e.name)
+  where
+    by_name : (b : Bool) → b ≡ true → e.last ≤ (if b then max e.last (highest es e.name) else highest es e.name)
+    by_name true is = omega arith
+    by_name false is = cc
+
+raised_covers : (r : Reservation) (entries : List Reservation) (x : Reservation) → IsMember entries x → x.name ≡ r.name → r.last ≤ highest (map (raised_by r) entries) r.name
+raised_covers r [] x there same = absurd there
+raised_covers r (e ∷ es) x (inr later) same = omega (arith, raised_covers r es x later same, more_of (raised_by r e) (map (raised_by r) es) r.name)
+raised_covers r (e ∷ es) x (inl here) same = by_own (same_octets e.name r.name) (ap (λ n. same_octets n r.name) own ∙ same_octets-refl r.name)
+  where
+    own : e.name ≡ r.name
+    own = ap (λ (z : Reservation). z.name) here ∙ same
+
+    by_own : (b : Bool) → b ≡ true → r.last ≤ highest ((if b then record e { last = max e.last r.last } else e) ∷ map (raised_by r) es) r.name
+    by_own false is = cc
+    by_own true is =
+        let up : Reservation = record e { last = max e.last r.last } in
+        let first : max e.last r.last ≤ highest (up ∷ map (raised_by r) es) e.name = first_of up (map (raised_by r) es) in
+        let there : max e.last r.last ≤ highest (up ∷ map (raised_by r) es) r.name = subst (λ n. max e.last r.last ≤ highest (up ∷ map (raised_by r) es) n) own first in
+        omega (arith, there)
+
+-- ---- the frame passes
+
+passes_by : (ahead old new : Bool) (x y : RxPn) → old ≡ false → new ≡ true → (if not ahead then passes else if old then before_this_run x else if new then passes else not_yet y) ≡ passes
+passes_by false old new x y is is' = refl
+passes_by true false true x y is is' = refl
+passes_by true true new x y is is' = cc
+passes_by true false false x y is is' = cc
+
+by_parts : (a : Ahead) (j : Judgement) (f : Option FrameFault) (row : RxRow) → highest a.k.before (row_name a.k.salt a.k.secy row) < j.number →
+    j.number ≤ highest a.taken (row_name a.k.salt a.k.secy row) → standing_by a j f (Some row) ≡ passes
+by_parts a j (Some f) row above within = refl
+by_parts a j None row above within = by_step (j.step == 13)
+  where
+    name : List ℕ
+    name = row_name a.k.salt a.k.secy row
+
+    at : RxPn
+    at = record { sci = row.sci; an = row.an; number = j.number }
+
+    it : Standing
+    it = if not a.ahead then passes else if nat_le j.number (highest a.k.before name) then before_this_run at else if nat_le j.number (highest a.taken name) then passes else not_yet at
+
+    by_step : (b : Bool) → (if b then it else passes) ≡ passes
+    by_step true = passes_by a.ahead (nat_le j.number (highest a.k.before name)) (nat_le j.number (highest a.taken name)) at at (lt-leb j.number (highest a.k.before name) above) (le-leb j.number (highest a.taken name) within)
+    by_step false = refl
+
+pub passes_once_reserved : ((s : State) (frame : List ℕ) (row : RxRow) (delivered : List ℕ) → DeliversFrom s frame row delivered) →
+    (a : Ahead) (frame : List ℕ) (row : RxRow) (delivered : List ℕ) (r : Reservation) → PassesOnceReserved a frame row delivered r
+passes_once_reserved delivers a frame row delivered r sound of_row gives name above within =
+    let s = a.k.secy in
+    let j = judgement_of s frame in
+    let after = (ahead_step a (now_durable r)).1 in
+    let own = row_name a.k.salt s row in
+    let there : IsMember s.rx.rows row = found_row row.sci row.an s.rx.rows row (delivers s frame row delivered sound of_row gives).at_place in
+    let own_entry : RxRow → Reservation = λ x. record { name = row_name a.k.salt s x; last = highest a.taken (row_name a.k.salt s x) } in
+    let entry : IsMember (for_each_row a) (own_entry row) = member_of_map own_entry s.rx.rows row there in
+    let covers : r.last ≤ highest after.taken r.name = raised_covers r (for_each_row a) (own_entry row) entry (sym name) in
+    let reaches : r.last ≤ highest after.taken own = subst (λ n. r.last ≤ highest after.taken n) name covers in
+    ap (standing_by after j (frame_fault frame)) of_row ∙ by_parts after j (frame_fault frame) row above (omega (arith, within, reaches))
+
+-- ---- the record to write next
+
+pub wants_enough : (a : Ahead) (amount next : ℕ) (row : RxRow) (r : Reservation) → WantsEnough a amount next row r
+wants_enough a amount next row r wanted = by_last (wanted_last (highest a.taken own) next amount) refl wanted
+  where
+    own : List ℕ
+    own = row_name a.k.salt a.k.secy row
+
+    by_tests : (large enough : Bool) → nat_le (2 ^ 64) next ≡ large → (last : ℕ) →
+        (if large then None else if enough then None else Some (min (next + amount) (2 ^ 64 - 1))) ≡ Some last → next ≤ last
+    by_tests true enough is last some = cc
+    by_tests false true is last some = cc
+    by_tests false false is last some =
+        let same : min (next + amount) (2 ^ 64 - 1) ≡ last = cc in
+        omega (arith, same, leb-false (2 ^ 64) next is)
+
+    by_last : (o : Option ℕ) → wanted_last (highest a.taken own) next amount ≡ o → option_map (λ last. record { name = own; last = last }) o ≡ Some r → ReachesPn a next row r
+    by_last None is some = cc
+    by_last (Some last) is some =
+        let one : record { name = own; last = last } ≡ r = cc in
+        let reaches : next ≤ last = by_tests (nat_le (2 ^ 64) next) (nat_le (min (next + amount / 2) (2 ^ 64 - 1)) (highest a.taken own)) refl last is in
+        subst (ReachesPn a next row) one (record { name = refl; last = reaches })
+
+-- what the tests say of a PN that is not reserved yet
+record IsNotReserved (a : Ahead) (j : Judgement) (row : RxRow) (at : RxPn) : Type 0 where
+  is : record { sci = row.sci; an = row.an; number = j.number } ≡ at
+  above : highest a.taken (row_name a.k.salt a.k.secy row) < j.number
+
+not_yet_means : (ahead old new : Bool) (x y at : RxPn) → (if not ahead then passes else if old then before_this_run x else if new then passes else not_yet y) ≡ not_yet at →
+    (new ≡ false) × (y ≡ at)
+not_yet_means true false false x y at is = (refl, cc)
+not_yet_means true false true x y at is = cc
+not_yet_means true true new x y at is = cc
+not_yet_means false old new x y at is = cc
+
+is_not_reserved : (a : Ahead) (j : Judgement) (f : Option FrameFault) (row : RxRow) (at : RxPn) → standing_by a j f (Some row) ≡ not_yet at → IsNotReserved a j row at
+is_not_reserved a j (Some f) row at is = cc
+is_not_reserved a j None row at is = by_step (j.step == 13) is
+  where
+    name : List ℕ
+    name = row_name a.k.salt a.k.secy row
+
+    own : RxPn
+    own = record { sci = row.sci; an = row.an; number = j.number }
+
+    it : Standing
+    it = if not a.ahead then passes else if nat_le j.number (highest a.k.before name) then before_this_run own else if nat_le j.number (highest a.taken name) then passes else not_yet own
+
+    by_step : (b : Bool) → (if b then it else passes) ≡ not_yet at → IsNotReserved a j row at
+    by_step false is' = cc
+    by_step true is' =
+        let means = not_yet_means a.ahead (nat_le j.number (highest a.k.before name)) (nat_le j.number (highest a.taken name)) own own at is' in
+        record { is = means.1; above = leb-false j.number (highest a.taken name) means.0 }
+
+dropped_by : (it : Standing) (a : Ahead) (answer : KeepingOutput × Keeping) (at : RxPn) → (ahead_by false it a answer).0 ≡ dropped_not_reserved at → it ≡ not_yet at
+dropped_by passes a answer at is = cc
+dropped_by (before_this_run x) a answer at is = cc
+dropped_by (not_yet x) a answer at is = ap not_yet cc
+
+is_wanted : (reserved n amount : ℕ) → n < 2 ^ 64 → reserved < n → IsSome (wanted_last reserved n amount)
+is_wanted reserved n amount fits above = by_tests (nat_le (2 ^ 64) n) (nat_le (min (n + amount / 2) (2 ^ 64 - 1)) reserved) refl refl
+  where
+    by_tests : (large enough : Bool) → nat_le (2 ^ 64) n ≡ large → nat_le (min (n + amount / 2) (2 ^ 64 - 1)) reserved ≡ enough →
+        IsSome (if large then None else if enough then None else Some (min (n + amount) (2 ^ 64 - 1)))
+    by_tests true enough is is' = absurd (omega (arith, leb-true (2 ^ 64) n is, fits))
+    by_tests false true is is' = absurd (omega (arith, leb-true (min (n + amount / 2) (2 ^ 64 - 1)) reserved is', fits, above))
+    by_tests false false is is' = refl
+
+some_of_map : {X Y : Type 0} (f : X → Y) (o : Option X) → IsSome o → IsSome (option_map f o)
+some_of_map f None is = cc
+some_of_map f (Some x) is = refl
+
+pub asks_where_dropped : (a : Ahead) (frame : List ℕ) (amount : ℕ) (row : RxRow) (at : RxPn) → AsksWhereDropped a frame amount row at
+asks_where_dropped a frame amount row at of_row fits dropped =
+    let j = judgement_of a.k.secy frame in
+    let it = dropped_by (standing_by a j (frame_fault frame) j.row) a (keeping_step a.k (endpoint_input (link_frame frame))) at dropped in
+    let is = is_not_reserved a j (frame_fault frame) row at (ap (standing_by a j (frame_fault frame)) (sym of_row) ∙ it) in
+    let number : j.number ≡ at.number = ap (λ (x : RxPn). x.number) is.is in
+    let name = row_name a.k.salt a.k.secy row in
+    record {
+      of_sci = ap (λ (x : RxPn). x.sci) (sym is.is);
+      of_an = ap (λ (x : RxPn). x.an) (sym is.is);
+      of_number = sym number;
+      wanted = some_of_map (λ last. record { name = name; last = last }) (wanted_last (highest a.taken name) at.number amount) (is_wanted (highest a.taken name) at.number amount fits (omega (arith, is.above, number)));
+    }

@@ -1,0 +1,669 @@
+-- Runs with extended packet numbers that meet all premises of order and once but one, and in which B delivers a client frame
+-- that A never sent with that packet number: B has another own SSCI in its second run, and receives the frame that it sent
+-- in its first one; the key has another salt at B, under which the frame has the IV of another packet number; or the salt
+-- has no octets at both ends, which are not sound, so that all packet numbers have one IV.
+use Rattle.std.proofs.Common.{◌≡◌, ◌≢◌, ℕ, zero, suc, ◌<◌, ◌≤◌, ◌+◌, Bool, true, false, List, [], ◌∷◌, ◌++◌, map, take, refl, ap, sym, subst, ◌∙◌, arith, All, AllPairs, Contains}
+use Rattle.std.specs.Prelude.{◌^◌, ◌*◌, ◌||◌, ◌&&◌, not, nat_le, max, replicate, slice_get, if◌then◌else◌, Some, None, IfSome}
+use Rattle.std.proofs.lemmas.Bool.{lt-ltb}
+use Rattle.std.proofs.lemmas.List.Elements.{All-append, All-cons, All-nil}
+use Rattle.macsec_aes.specs.Aes.{add_round_key, added_word, aes, after_rounds, key_expansion, key_words, mix_columns, rot_word, round_key, shift_rows}
+use Rattle.macsec_aes.specs.Aes.{sub_bytes, sub_word, sum_of_words}
+use Rattle.macsec_aes.specs.Field.{affine_transformation, byte_product, inverse, polynomial_product, remainder, s_box, sum_below}
+use Rattle.macsec_gcm.specs.Gcm.{open_of, pre_counter_block}
+use Rattle.macsec_gcm.specs.Octets.{sum_with_stream}
+use Rattle.macsec_tag.specs.Laws.{AreOctets}
+use Rattle.macsec_tag.specs.Table.{parts_at}
+use Rattle.macsec_tag.specs.declared.identifiers.Sci.{Sci}
+use Rattle.macsec_suite.specs.CipherUses.{CipherUse, cipher_use}
+use Rattle.macsec_suite.specs.KeyRows.{AreKeyRows, InstalledKey}
+use Rattle.macsec_suite.specs.Suites.{iv_of}
+use Rattle.macsec_suite.specs.declared.suite.Suite.TheVariants.{Xpn128}
+use Rattle.macsec_commands.specs.Scis.{IsSci}
+use Rattle.macsec_commands.specs.declared.command.Command.TheVariants.{Key, RxOn, RxSa, RxSc, TxOn, TxSa}
+use Rattle.macsec_commands.specs.declared.config.EndConfig.{EndConfig}
+use Rattle.macsec_commands.specs.declared.event.End.TheVariants.{A, B}
+use Rattle.macsec_commands.specs.declared.form.TagForm.TheVariants as form
+use Rattle.macsec_tx.specs.Rows.{AreTxRows}
+use Rattle.macsec_tx.specs.Transmit.{tag_sent, use_sent}
+use Rattle.macsec_tx.specs.declared.TxOptions.{TxOptions}
+use Rattle.macsec_tx.specs.declared.TxRow.{TxRow}
+use Rattle.macsec_rx.specs.declared.Verdict.TheVariants.{Passed}
+use Rattle.macsec_rx.specs.Judge.{Judgement, at_row, judge_opened}
+use Rattle.macsec_secy.specs.Commands.{effect}
+use Rattle.macsec_secy.specs.Reception.{judgement_of, state_after_receiving}
+use Rattle.macsec_secy.specs.Sound.{IsSound}
+use Rattle.macsec_secy.specs.State.{State, no_tx_counters, rx_options, start, tx_options}
+use Rattle.macsec_secy.specs.Step.{client_frame, frame_fault, link_frame, sending_of, step}
+use Rattle.macsec_secy.proofs.StaysSound.{after_client_frame, after_effect, at_start}
+use Rattle.macsec_link.specs.Genuine.{use_opened}
+use Rattle.macsec_link.specs.Origin.{IsSubsequence}
+use Rattle.macsec_reserve.specs.declared.reservation.Reservation.{Reservation}
+use Rattle.macsec_reserve.specs.Histories.{AgreeOnKey, AgreeOnKeys, KeepsDurable, Run, SameSalt, StaysSound, closing, opening, sealed_in_all}
+use Rattle.macsec_reserve.specs.Journal.{highest, sending_name}
+use Rattle.macsec_reserve.specs.Keeping.{Keeping, KeepingInput, endpoint_input, keeping_after, keeping_step, may_go, now_durable}
+use Rattle.macsec_reserve.proofs.HighestOf.{highest_of_one}
+use Rattle.macsec_reserve.proofs.Pairs.{no_pairs, one_alone}
+use Rattle.macsec_reserve.proofs.Written.{same_octets-refl}
+use Rattle.macsec_counterexamples.proofs.Link.Exchange.{client}
+use Rattle.macsec_counterexamples.proofs.Link.SealedFrames.{Sealed, aad_sent, frame_with, items, opens, parts_with, sealed, tag_of, with_tag}
+use Rattle.macsec_counterexamples.proofs.Link.TracedSteps.{genuine_at}
+use Rattle.macsec_counterexamples.proofs.Link.WorkedEnds.{bytes, installed_key, new_key, no_salt, only, rx_from, sci_a, sci_b, scis_differ, tx_from}
+use Rattle.macsec_counterexamples.proofs.Restarts.Goes.{command, command_step, frame_step, is_new, link_step}
+use Rattle.macsec_counterexamples.proofs.Restarts.Journals.{journal, salt}
+use Rattle.macsec_counterexamples.proofs.Restarts.Receivers.{channels_are, name_of}
+use Rattle.macsec_counterexamples.proofs.Restarts.Senders.{kept, none_are, other_sci, own_sci, row_at}
+use Rattle.macsec_restarts.specs.Delivered.{Delivery, delivered_at, delivered_by, delivered_from, delivered_in_all, newly_delivered}
+use Rattle.macsec_restarts.specs.Happenings.{runs_of}
+use Rattle.macsec_restarts.specs.Order.{SavedIn}
+use Rattle.macsec_restarts.specs.Sent.{SentIn, newly_sent, sent_by, sent_from}
+use Rattle.macsec_restarts.proofs.Examples.Blocks.{AreOwn, AreSteps, EndRun, after_own, blocks, no_step, runs_of-blocks, step_next}
+use Rattle.macsec_restarts.proofs.Examples.Histories.{nothing_saved, refuted, seals_are}
+use Rattle.macsec_restarts.proofs.Examples.NotSent.{names_differ, not_of_none}
+use Rattle.macsec_restarts.proofs.Examples.Premises.{AgreeAtBothBut, AreOfTwoEndsBut, ArePeersBut, HasOneSalt, HasStrictOrderBut, IsHistoryBut, IsSameEndBut, KeepsSsci, LawWithout, Premise, StaysSoundAlways}
+use Rattle.macsec_restarts.proofs.Examples.Receivers.{heard_sound, tables}
+use Rattle.macsec_restarts.proofs.Examples.Tags.{are_small, small, small_at, tag_is}
+use Rattle.macsec_restarts.proofs.Examples.TwoRunsEach.{both, is_durable, is_free, none_is, pair, reads, reserved_2, reserved_is}
+
+-- a configuration in which no sent frame carries the SCI
+abbrev config_of : Sci → EndConfig
+config_of sci = record { suite = Xpn128; sci = sci; max_frame = 1518; form = form.Auto }
+
+abbrev key_at : List ℕ → ℕ → ℕ → InstalledKey
+key_at key_salt ssci unused = installed_key Xpn128 key_salt ssci unused
+
+key_is : (ssci n : ℕ) → ssci < 2 ^ 32 → 1 ≤ n → n ≤ 2 ^ 64 → AreKeyRows (key_at no_salt ssci n ∷ [])
+key_is ssci n fits least most = (record { number = omega arith; bytes = refl; salt = refl; ssci = fits; first_unused_least = least; first_unused = most }, refl, tt)
+
+-- ---- how a run goes, and that it is sound
+
+record Does (k : Keeping) (inputs : List KeepingInput) (xs : List SentIn) (ds : List Delivery) (last : Keeping) : Type 0 where
+  sends : sent_from k inputs ≡ xs
+  delivers : delivered_from k inputs ≡ ds
+  ends : keeping_after k inputs ≡ last
+
+does_end : (k : Keeping) → Does k [] [] [] k
+does_end k = record { sends = refl; delivers = refl; ends = refl }
+
+does_next : (k after last : Keeping) (input : KeepingInput) (inputs : List KeepingInput) (now sends : List SentIn) (new ds : List Delivery) →
+    newly_sent k input ≡ now → newly_delivered k input ≡ new → (keeping_step k input).1 ≡ after → Does after inputs sends ds last → Does k (input ∷ inputs) (now ++ sends) (new ++ ds) last
+does_next k after last input inputs now sends new ds is_now is_new is_after rest = record {
+  sends = ap (λ xs. xs ++ sent_from (keeping_step k input).1 inputs) is_now ∙ ap (λ k'. now ++ sent_from k' inputs) is_after ∙ ap (λ xs. now ++ xs) rest.sends;
+  delivers = ap (λ xs. xs ++ delivered_from (keeping_step k input).1 inputs) is_new ∙ ap (λ k'. new ++ delivered_from k' inputs) is_after ∙ ap (λ xs. new ++ xs) rest.delivers;
+  ends = ap (λ k'. keeping_after k' inputs) is_after ∙ rest.ends;
+}
+
+sound_end : (k : Keeping) → IsSound k.secy → StaysSound k []
+sound_end k sound zero = sound
+sound_end k sound (suc n) = sound
+
+sound_next : (k after : Keeping) (input : KeepingInput) (inputs : List KeepingInput) → IsSound k.secy → (keeping_step k input).1 ≡ after → StaysSound after inputs → StaysSound k (input ∷ inputs)
+sound_next k after input inputs sound is_after rest zero = sound
+sound_next k after input inputs sound is_after rest (suc n) = subst (λ (k' : Keeping). IsSound (keeping_after k' (take n inputs)).secy) (sym is_after) (rest n)
+
+-- ---- the frame, with packet number 1: under a key with a salt, or with one of no octets
+
+pub data Salt : Type 0 where
+  Zeros : Salt
+  Empty : Salt
+
+abbrev of_salt : Salt → List ℕ
+of_salt Zeros = no_salt
+of_salt Empty = []
+
+abbrev options : TxOptions
+options = tx_options (start (config_of sci_b))
+
+abbrev iv : Salt → List ℕ
+iv s = iv_of Xpn128 sci_b 1 (of_salt s) 1
+
+abbrev aad : List ℕ
+aad = aad_sent options (key_at no_salt 1 1) (tx_from 1) (client 1)
+
+abbrev use_by : Salt → Sealed → CipherUse
+use_by s it = cipher_use (key_at (of_salt s) 1 1) (iv s) (parts_with (tag_sent options (tx_from 1) (client 1)) (client 1) it)
+
+abbrev icv : Salt → List ℕ
+icv s = tag_of bytes (iv s) aad
+
+abbrev frame_of : List ℕ → List ℕ
+frame_of t = frame_with (tag_sent options (tx_from 1) (client 1)) (client 1) (with_tag t)
+
+abbrev use_of : Salt → CipherUse
+use_of s = use_by s (with_tag (icv s))
+
+opens_it : (s : Salt) → open_of bytes (iv s) aad [] (items 16 (icv s)) ≡ Some []
+opens_it s = opens bytes (iv s) aad
+
+-- it is octets
+block : (s : Salt) → are_small (aes bytes (pre_counter_block (iv s))) ≡ true
+unfolding sum_with_stream pre_counter_block aes after_rounds add_round_key round_key mix_columns shift_rows sub_bytes key_expansion key_words added_word sum_of_words sub_word rot_word
+    s_box affine_transformation inverse byte_product remainder polynomial_product sum_below
+block Zeros = refl
+block Empty = refl
+
+abbrev front : List ℕ
+front = take 22 (frame_of [])
+
+octets : (s : Salt) → AreOctets (frame_of (icv s))
+octets s =
+    All-append (λ x. x < 256) front (items 16 (icv s)) (small front refl)
+    (subst AreOctets (ap (λ (it : Sealed). it.1) (sealed bytes (iv s) aad)) (tag_is bytes (iv s) aad (small_at (aes bytes (pre_counter_block (iv s))) (block s))))
+
+-- ---- the run that sends it, at either end
+
+abbrev frame_in : KeepingInput
+frame_in = endpoint_input (client_frame (client 1))
+
+abbrev sa_in : KeepingInput
+sa_in = command (TxSa 0 0 1 false)
+
+abbrev on_in : KeepingInput
+on_in = command (TxOn 0)
+
+abbrev report_in : KeepingInput
+report_in = now_durable reserved_2
+
+abbrev sends : Salt → List KeepingInput
+sends s = command (Key (new_key (of_salt s) 1)) ∷ sa_in ∷ on_in ∷ report_in ∷ frame_in ∷ []
+
+abbrev tx_state : Salt → Sci → ℕ → List TxRow → ℕ → State
+tx_state s sci unused rows count = record (start (config_of sci)) {
+  keys = key_at (of_salt s) 1 unused ∷ [];
+  tx = rows;
+  tx_counters = record no_tx_counters { out_pkts_protected = count; out_octets_protected = 2 * count };
+}
+
+abbrev sent_1 : Salt → SentIn
+sent_1 s = record { seal = use_of s; number = 1; frame = client 1 }
+
+row_is : (next : ℕ) (on : Bool) → 1 ≤ next → next ≤ 2 ^ 64 → AreTxRows (row_at next on ∷ [])
+row_is next on least most = (record { an = omega arith; key = omega arith; next_least = least; next = most }, refl, tt)
+
+may_from : (x y : Bool) → x ≡ true → y ≡ true → not (not (x && y) || false) ≡ true
+may_from true true is is' = refl
+may_from true false is is' = cc
+may_from false y is is' = cc
+
+abbrev tx_name : List ℕ
+tx_name = sending_name (salt false) bytes
+
+name_free : highest (reads []) tx_name < 1
+name_free = is_free [] tx_name 1 none_is (omega arith)
+
+abbrev tx_at : List Reservation → State → Keeping
+tx_at granted s = kept (salt false) (reads []) granted s
+
+module _ (sci : Sci) where
+  abbrev k_begun : Keeping
+  k_begun = tx_at [] (start (config_of sci))
+
+  abbrev k_key : Salt → Keeping
+  k_key s = tx_at [] (tx_state s sci 1 [] 0)
+
+  abbrev k_sa : Salt → Bool → Keeping
+  k_sa s on = tx_at [] (tx_state s sci 1 (row_at 1 on ∷ []) 0)
+
+  abbrev k_reserved : Salt → Keeping
+  k_reserved s = tx_at (reserved_2 ∷ []) (tx_state s sci 1 (row_at 1 true ∷ []) 0)
+
+  abbrev k_sent : Salt → Keeping
+  k_sent s = tx_at (reserved_2 ∷ []) (tx_state s sci 2 (row_at 2 true ∷ []) 1)
+
+  seals : (s : Salt) → use_sent (tx_options (start (config_of sci))) (key_at (of_salt s) 1 1) (row_at 1 true) (client 1) ≡ use_of s
+  seals s = ap (use_by s) (sealed bytes (iv s) aad)
+
+  installs : (s : Salt) → (keeping_step k_begun (command (Key (new_key (of_salt s) 1)))).1 ≡ k_key s
+  installs Zeros = command_step k_begun (Key (new_key no_salt 1)) refl
+  installs Empty = command_step k_begun (Key (new_key [] 1)) refl
+
+  makes : (s : Salt) → (keeping_step (k_key s) sa_in).1 ≡ k_sa s false
+  makes Zeros = command_step (k_key Zeros) (TxSa 0 0 1 false) (is_new (reads []) tx_name 1 name_free)
+  makes Empty = command_step (k_key Empty) (TxSa 0 0 1 false) (is_new (reads []) tx_name 1 name_free)
+
+  turns_on : (s : Salt) → (keeping_step (k_sa s false) on_in).1 ≡ k_sa s true
+  turns_on Zeros = command_step (k_sa Zeros false) (TxOn 0) refl
+  turns_on Empty = command_step (k_sa Empty false) (TxOn 0) refl
+
+  reserves : (s : Salt) → (keeping_step (k_sa s true) report_in).1 ≡ k_reserved s
+  reserves s =
+      ap (λ (same : Bool). tx_at ((if same then record { name = tx_name; last = max 0 2 } else record { name = tx_name; last = 0 }) ∷ []) (tx_state s sci 1 (row_at 1 true ∷ []) 0)) (same_octets-refl tx_name)
+
+  goes : (s : Salt) → may_go (k_reserved s) (client_frame (client 1)) ≡ true
+  goes s = may_from _ _ (lt-ltb (highest (reads []) tx_name) 1 name_free) (ap (λ (same : Bool). nat_le 1 (if same then max 2 0 else 0)) (same_octets-refl tx_name))
+
+  lists : (s : Salt) → newly_sent (k_reserved s) frame_in ≡ sent_1 s ∷ []
+  lists s =
+      ap (λ (b : Bool). if b then sent_by (k_reserved s).secy (client 1) (frame_fault (client 1)) (sending_of (k_reserved s).secy (client 1)).by else []) (goes s)
+      ∙ ap (λ (seal : CipherUse). record { seal = seal; number = 1; frame = client 1 } ∷ []) (seals s)
+
+  sender_does : (s : Salt) → Does k_begun (sends s) (sent_1 s ∷ []) [] (k_sent s)
+  sender_does s =
+      does_next k_begun (k_key s) (k_sent s) (command (Key (new_key (of_salt s) 1))) (sa_in ∷ on_in ∷ report_in ∷ frame_in ∷ []) [] (sent_1 s ∷ []) [] [] refl refl (installs s)
+      (does_next (k_key s) (k_sa s false) (k_sent s) sa_in (on_in ∷ report_in ∷ frame_in ∷ []) [] (sent_1 s ∷ []) [] [] refl refl (makes s)
+      (does_next (k_sa s false) (k_sa s true) (k_sent s) on_in (report_in ∷ frame_in ∷ []) [] (sent_1 s ∷ []) [] [] refl refl (turns_on s)
+      (does_next (k_sa s true) (k_reserved s) (k_sent s) report_in (frame_in ∷ []) [] (sent_1 s ∷ []) [] [] refl refl (reserves s)
+      (does_next (k_reserved s) (k_sent s) (k_sent s) frame_in [] (sent_1 s ∷ []) [] [] [] (lists s) refl (frame_step (k_reserved s) (client 1) (goes s)) (does_end (k_sent s))))))
+
+  module _ (is_sci : IsSci sci) where
+    start_sound : IsSound (start (config_of sci))
+    start_sound = at_start (config_of sci) refl is_sci (record { keys = tt; tx = tt; rx = none_are })
+
+    key_sound : IsSound (tx_state Zeros sci 1 [] 0)
+    key_sound = after_effect (start (config_of sci)) (Key (new_key no_salt 1)) refl (record { keys = key_is 1 1 (omega arith) (omega arith) (omega arith); tx = tt; rx = none_are }) start_sound
+
+    sa_sound : IsSound (tx_state Zeros sci 1 (row_at 1 false ∷ []) 0)
+    sa_sound =
+        after_effect (tx_state Zeros sci 1 [] 0) (TxSa 0 0 1 false) refl
+        (record { keys = key_is 1 1 (omega arith) (omega arith) (omega arith); tx = row_is 1 false (omega arith) (omega arith); rx = none_are }) key_sound
+
+    on_sound : IsSound (tx_state Zeros sci 1 (row_at 1 true ∷ []) 0)
+    on_sound =
+        after_effect (tx_state Zeros sci 1 (row_at 1 false ∷ []) 0) (TxOn 0) refl
+        (record { keys = key_is 1 1 (omega arith) (omega arith) (omega arith); tx = row_is 1 true (omega arith) (omega arith); rx = none_are }) sa_sound
+
+    sent_sound : IsSound (tx_state Zeros sci 2 (row_at 2 true ∷ []) 1)
+    sent_sound =
+        after_client_frame (tx_state Zeros sci 1 (row_at 1 true ∷ []) 0) (client 1)
+        (record { keys = key_is 1 2 (omega arith) (omega arith) (omega arith); tx = row_is 2 true (omega arith) (omega arith); rx = none_are }) on_sound
+
+    sender_sound : StaysSound k_begun (sends Zeros)
+    sender_sound =
+        sound_next k_begun (k_key Zeros) (command (Key (new_key no_salt 1))) (sa_in ∷ on_in ∷ report_in ∷ frame_in ∷ []) start_sound (installs Zeros)
+        (sound_next (k_key Zeros) (k_sa Zeros false) sa_in (on_in ∷ report_in ∷ frame_in ∷ []) key_sound (makes Zeros)
+        (sound_next (k_sa Zeros false) (k_sa Zeros true) on_in (report_in ∷ frame_in ∷ []) sa_sound (turns_on Zeros)
+        (sound_next (k_sa Zeros true) (k_reserved Zeros) report_in (frame_in ∷ []) on_sound (reserves Zeros)
+        (sound_next (k_reserved Zeros) (k_sent Zeros) frame_in [] on_sound (frame_step (k_reserved Zeros) (client 1) (goes Zeros)) (sound_end (k_sent Zeros) sent_sound)))))
+
+abbrev run_s : Salt → Sci → Run
+run_s s sci = record { journal = journal false []; config = config_of sci; inputs = sends s }
+
+-- ---- B receives it: with the same salt, from packet number 1 on; from 2^32 on, with a salt that flips the lowest bit of the
+-- upper half, or with one of no octets
+
+pub data Receiver : Type 0 where
+  Same : Receiver
+  Salted : Receiver
+  Unsalted : Receiver
+
+-- the salt at the sender
+abbrev sender_salt : Receiver → Salt
+sender_salt Same = Zeros
+sender_salt Salted = Zeros
+sender_salt Unsalted = Empty
+
+abbrev salt_of_key : Receiver → List ℕ
+salt_of_key Same = no_salt
+salt_of_key Salted = replicate 7 0 ++ 1 ∷ replicate 4 0
+salt_of_key Unsalted = []
+
+abbrev lowest_of : Receiver → ℕ
+lowest_of Same = 1
+lowest_of Salted = 2 ^ 32
+lowest_of Unsalted = 2 ^ 32
+
+abbrev number_of : Receiver → ℕ
+number_of Same = 1
+number_of Salted = 2 ^ 32 + 1
+number_of Unsalted = 2 ^ 32 + 1
+
+abbrev rx_key : Receiver → InstalledKey
+rx_key r = key_at (salt_of_key r) 2 1
+
+abbrev with_key : Receiver → State
+with_key r = effect (start (config_of sci_b)) (Key (new_key (salt_of_key r) 2))
+
+abbrev with_sc : Receiver → State
+with_sc r = effect (with_key r) (RxSc sci_a)
+
+abbrev with_sa : Receiver → State
+with_sa r = effect (with_sc r) (RxSa sci_a 0 0 1 (lowest_of r))
+
+abbrev ready : Receiver → State
+ready r = effect (with_sa r) (RxOn sci_a 0)
+
+abbrev key_in : Receiver → KeepingInput
+key_in r = command (Key (new_key (salt_of_key r) 2))
+
+abbrev sc_in : KeepingInput
+sc_in = command (RxSc sci_a)
+
+abbrev rx_sa_in : Receiver → KeepingInput
+rx_sa_in r = command (RxSa sci_a 0 0 1 (lowest_of r))
+
+abbrev rx_on_in : KeepingInput
+rx_on_in = command (RxOn sci_a 0)
+
+abbrev commands : Receiver → List KeepingInput
+commands r = key_in r ∷ sc_in ∷ rx_sa_in r ∷ rx_on_in ∷ []
+
+abbrev f : Receiver → List ℕ
+f r = frame_of (icv (sender_salt r))
+
+abbrev link : Receiver → KeepingInput
+link r = endpoint_input (link_frame (f r))
+
+abbrev accepts : Receiver → Judgement
+accepts r = at_row (rx_from (lowest_of r)) (number_of r) 13 Passed (Some (client 1))
+
+iv_is : (r : Receiver) → iv_of Xpn128 sci_a 1 (salt_of_key r) (number_of r) ≡ iv (sender_salt r)
+unfolding sum_with_stream
+iv_is Same = refl
+iv_is Salted = refl
+iv_is Unsalted = refl
+
+opens_as : (r : Receiver) → open_of bytes (iv_of Xpn128 sci_a 1 (salt_of_key r) (number_of r)) aad [] (items 16 (icv (sender_salt r))) ≡ Some []
+opens_as r = ap (λ (i : List ℕ). open_of bytes i aad [] (items 16 (icv (sender_salt r)))) (iv_is r) ∙ opens_it (sender_salt r)
+
+judged : (r : Receiver) → judgement_of (ready r) (f r) ≡ accepts r
+judged Same = ap (judge_opened (rx_options (ready Same)) (rx_key Same) (rx_from 1) 1 (parts_at (f Same))) (opens_as Same)
+judged Salted = ap (judge_opened (rx_options (ready Salted)) (rx_key Salted) (rx_from (2 ^ 32)) (2 ^ 32 + 1) (parts_at (f Salted))) (opens_as Salted)
+judged Unsalted = ap (judge_opened (rx_options (ready Unsalted)) (rx_key Unsalted) (rx_from (2 ^ 32)) (2 ^ 32 + 1) (parts_at (f Unsalted))) (opens_as Unsalted)
+
+abbrev heard : Receiver → State
+heard r = state_after_receiving (ready r) (f r) (accepts r)
+
+is_heard : (r : Receiver) → (step (ready r) (link_frame (f r))).1 ≡ heard r
+is_heard Same = ap (λ (j : Judgement). state_after_receiving (ready Same) (f Same) j) (judged Same)
+is_heard Salted = ap (λ (j : Judgement). state_after_receiving (ready Salted) (f Salted) j) (judged Salted)
+is_heard Unsalted = ap (λ (j : Judgement). state_after_receiving (ready Unsalted) (f Unsalted) j) (judged Unsalted)
+
+abbrev delivery : Receiver → Delivery
+delivery r = record { bytes = bytes; sci = sci_a; an = 0; number = number_of r; frame = client 1 }
+
+module _ (before : List Reservation) (free : highest (reads before) (name_of (salt false)) < 1) where
+  abbrev at : State → Keeping
+  at s = kept (salt false) (reads before) [] s
+
+  keyed : (r : Receiver) → (keeping_step (at (start (config_of sci_b))) (key_in r)).1 ≡ at (with_key r)
+  keyed Same = command_step (at (start (config_of sci_b))) (Key (new_key no_salt 2)) refl
+  keyed Salted = command_step (at (start (config_of sci_b))) (Key (new_key (salt_of_key Salted) 2)) refl
+  keyed Unsalted = command_step (at (start (config_of sci_b))) (Key (new_key [] 2)) refl
+
+  channelled : (r : Receiver) → (keeping_step (at (with_key r)) sc_in).1 ≡ at (with_sc r)
+  channelled Same = command_step (at (with_key Same)) (RxSc sci_a) refl
+  channelled Salted = command_step (at (with_key Salted)) (RxSc sci_a) refl
+  channelled Unsalted = command_step (at (with_key Unsalted)) (RxSc sci_a) refl
+
+  creates : (r : Receiver) → (keeping_step (at (with_sc r)) (rx_sa_in r)).1 ≡ at (with_sa r)
+  creates Same = command_step (at (with_sc Same)) (RxSa sci_a 0 0 1 1) (is_new (reads before) (name_of (salt false)) 1 free)
+  creates Salted = command_step (at (with_sc Salted)) (RxSa sci_a 0 0 1 (2 ^ 32)) (is_new (reads before) (name_of (salt false)) (2 ^ 32) (omega (arith, free)))
+  creates Unsalted = command_step (at (with_sc Unsalted)) (RxSa sci_a 0 0 1 (2 ^ 32)) (is_new (reads before) (name_of (salt false)) (2 ^ 32) (omega (arith, free)))
+
+  enables : (r : Receiver) → (keeping_step (at (with_sa r)) rx_on_in).1 ≡ at (ready r)
+  enables Same = command_step (at (with_sa Same)) (RxOn sci_a 0) refl
+  enables Salted = command_step (at (with_sa Salted)) (RxOn sci_a 0) refl
+  enables Unsalted = command_step (at (with_sa Unsalted)) (RxOn sci_a 0) refl
+
+  hears : (r : Receiver) → (keeping_step (at (ready r)) (link r)).1 ≡ at (heard r)
+  hears r = link_step (at (ready r)) (f r) ∙ ap at (is_heard r)
+
+  gives : (r : Receiver) → newly_delivered (at (ready r)) (link r) ≡ delivery r ∷ []
+  gives Same = ap (λ (j : Judgement). delivered_by (ready Same) j None j.row j.delivered) (judged Same)
+  gives Salted = ap (λ (j : Judgement). delivered_by (ready Salted) j None j.row j.delivered) (judged Salted)
+  gives Unsalted = ap (λ (j : Judgement). delivered_by (ready Unsalted) j None j.row j.delivered) (judged Unsalted)
+
+  does_from : (r : Receiver) (inputs : List KeepingInput) (ds : List Delivery) (last : Keeping) → Does (at (ready r)) inputs [] ds last →
+      Does (at (start (config_of sci_b))) (commands r ++ inputs) [] ds last
+  does_from r inputs ds last rest =
+      does_next (at (start (config_of sci_b))) (at (with_key r)) last (key_in r) (sc_in ∷ rx_sa_in r ∷ rx_on_in ∷ inputs) [] [] [] ds refl refl (keyed r)
+      (does_next (at (with_key r)) (at (with_sc r)) last sc_in (rx_sa_in r ∷ rx_on_in ∷ inputs) [] [] [] ds refl refl (channelled r)
+      (does_next (at (with_sc r)) (at (with_sa r)) last (rx_sa_in r) (rx_on_in ∷ inputs) [] [] [] ds refl refl (creates r)
+      (does_next (at (with_sa r)) (at (ready r)) last rx_on_in inputs [] [] [] ds refl refl (enables r) rest)))
+
+  receiver_does : (r : Receiver) → Does (at (start (config_of sci_b))) (commands r ++ link r ∷ []) [] (delivery r ∷ []) (at (heard r))
+  receiver_does r =
+      does_from r (link r ∷ []) (delivery r ∷ []) (at (heard r))
+      (does_next (at (ready r)) (at (heard r)) (at (heard r)) (link r) [] [] [] (delivery r ∷ []) [] refl (gives r) (hears r) (does_end (at (heard r))))
+
+  genuine : (r : Receiver) (uses : List CipherUse) → Contains uses (use_of (sender_salt r)) → IfSome (use_opened (ready r) (f r)) (Contains uses)
+  genuine Same uses there =
+      genuine_at (ready Same) (f Same) (accepts Same) uses (judged Same) (subst (λ (i : List ℕ). Contains uses (record (use_of Zeros) { iv = i })) (sym (iv_is Same)) there)
+  genuine Salted uses there =
+      genuine_at (ready Salted) (f Salted) (accepts Salted) uses (judged Salted) (subst (λ (i : List ℕ). Contains uses (record (use_of Zeros) { iv = i })) (sym (iv_is Salted)) there)
+  genuine Unsalted uses there =
+      genuine_at (ready Unsalted) (f Unsalted) (accepts Unsalted) uses (judged Unsalted) (subst (λ (i : List ℕ). Contains uses (record (use_of Empty) { iv = i })) (sym (iv_is Unsalted)) there)
+
+  strict : (left_out : Premise) (r : Receiver) → HasStrictOrderBut left_out (ready r)
+  strict left_out Same = record { mode = λ n. refl; replay = λ n. refl; window = λ n. refl }
+  strict left_out Salted = record { mode = λ n. refl; replay = λ n. refl; window = λ n. refl }
+  strict left_out Unsalted = record { mode = λ n. refl; replay = λ n. refl; window = λ n. refl }
+
+  receiver_steps : (left_out : Premise) (r : Receiver) (b : Run) → opening b ≡ at (start (config_of sci_b)) → (uses : List CipherUse) → Contains uses (use_of (sender_salt r)) →
+      AreSteps left_out bytes sci_a 0 (opening b) [] uses (commands r ++ link r ∷ [])
+  receiver_steps left_out r b opened uses there =
+      after_own left_out bytes sci_a 0 (commands r) (link r ∷ []) (opening b) uses (tt, (tt, (tt, (tt, tt))))
+      (subst (λ (k : Keeping). AreSteps left_out bytes sci_a 0 k [] uses (link r ∷ []))
+      (sym (ap (λ (k : Keeping). keeping_after k (commands r)) opened ∙ (does_from r [] [] (at (ready r)) (does_end (at (ready r)))).ends))
+      (step_next left_out bytes sci_a 0 (at (ready r)) (at (heard r)) [] (delivery r ∷ []) uses (link r) []
+      (record {
+        genuine = λ d. genuine r uses there;
+        octets = octets (sender_salt r);
+        order = λ d among. strict left_out r;
+        creates = λ d row there' under fresh. All-nil (λ (d' : Delivery). d'.number < row.next);
+      }) (hears r) (gives r) no_step))
+
+  -- ---- it is sound, with a salt of 12 octets
+
+  abbrev has_salt : Receiver → Bool
+  has_salt Same = true
+  has_salt Salted = true
+  has_salt Unsalted = false
+
+  rx_start : IsSound (start (config_of sci_b))
+  rx_start = at_start (config_of sci_b) refl other_sci (record { keys = tt; tx = tt; rx = none_are })
+
+  rx_key_is : (r : Receiver) → has_salt r ≡ true → AreKeyRows (rx_key r ∷ [])
+  rx_key_is Same is = (record { number = omega arith; bytes = refl; salt = refl; ssci = omega arith; first_unused_least = omega arith; first_unused = omega arith }, refl, tt)
+  rx_key_is Salted is = (record { number = omega arith; bytes = refl; salt = refl; ssci = omega arith; first_unused_least = omega arith; first_unused = omega arith }, refl, tt)
+  rx_key_is Unsalted is = cc
+
+  rx_key_sound : (r : Receiver) → has_salt r ≡ true → IsSound (with_key r)
+  rx_key_sound Same is = after_effect (start (config_of sci_b)) (Key (new_key no_salt 2)) refl (record { keys = rx_key_is Same is; tx = tt; rx = none_are }) rx_start
+  rx_key_sound Salted is = after_effect (start (config_of sci_b)) (Key (new_key (salt_of_key Salted) 2)) refl (record { keys = rx_key_is Salted is; tx = tt; rx = none_are }) rx_start
+  rx_key_sound Unsalted is = cc
+
+  rx_sc_sound : (r : Receiver) → has_salt r ≡ true → IsSound (with_sc r)
+  rx_sc_sound Same is = after_effect (with_key Same) (RxSc sci_a) refl (record { keys = rx_key_is Same is; tx = tt; rx = channels_are [] tt }) (rx_key_sound Same is)
+  rx_sc_sound Salted is = after_effect (with_key Salted) (RxSc sci_a) refl (record { keys = rx_key_is Salted is; tx = tt; rx = channels_are [] tt }) (rx_key_sound Salted is)
+  rx_sc_sound Unsalted is = cc
+
+  rx_sa_sound : (r : Receiver) → has_salt r ≡ true → IsSound (with_sa r)
+  rx_sa_sound Same is =
+      after_effect (with_sc Same) (RxSa sci_a 0 0 1 1) refl (record { keys = rx_key_is Same is; tx = tt; rx = tables 1 1 false (omega arith) (omega arith) (omega arith) }) (rx_sc_sound Same is)
+  rx_sa_sound Salted is =
+      after_effect (with_sc Salted) (RxSa sci_a 0 0 1 (2 ^ 32)) refl
+      (record { keys = rx_key_is Salted is; tx = tt; rx = tables (2 ^ 32) (2 ^ 32) false (omega arith) (omega arith) (omega arith) }) (rx_sc_sound Salted is)
+  rx_sa_sound Unsalted is = cc
+
+  ready_sound : (r : Receiver) → has_salt r ≡ true → IsSound (ready r)
+  ready_sound Same is =
+      after_effect (with_sa Same) (RxOn sci_a 0) refl (record { keys = rx_key_is Same is; tx = tt; rx = tables 1 1 true (omega arith) (omega arith) (omega arith) }) (rx_sa_sound Same is)
+  ready_sound Salted is =
+      after_effect (with_sa Salted) (RxOn sci_a 0) refl
+      (record { keys = rx_key_is Salted is; tx = tt; rx = tables (2 ^ 32) (2 ^ 32) true (omega arith) (omega arith) (omega arith) }) (rx_sa_sound Salted is)
+  ready_sound Unsalted is = cc
+
+  heard_is_sound : (r : Receiver) → has_salt r ≡ true → IsSound (heard r)
+  heard_is_sound Same is =
+      heard_sound (ready Same) (f Same) (accepts Same) (is_heard Same)
+      (record { keys = rx_key_is Same is; tx = tt; rx = tables 2 2 true (omega arith) (omega arith) (omega arith) }) (ready_sound Same is)
+  heard_is_sound Salted is =
+      heard_sound (ready Salted) (f Salted) (accepts Salted) (is_heard Salted)
+      (record { keys = rx_key_is Salted is; tx = tt; rx = tables (2 ^ 32 + 2) (2 ^ 32 + 2) true (omega arith) (omega arith) (omega arith) }) (ready_sound Salted is)
+  heard_is_sound Unsalted is = cc
+
+  receiver_sound : (r : Receiver) → has_salt r ≡ true → StaysSound (at (start (config_of sci_b))) (commands r ++ link r ∷ [])
+  receiver_sound r is =
+      sound_next (at (start (config_of sci_b))) (at (with_key r)) (key_in r) (sc_in ∷ rx_sa_in r ∷ rx_on_in ∷ link r ∷ []) rx_start (keyed r)
+      (sound_next (at (with_key r)) (at (with_sc r)) sc_in (rx_sa_in r ∷ rx_on_in ∷ link r ∷ []) (rx_key_sound r is) (channelled r)
+      (sound_next (at (with_sc r)) (at (with_sa r)) (rx_sa_in r) (rx_on_in ∷ link r ∷ []) (rx_sc_sound r is) (creates r)
+      (sound_next (at (with_sa r)) (at (ready r)) rx_on_in (link r ∷ []) (rx_sa_sound r is) (enables r)
+      (sound_next (at (ready r)) (at (heard r)) (link r) [] (ready_sound r is) (hears r) (sound_end (at (heard r)) (heard_is_sound r is))))))
+
+-- what holds of the keys of two runs
+of_last : (R : InstalledKey → InstalledKey → Type 0) (p q : Run) (x y : InstalledKey) → (closing p).secy.keys ≡ x ∷ [] → (closing q).secy.keys ≡ y ∷ [] → R x y →
+    (x' y' : InstalledKey) → Contains (closing p).secy.keys x' → Contains (closing q).secy.keys y' → R x' y'
+of_last R p q x y keys keys' holds x' y' there there' =
+    let first = only x x' (subst (λ (ks : List InstalledKey). Contains ks x') keys there) in
+    let second = only y y' (subst (λ (ks : List InstalledKey). Contains ks y') keys' there') in
+    subst (λ (z : InstalledKey). R z y') first (subst (R x) second holds)
+
+abbrev IsSoundRun : Run → Type 0
+IsSoundRun run = StaysSound (opening run) run.inputs
+
+-- ---- B has another own SSCI in its second run, and delivers what it sent in the first one
+
+abbrev run_r : Run
+run_r = record { journal = journal false (reserved_2 ∷ []); config = config_of sci_b; inputs = commands Same ++ link Same ∷ [] }
+
+abbrev first_run : Run
+first_run = run_s Zeros sci_b
+
+free_r : highest (reads (reserved_2 ∷ [])) (name_of (salt false)) < 1
+free_r = is_free (reserved_2 ∷ []) (name_of (salt false)) 1 reserved_is (omega (arith, highest_of_one reserved_2 (name_of (salt false)) false names_differ))
+
+does_s : Does (opening first_run) (sends Zeros) (sent_1 Zeros ∷ []) [] (k_sent sci_b Zeros)
+does_s = sender_does sci_b Zeros
+
+does_r : Does (opening run_r) (commands Same ++ link Same ∷ []) [] (delivery Same ∷ []) (at (reserved_2 ∷ []) free_r (heard Same))
+does_r = receiver_does (reserved_2 ∷ []) free_r Same
+
+sealed_s : Contains (sealed_in_all [] ++ sealed_in_all (first_run ∷ [])) (use_of Zeros)
+sealed_s =
+    subst (λ (us : List CipherUse). Contains us (use_of Zeros)) (sym (seals_are (first_run ∷ []) (sent_1 Zeros ∷ []) (ap (λ (xs : List SentIn). xs ++ []) does_s.sends))) (0, omega arith, refl)
+
+none_yet : delivered_in_all (first_run ∷ []) ≡ []
+none_yet = ap (λ (xs : List Delivery). xs ++ []) does_s.delivers
+
+abbrev reflected : List EndRun
+reflected = (B, first_run) ∷ (B, run_r) ∷ []
+
+reflected_peers : ArePeersBut KeepsSsci (blocks reflected)
+reflected_peers = record {
+  a = subst (IsHistoryBut KeepsSsci) (sym (runs_of-blocks A reflected))
+      (record { sound = λ d. All-nil IsSoundRun; agree = no_pairs AgreeOnKeys; salt = no_pairs SameSalt; durable = no_pairs KeepsDurable });
+  b = subst (IsHistoryBut KeepsSsci) (sym (runs_of-blocks B reflected)) (record {
+    sound = λ d. both IsSoundRun first_run run_r (sender_sound sci_b other_sci) (receiver_sound (reserved_2 ∷ []) free_r Same refl);
+    agree = pair AgreeOnKeys first_run run_r
+        (of_last (λ x y. x.bytes ≡ y.bytes → AgreeOnKey x y) first_run run_r (key_at no_salt 1 2) (key_at no_salt 2 1)
+        (ap (λ (k : Keeping). k.secy.keys) does_s.ends) (ap (λ (k : Keeping). k.secy.keys) does_r.ends) (λ same. record { suite = refl; salt = λ xpn. refl }));
+    salt = pair SameSalt first_run run_r refl;
+    durable = pair KeepsDurable first_run run_r (is_durable reserved_2 reserved_is);
+  });
+  apart = subst (λ (ra : List Run). All (λ run. All (AreOfTwoEndsBut KeepsSsci run) (runs_of B (blocks reflected))) ra) (sym (runs_of-blocks A reflected))
+      (All-nil (λ run. All (AreOfTwoEndsBut KeepsSsci run) (runs_of B (blocks reflected))));
+  one_a = subst (AllPairs (IsSameEndBut KeepsSsci)) (sym (runs_of-blocks A reflected)) (no_pairs (IsSameEndBut KeepsSsci));
+  one_b = subst (AllPairs (IsSameEndBut KeepsSsci)) (sym (runs_of-blocks B reflected)) (pair (IsSameEndBut KeepsSsci) first_run run_r (record { sci = λ d. refl; ssci = λ d. absurd (d refl) }));
+}
+
+pub same_ssci_needed : LawWithout KeepsSsci (blocks reflected) → ⊥
+same_ssci_needed =
+    refuted KeepsSsci reflected [] (delivery Same ∷ []) (
+      (
+        (λ d. nothing_saved first_run.journal),
+        after_own KeepsSsci bytes sci_a 0 (sends Zeros) [] (opening first_run) (sealed_in_all [] ++ sealed_in_all []) (tt, (tt, (tt, (tt, (tt, tt))))) no_step,
+      ),
+      (
+        (
+          (λ d. subst (λ (xs : List Delivery). SavedIn run_r.journal bytes sci_a 0 (delivered_at bytes sci_a 0 xs)) (sym none_yet) (nothing_saved run_r.journal)),
+          receiver_steps (reserved_2 ∷ []) free_r KeepsSsci Same run_r refl (sealed_in_all [] ++ sealed_in_all (first_run ∷ [])) sealed_s,
+        ),
+        tt,
+      ),
+    )
+    reflected_peers refl
+    (ap (λ (xs : List Delivery). xs ++ delivered_in_all (run_r ∷ [])) does_s.delivers ∙ ap (λ (xs : List Delivery). xs ++ []) does_r.delivers)
+    (not_of_none (1 ∷ client 1))
+
+-- ---- the key has another salt at B, or none at both: B delivers A's frame with another packet number
+
+abbrev run_b : Receiver → Run
+run_b r = record { journal = journal false []; config = config_of sci_b; inputs = commands r ++ link r ∷ [] }
+
+abbrev run_a : Receiver → Run
+run_a r = run_s (sender_salt r) sci_a
+
+free_b : highest (reads []) (name_of (salt false)) < 1
+free_b = is_free [] (name_of (salt false)) 1 none_is (omega arith)
+
+does_a : (r : Receiver) → Does (opening (run_a r)) (sends (sender_salt r)) (sent_1 (sender_salt r) ∷ []) [] (k_sent sci_a (sender_salt r))
+does_a r = sender_does sci_a (sender_salt r)
+
+does_b : (r : Receiver) → Does (opening (run_b r)) (commands r ++ link r ∷ []) [] (delivery r ∷ []) (at [] free_b (heard r))
+does_b r = receiver_does [] free_b r
+
+sealed_a : (r : Receiver) → Contains (sealed_in_all (run_a r ∷ []) ++ sealed_in_all []) (use_of (sender_salt r))
+sealed_a r =
+    subst (λ (us : List CipherUse). Contains (us ++ []) (use_of (sender_salt r)))
+    (sym (seals_are (run_a r ∷ []) (sent_1 (sender_salt r) ∷ []) (ap (λ (xs : List SentIn). xs ++ []) (does_a r).sends))) (0, omega arith, refl)
+
+abbrev shifted : Receiver → List EndRun
+shifted r = (A, run_a r) ∷ (B, run_b r) ∷ []
+
+one_history : (left_out : Premise) (run : Run) → (StaysSoundAlways ≢ left_out → IsSoundRun run) → IsHistoryBut left_out (run ∷ [])
+one_history left_out run sound = record {
+  sound = λ d. All-cons IsSoundRun run [] (sound d) (All-nil IsSoundRun);
+  agree = one_alone AgreeOnKeys run;
+  salt = one_alone SameSalt run;
+  durable = one_alone KeepsDurable run;
+}
+
+shifted_peers : (left_out : Premise) (r : Receiver) → (StaysSoundAlways ≢ left_out → IsSoundRun (run_a r)) → (StaysSoundAlways ≢ left_out → IsSoundRun (run_b r)) →
+    AreOfTwoEndsBut left_out (run_a r) (run_b r) → ArePeersBut left_out (blocks (shifted r))
+shifted_peers left_out r sound sound' apart = record {
+  a = subst (IsHistoryBut left_out) (sym (runs_of-blocks A (shifted r))) (one_history left_out (run_a r) sound);
+  b = subst (IsHistoryBut left_out) (sym (runs_of-blocks B (shifted r))) (one_history left_out (run_b r) sound');
+  apart = subst (λ (ra : List Run). All (λ run. All (AreOfTwoEndsBut left_out run) (runs_of B (blocks (shifted r)))) ra) (sym (runs_of-blocks A (shifted r)))
+      (subst (λ (rb : List Run). All (λ run. All (AreOfTwoEndsBut left_out run) rb) (run_a r ∷ [])) (sym (runs_of-blocks B (shifted r)))
+      (All-cons (λ run. All (AreOfTwoEndsBut left_out run) (run_b r ∷ [])) (run_a r) []
+      (All-cons (AreOfTwoEndsBut left_out (run_a r)) (run_b r) [] apart (All-nil (AreOfTwoEndsBut left_out (run_a r))))
+      (All-nil (λ run. All (AreOfTwoEndsBut left_out run) (run_b r ∷ [])))));
+  one_a = subst (AllPairs (IsSameEndBut left_out)) (sym (runs_of-blocks A (shifted r))) (one_alone (IsSameEndBut left_out) (run_a r));
+  one_b = subst (AllPairs (IsSameEndBut left_out)) (sym (runs_of-blocks B (shifted r))) (one_alone (IsSameEndBut left_out) (run_b r));
+}
+
+ends_apart : (left_out : Premise) (r : Receiver) → AgreeAtBothBut left_out (key_at (of_salt (sender_salt r)) 1 2) (rx_key r) → AreOfTwoEndsBut left_out (run_a r) (run_b r)
+ends_apart left_out r agree = record {
+  sci = scis_differ sci_a sci_b (λ differ. omega (arith, differ));
+  keys = of_last (λ x y. x.bytes ≡ y.bytes → AgreeAtBothBut left_out x y) (run_a r) (run_b r) (key_at (of_salt (sender_salt r)) 1 2) (rx_key r)
+      (ap (λ (k : Keeping). k.secy.keys) (does_a r).ends) (keys_at_end r) (λ same. agree);
+}
+  where
+    keys_at_end : (r' : Receiver) → (closing (run_b r')).secy.keys ≡ rx_key r' ∷ []
+    keys_at_end Same = ap (λ (k : Keeping). k.secy.keys) (does_b Same).ends
+    keys_at_end Salted = ap (λ (k : Keeping). k.secy.keys) (does_b Salted).ends
+    keys_at_end Unsalted = ap (λ (k : Keeping). k.secy.keys) (does_b Unsalted).ends
+
+-- what is delivered has another packet number than what was sent
+not_of_other : (m n : ℕ) (x y : List ℕ) → (m ≡ n → ⊥) → IsSubsequence ((m ∷ x) ∷ []) ((n ∷ y) ∷ []) → ⊥
+not_of_other m n x y differ it = by_places it.0 it.2
+  where
+    by_places : (places : List ℕ) → map (slice_get ((n ∷ y) ∷ [])) places ≡ Some (m ∷ x) ∷ [] → ⊥
+    by_places [] same = cc
+    by_places (zero ∷ ps) same = let one : n ≡ m = cc in differ (sym one)
+    by_places (suc p ∷ ps) same = cc
+
+own_a : AreOwn (sends Zeros)
+own_a = (tt, (tt, (tt, (tt, (tt, tt)))))
+
+own_unsalted : AreOwn (sends Empty)
+own_unsalted = (tt, (tt, (tt, (tt, (tt, tt)))))
+
+pub same_salt_needed : LawWithout HasOneSalt (blocks (shifted Salted)) → ⊥
+same_salt_needed =
+    refuted HasOneSalt (shifted Salted) (sent_1 Zeros ∷ []) (delivery Salted ∷ [])
+    (own_a, (((λ d. nothing_saved (run_b Salted).journal), receiver_steps [] free_b HasOneSalt Salted (run_b Salted) refl (sealed_in_all (run_a Salted ∷ []) ++ sealed_in_all []) (sealed_a Salted)), tt))
+    (shifted_peers HasOneSalt Salted (λ d. sender_sound sci_a own_sci) (λ d. receiver_sound [] free_b Salted refl)
+    (ends_apart HasOneSalt Salted (record { suite = refl; salt = λ d. absurd (d refl); ssci = λ xpn. λ same. omega (arith, same) })))
+    (ap (λ (xs : List SentIn). xs ++ []) (does_a Salted).sends) (ap (λ (xs : List Delivery). xs ++ []) (does_b Salted).delivers)
+    (not_of_other (2 ^ 32 + 1) 1 (client 1) (client 1) (λ same. omega (arith, same)))
+
+-- no call installs a key whose salt has no octets: its endpoint is not sound
+pub soundness_needed : LawWithout StaysSoundAlways (blocks (shifted Unsalted)) → ⊥
+soundness_needed =
+    refuted StaysSoundAlways (shifted Unsalted) (sent_1 Empty ∷ []) (delivery Unsalted ∷ [])
+    (own_unsalted, (((λ d. nothing_saved (run_b Unsalted).journal), receiver_steps [] free_b StaysSoundAlways Unsalted (run_b Unsalted) refl (sealed_in_all (run_a Unsalted ∷ []) ++ sealed_in_all []) (sealed_a Unsalted)), tt))
+    (shifted_peers StaysSoundAlways Unsalted (λ d. absurd (d refl)) (λ d. absurd (d refl))
+    (ends_apart StaysSoundAlways Unsalted (record { suite = refl; salt = λ d xpn. refl; ssci = λ xpn. λ same. omega (arith, same) })))
+    (ap (λ (xs : List SentIn). xs ++ []) (does_a Unsalted).sends) (ap (λ (xs : List Delivery). xs ++ []) (does_b Unsalted).delivers)
+    (not_of_other (2 ^ 32 + 1) 1 (client 1) (client 1) (λ same. omega (arith, same)))

@@ -1,0 +1,101 @@
+-- What reaches the keeping endpoints inside, where each run ends before the next one begins: the runs of the keeping
+-- endpoints.
+use Rattle.std.proofs.Common.{◌≡◌, Bool, true, false, List, [], ◌∷◌, ◌++◌, map, refl, ap, sym, ◌∙◌, append-nil, append_assoc}
+use Rattle.std.specs.Prelude.{if◌then◌else◌, option_map, Some}
+use Rattle.macsec_commands.specs.declared.event.End.{End}
+use Rattle.macsec_commands.specs.declared.event.End.TheVariants.{A, B}
+use Rattle.macsec_reserve.specs.Histories.{Run}
+use Rattle.macsec_reserve.specs.Keeping.{Keeping, KeepingInput, KeepingOutput, endpoint_input, keeping_step}
+use Rattle.macsec_secy.specs.Step.{Input}
+use Rattle.macsec_restarts.specs.Ahead.{Ahead, Standing, ahead_after, ahead_by, ahead_step, before_this_run, begins_again, closing_with, ended_after, ended_by, is_through, lets_through, not_yet, opening_with, passes, run_inside, standing, through}
+use Rattle.macsec_restarts.specs.AheadOrder.{inside_from, is_inside, reaches_inside}
+use Rattle.macsec_restarts.specs.Happenings.{Happening, begins, comes_in, last_run, runs_of, same_end}
+use Rattle.macsec_restarts.proofs.AheadInside.{stays}
+use Rattle.macsec_restarts.proofs.AheadOrder.{closing_with-input}
+use Rattle.macsec_restarts.proofs.Examples.Blocks.{EndRun, blocks}
+use Rattle.macsec_restarts.proofs.Pushed.{last_run-push, last_run-with_last, run_with, runs_of-begins, runs_of-input, with_input}
+
+-- ---- a run, input by input: what is let through, and the last state
+
+pub record Through (a : Ahead) (inputs inner : List KeepingInput) (last : Ahead) : Type 0 where
+  pub is : through a inputs ≡ inner
+  pub ends : ahead_after a inputs ≡ last
+
+pub through_end : (a : Ahead) → Through a [] [] a
+through_end a = record { is = refl; ends = refl }
+
+pub passes_next : (a after last : Ahead) (input : KeepingInput) (inputs inner : List KeepingInput) → lets_through a input ≡ true → (ahead_step a input).1 ≡ after →
+    Through after inputs inner last → Through a (input ∷ inputs) (input ∷ inner) last
+passes_next a after last input inputs inner lets is_after rest = record {
+  is = ap (λ (b : Bool). if b then input ∷ through (ahead_step a input).1 inputs else through (ahead_step a input).1 inputs) lets
+      ∙ ap (λ (x : Ahead). input ∷ through x inputs) is_after ∙ ap (λ is. input ∷ is) rest.is;
+  ends = ap (λ (x : Ahead). ahead_after x inputs) is_after ∙ rest.ends;
+}
+
+pub drops_next : (a last : Ahead) (input : KeepingInput) (inputs inner : List KeepingInput) → lets_through a input ≡ false → Through a inputs inner last → Through a (input ∷ inputs) inner last
+drops_next a last input inputs inner lets rest = record {
+  is = ap (λ (b : Bool). if b then input ∷ through (ahead_step a input).1 inputs else through (ahead_step a input).1 inputs) lets
+      ∙ ap (λ (x : Ahead). through x inputs) (stays a input lets) ∙ rest.is;
+  ends = ap (λ (x : Ahead). ahead_after x inputs) (stays a input lets) ∙ rest.ends;
+}
+
+-- the state after an input that is let through
+by_standing : (again : Bool) (it : Standing) (a : Ahead) (answer : KeepingOutput × Keeping) → is_through again it ≡ true →
+    (ahead_by again it a answer).1 ≡ record a { k = answer.1; ended = ended_after a answer.1.secy }
+by_standing true it a answer is = cc
+by_standing false passes a answer is = refl
+by_standing false (not_yet at) a answer is = cc
+by_standing false (before_this_run at) a answer is = cc
+
+pub goes_on : (a : Ahead) (input : Input) (k : Keeping) → lets_through a (endpoint_input input) ≡ true → a.k.keeps ≡ true → (keeping_step a.k (endpoint_input input)).1 ≡ k →
+    (ahead_step a (endpoint_input input)).1 ≡ record a { k = k; ended = ended_by a.k.secy k.secy ++ a.ended }
+goes_on a input k lets keeps is =
+    by_standing (begins_again a input) (standing a input) a (keeping_step a.k (endpoint_input input)) lets
+    ∙ ap (λ (x : Keeping). record a { k = x; ended = ended_after a x.secy }) is
+    ∙ ap (λ (b : Bool). record a { k = k; ended = if b then ended_by a.k.secy k.secy ++ a.ended else a.ended }) keeps
+
+-- ---- a list of runs
+
+own_end : (e : End) → same_end e e ≡ true
+own_end A = refl
+own_end B = refl
+
+module _ (ahead : End → Bool) where
+  inputs_inside : (e : End) (inputs : List KeepingInput) (before more : List Happening) (run : Run) (a : Ahead) → last_run (runs_of e before) ≡ Some run → closing_with (ahead e) run ≡ a →
+      inside_from ahead before (map (comes_in e) inputs ++ more) ≡ map (comes_in e) (through a inputs) ++ inside_from ahead (before ++ map (comes_in e) inputs) more
+  inputs_inside e [] before more run a last is = ap (λ hs. inside_from ahead hs more) (sym (append-nil before))
+  inputs_inside e (input ∷ inputs) before more run a last is =
+      by_test (lets_through a input) (ap (reaches_inside (ahead e) input) last ∙ ap (λ (x : Ahead). lets_through x input) is)
+      (inputs_inside e inputs (before ++ h ∷ []) more (with_input input run) (ahead_step a input).1
+      (ap last_run (runs_of-input e e input before (own_end e)) ∙ last_run-with_last input (runs_of e before) ∙ ap (option_map (with_input input)) last)
+      (closing_with-input (ahead e) input run ∙ ap (λ (x : Ahead). (ahead_step x input).1) is)
+      ∙ ap (λ hs. map (comes_in e) (through (ahead_step a input).1 inputs) ++ inside_from ahead hs more) (append_assoc before (h ∷ []) (map (comes_in e) inputs)))
+    where
+      h : Happening
+      h = comes_in e input
+
+      later : List Happening
+      later = inside_from ahead (before ++ h ∷ map (comes_in e) inputs) more
+
+      next : List Happening
+      next = inside_from ahead (before ++ h ∷ []) (map (comes_in e) inputs ++ more)
+
+      by_test : (b : Bool) → is_inside ahead before h ≡ b → next ≡ map (comes_in e) (through (ahead_step a input).1 inputs) ++ later →
+          (if is_inside ahead before h then h ∷ next else next) ≡ map (comes_in e) (if b then input ∷ through (ahead_step a input).1 inputs else through (ahead_step a input).1 inputs) ++ later
+      by_test true reaches rest = ap (λ (c : Bool). if c then h ∷ next else next) reaches ∙ ap (λ hs. h ∷ hs) rest
+      by_test false reaches rest = ap (λ (c : Bool). if c then h ∷ next else next) reaches ∙ rest
+
+  abbrev pub inside_of : EndRun → EndRun
+  inside_of it = (it.0, run_inside (ahead it.0) it.1)
+
+  pub inside_blocks : (before : List Happening) (its : List EndRun) → inside_from ahead before (blocks its) ≡ blocks (map inside_of its)
+  inside_blocks before [] = refl
+  inside_blocks before (it ∷ more) =
+      let first = begins it.0 it.1.config it.1.journal in
+      let new = run_with it.1.config it.1.journal [] in
+      let last : last_run (runs_of it.0 (before ++ first ∷ [])) ≡ Some new =
+      ap last_run (runs_of-begins it.0 it.0 it.1.config it.1.journal before ∙ ap (λ (b : Bool). runs_of it.0 before ++ (if b then new ∷ [] else [])) (own_end it.0))
+      ∙ last_run-push (runs_of it.0 before) new in
+      ap (λ hs. first ∷ hs)
+      (inputs_inside it.0 it.1.inputs (before ++ first ∷ []) (blocks more) new (opening_with (ahead it.0) it.1) last refl
+      ∙ ap (λ hs. map (comes_in it.0) (through (opening_with (ahead it.0) it.1) it.1.inputs) ++ hs) (inside_blocks ((before ++ first ∷ []) ++ map (comes_in it.0) it.1.inputs) more))

@@ -1,0 +1,91 @@
+-- Laws of an endpoint that can reserve ahead of receiving: of its steps, and of the keeping endpoint inside.
+use Rattle.std.specs.Prelude.{◌≡◌, ◌<◌, ◌≤◌, ◌-◌, ◌^◌, ℕ, List, Bool, true, false, None, Some, IsSome}
+use Rattle.macsec_tag.specs.declared.identifiers.Sci.{Sci}
+use Rattle.macsec_suite.specs.declared.refusal.Refusal.TheVariants.{PnFloor}
+use Rattle.macsec_commands.specs.declared.command.Command.TheVariants.{RxSa}
+use Rattle.macsec_rx.specs.declared.RxRow.{RxRow}
+use Rattle.macsec_rx.specs.Channels.{rx_row}
+use Rattle.macsec_secy.specs.Reception.{judgement_of}
+use Rattle.macsec_secy.specs.Sound.{IsSound}
+use Rattle.macsec_secy.specs.Step.{Input, client_frame, link_frame, operator_command, refused}
+use Rattle.macsec_reserve.specs.declared.reservation.Reservation.{Reservation}
+use Rattle.macsec_reserve.specs.Histories.{Run, closing, reported}
+use Rattle.macsec_reserve.specs.Journal.{highest}
+use Rattle.macsec_reserve.specs.Keeping.{KeepingInput, endpoint_input, endpoint_output, keeping_step, now_durable}
+use Rattle.macsec_reserve.specs.Replay.{row_name}
+use Rattle.macsec_restarts.specs.Ahead.{Ahead, RxPn, ahead_after, ahead_step, begins_again, closing_with, dropped_not_reserved, kept, last_end, lets_through, passes, run_inside, standing, wanted_to_accept}
+
+-- ---- the keeping endpoint inside
+
+-- the output and the keeping endpoint afterwards are those of the keeping endpoint's step
+pub record TakesTheStep (a : Ahead) (input : KeepingInput) : Type 0 where
+  pub output : (ahead_step a input).0 ≡ kept (keeping_step a.k input).0
+  pub after : (ahead_step a input).1.k ≡ (keeping_step a.k input).1
+
+-- it takes that step, or nothing changes; reports and client frames always reach the keeping endpoint
+pub record StepsInside (a : Ahead) (input : KeepingInput) : Type 0 where
+  pub takes : lets_through a input ≡ true → TakesTheStep a input
+  pub stays : lets_through a input ≡ false → (ahead_step a input).1 ≡ a
+  pub reports : (r : Reservation) → lets_through a (now_durable r) ≡ true
+  pub frames : (frame : List ℕ) → lets_through a (endpoint_input (client_frame frame)) ≡ true
+
+-- so the keeping endpoint inside is as after a run of its own, to which the same was reported
+pub record IsKeepingInside (ahead : Bool) (run : Run) : Type 0 where
+  pub inside : (closing_with ahead run).k ≡ closing (run_inside ahead run)
+  pub reports : reported (run_inside ahead run) ≡ reported run
+
+-- without the option it is the keeping endpoint, except where a command creates a deleted SA again too low
+abbrev pub IsAsBefore : Ahead → Input → Type 0
+IsAsBefore a input = a.ahead ≡ false → begins_again a input ≡ false → TakesTheStep a (endpoint_input input)
+
+-- ---- a frame that was dropped can be presented again
+
+-- once a record under the SA's name is durable that reaches the frame's PN, the frame is not dropped any more, unless an
+-- earlier run may have accepted its PN
+abbrev pub PassesOnceReserved : Ahead → List ℕ → RxRow → List ℕ → Reservation → Type 0
+PassesOnceReserved a frame row delivered r =
+    let j = judgement_of a.k.secy frame in
+    IsSound a.k.secy → j.row ≡ Some row → j.delivered ≡ Some delivered →
+    r.name ≡ row_name a.k.salt a.k.secy row → highest a.k.before (row_name a.k.salt a.k.secy row) < j.number → j.number ≤ r.last →
+    standing (ahead_step a (now_durable r)).1 (link_frame frame) ≡ passes
+
+-- a record for the SA that reaches a PN
+pub record ReachesPn (a : Ahead) (n : ℕ) (row : RxRow) (r : Reservation) : Type 0 where
+  pub name : r.name ≡ row_name a.k.salt a.k.secy row
+  pub last : n ≤ r.last
+
+-- the record to write next is one
+abbrev pub WantsEnough : Ahead → ℕ → ℕ → RxRow → Reservation → Type 0
+WantsEnough a amount next row r = wanted_to_accept a amount next row ≡ Some r → ReachesPn a next row r
+
+-- a frame of an SA that was dropped as not reserved: the output names the SA and the frame's PN, and with it as the next
+-- PN there is a record to write
+pub record AsksForRecord (a : Ahead) (amount : ℕ) (row : RxRow) (number : ℕ) (at : RxPn) : Type 0 where
+  pub of_sci : at.sci ≡ row.sci
+  pub of_an : at.an ≡ row.an
+  pub of_number : at.number ≡ number
+  pub wanted : IsSome (wanted_to_accept a amount at.number row)
+
+abbrev pub AsksWhereDropped : Ahead → List ℕ → ℕ → RxRow → RxPn → Type 0
+AsksWhereDropped a frame amount row at =
+    (judgement_of a.k.secy frame).row ≡ Some row → at.number < 2 ^ 64 → (ahead_step a (endpoint_input (link_frame frame))).0 ≡ dropped_not_reserved at →
+    AsksForRecord a amount row (judgement_of a.k.secy frame).number at
+
+-- ---- SAs that are deleted
+
+-- where a step deletes an SA, its end is remembered
+abbrev pub RemembersEnd : Ahead → KeepingInput → RxRow → Type 0
+RemembersEnd a input row =
+    let after = (ahead_step a input).1 in
+    a.k.keeps ≡ true → rx_row a.k.secy.rx.rows row.sci row.an ≡ Some row → rx_row after.k.secy.rx.rows row.sci row.an ≡ None →
+    row.lowest - 1 ≤ last_end after.ended row.key row.sci row.an
+
+-- for the rest of the run
+abbrev pub KeepsEnds : Ahead → List KeepingInput → ℕ → Sci → ℕ → Type 0
+KeepsEnds a inputs key sci an = last_end a.ended key sci an ≤ last_end (ahead_after a inputs).ended key sci an
+
+-- at that end or below it the SA is not created again under the key, and nothing changes
+abbrev pub RefusesBelowEnd : Ahead → Sci → ℕ → ℕ → ℕ → ℕ → Type 0
+RefusesBelowEnd a sci an key ssci lowest =
+    0 < lowest → lowest ≤ last_end a.ended key sci an →
+    ahead_step a (endpoint_input (operator_command (RxSa sci an key ssci lowest))) ≡ (kept (endpoint_output (refused PnFloor)), a)
