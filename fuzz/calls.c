@@ -19,9 +19,11 @@
 #include <sys/mman.h>
 #include <unistd.h>
 
-enum { HANDLES = 4, MOST_WORDS = 16, LONGEST_LINE = 262144, MOST_ROOMS = 4 };
+enum { HANDLES = 4, KEYS = 3, SLOTS = 3, MOST_WORDS = 16, LONGEST_LINE = 262144, MOST_ROOMS = 4 };
 
 static macsec_endpoint handles[HANDLES];
+static macsec_key keys[KEYS];
+static macsec_slot slots[SLOTS];
 static bool made[HANDLES];  /* whether they hold an endpoint */
 static int blocks[HANDLES]; /* and of how many blocks */
 static char line[LONGEST_LINE];
@@ -137,6 +139,7 @@ static const uint8_t *sealed_sci(const char *word) {
 static unsigned asked, refused; /* how often the library asked for memory, and which time it gets none, if not 0 */
 static bool refused_after;      /* whether it gets none after that time either */
 static int held;                /* how many blocks it holds */
+static int for_jobs;            /* how many of them are of a key or a slot that a call made or freed */
 
 #ifndef UNCOUNTED
 void *__real_malloc(size_t size);
@@ -165,8 +168,9 @@ void __wrap_free(void *block) {
     __real_free(block);
 }
 
-/* An endpoint has seven blocks, and one more beside a journal with records. Only the calls that make one, a line and a
- * journal ask for blocks; one that answers MACSEC_E_TAKEN or MACSEC_E_EMPTY does not. */
+/* An endpoint has seven blocks, and one more beside a journal with records; a key has one, and a slot three. Only the
+ * calls that make one, a line and a journal ask for blocks; one that answers MACSEC_E_TAKEN or MACSEC_E_EMPTY does not.
+ */
 static void check_blocks(const char *name, unsigned handle, bool held_before, uint32_t status) {
     const char *reading[] = { "configure",    "command_line",      "answer",
                               "reserve_open", "reserve_configure", "journal_compacted" };
@@ -174,9 +178,9 @@ static void check_blocks(const char *name, unsigned handle, bool held_before, ui
     for (size_t i = 0; i < sizeof reading / sizeof reading[0]; i++)
         may_ask = may_ask || strcmp(name, reading[i]) == 0;
     int changed = made[handle] == held_before ? 0 : held_before ? -blocks[handle] : held;
-    if (held != changed || (changed > 0 && held != 7 && (held != 8 || !beside)))
+    if (held != changed + for_jobs || (changed > 0 && held != 7 && (held != 8 || !beside)))
         fail("the library holds another number of blocks");
-    if (refused == 0 && !may_ask && asked != (changed > 0 ? 7u : 0u))
+    if (refused == 0 && !may_ask && asked != (changed > 0 ? 7u : for_jobs > 0 ? (unsigned)for_jobs : 0u))
         fail("the library asked for another number of blocks");
     if ((status == MACSEC_E_TAKEN || status == MACSEC_E_EMPTY) && asked != 0)
         fail("the library asked for blocks in vain");
@@ -185,7 +189,7 @@ static void check_blocks(const char *name, unsigned handle, bool held_before, ui
 }
 #else
 static void check_blocks(const char *name, unsigned handle, bool held_before, uint32_t status) {
-    (void)name, (void)handle, (void)held_before, (void)status, (void)blocks, (void)refused_after;
+    (void)name, (void)handle, (void)held_before, (void)status, (void)blocks, (void)refused_after, (void)for_jobs;
 }
 #endif
 
@@ -239,6 +243,92 @@ static uint32_t receive(macsec_endpoint *e, const char *word) {
     print_octets(received->sci, sizeof received->sci);
     printf(" %u %d", (unsigned)received->an, received->delivered);
     print_octets(received->frame, received->length);
+    return status;
+}
+
+/* ---- Keys and slots ---- */
+
+static macsec_key *key_at(const char *word) {
+    if (number(word) >= KEYS)
+        fail("there is no such key");
+    return &keys[number(word)];
+}
+
+static macsec_slot *slot_at(const char *word) {
+    if (number(word) >= SLOTS)
+        fail("there is no such slot");
+    return &slots[number(word)];
+}
+
+/* Notes that a call has made a thing of so many blocks, or freed it. */
+static uint32_t with_blocks(int change, uint32_t status) {
+    for_jobs = status == MACSEC_OK ? change : 0;
+    return status;
+}
+
+static uint32_t free_key(macsec_key *key) {
+    with_blocks(key->at == NULL ? 0 : -1, MACSEC_OK);
+    macsec_key_free(key);
+    return MACSEC_OK;
+}
+
+static uint32_t free_slot(macsec_slot *slot) {
+    with_blocks(slot->at == NULL ? 0 : -3, MACSEC_OK);
+    macsec_slot_free(slot);
+    return MACSEC_OK;
+}
+
+/* A buffer of 7, of which a call writes the first octets alone. */
+static void check_rest(const uint8_t *out, size_t written, size_t room) {
+    for (size_t i = written; i < room; i++) {
+        if (out[i] != 7)
+            fail("a call writes more octets than it says");
+    }
+}
+
+static uint32_t show_planned(uint32_t status, const macsec_planned *planned) {
+    if (planned->status != status)
+        fail("a plan has another status than its call");
+    check_reserved(MACSEC_OK, RESERVED_OF(*planned));
+    printf(" %u %u %d", (unsigned)planned->fate, (unsigned)planned->key, planned->job);
+    return status;
+}
+
+static uint32_t plan_send(macsec_endpoint *e, char **w) {
+    macsec_planned *planned = room_of(sizeof *planned);
+    return show_planned(macsec_plan_send(e, slot_at(w[0]), sealed(w[1]), length_of(w[1]), planned), planned);
+}
+
+static uint32_t plan_receive(macsec_endpoint *e, char **w) {
+    macsec_planned *planned = room_of(sizeof *planned);
+    return show_planned(macsec_plan_receive(e, slot_at(w[0]), sealed(w[1]), length_of(w[1]), planned), planned);
+}
+
+static uint32_t seal_job(char **w) {
+    size_t room = (size_t)number(w[2]), *written = room_of(sizeof *written);
+    uint8_t *out = room_of(room);
+    *written = 7;
+    uint32_t status = macsec_seal_job(slot_at(w[0]), key_at(w[1]), out, room, written);
+    size_t shown = status == MACSEC_OK ? *written : 0;
+    check_rest(out, shown, room);
+    print_number(*written);
+    print_octets(out, shown);
+    return status;
+}
+
+static uint32_t finish_receive(macsec_endpoint *e, char **w) {
+    size_t room = (size_t)number(w[1]);
+    macsec_finished *finished = room_of(sizeof *finished);
+    uint8_t *out = room_of(room);
+    uint32_t status = macsec_finish_receive(e, slot_at(w[0]), out, room, finished);
+    if (finished->status != status || (!finished->delivered && finished->length != 0))
+        fail("macsec_finish_receive returns something else than it shows");
+    check_reserved(MACSEC_OK, RESERVED_OF(*finished));
+    check_rest(out, finished->length, room);
+    printf(" %u %d", (unsigned)finished->verdict, finished->has_sa);
+    print_octets(finished->sci, sizeof finished->sci);
+    printf(" %u %d", (unsigned)finished->an, finished->delivered);
+    print_octets(out, finished->length);
     return status;
 }
 
@@ -427,8 +517,8 @@ static uint32_t command(macsec_endpoint *e, const char *name, char **w) {
     CALL("delete_tx_sa", macsec_delete_tx_sa(e, (uint8_t)number(w[0])));
     CALL("add_rx_sc", macsec_add_rx_sc(e, sealed_sci(w[0])));
     CALL("delete_rx_sc", macsec_delete_rx_sc(e, sealed_sci(w[0])));
-    CALL("add_rx_sa", macsec_add_rx_sa(e, sealed_sci(w[0]), (uint8_t)number(w[1]), (uint16_t)number(w[2]),
-                                       (uint32_t)number(w[3]), number(w[4])));
+    CALL("add_rx_sa", macsec_add_rx_sa(e, sealed_sci(w[0]), (uint8_t)number(w[1]), (uint16_t)number(w[2]), number(w[3]),
+                                       (uint32_t)number(w[4])));
     CALL("enable_rx_sa", macsec_enable_rx_sa(e, sealed_sci(w[0]), (uint8_t)number(w[1])));
     CALL("disable_rx_sa", macsec_disable_rx_sa(e, sealed_sci(w[0]), (uint8_t)number(w[1])));
     CALL("set_lowest_pn", macsec_set_lowest_pn(e, sealed_sci(w[0]), (uint8_t)number(w[1]), number(w[2])));
@@ -451,6 +541,16 @@ static uint32_t call(macsec_endpoint *e, const char *name, char **w) {
     CALL("receive", receive(e, w[0]));
     CALL("answer", answer(e, w));
     CALL("seal", seal_frame(w));
+    CALL("key_take", with_blocks(1, macsec_key_take(key_at(w[0]), e, (uint16_t)number(w[1]))));
+    CALL("key_free", free_key(key_at(w[0])));
+    CALL("slot_new", with_blocks(3, macsec_slot_new(slot_at(w[0]))));
+    CALL("slot_free", free_slot(slot_at(w[0])));
+    CALL("slot_clear", macsec_slot_clear(slot_at(w[0])));
+    CALL("plan_send", plan_send(e, w));
+    CALL("seal_job", seal_job(w));
+    CALL("plan_receive", plan_receive(e, w));
+    CALL("open_job", macsec_open_job(slot_at(w[0]), key_at(w[1])));
+    CALL("finish_receive", finish_receive(e, w));
     CALL("get_options",
          show_options(macsec_get_options(e, ROOM(macsec_options, 7, 7, 7, false, false, { 7, 7, 7, 7, 7 }))));
     CALL("keys_left", show_keys_left(macsec_keys_left(e, ROOM(uint32_t, 7))));
@@ -483,6 +583,7 @@ static uint32_t checked(unsigned handle, const char *name, char **w) {
                                         strcmp(name, "reserve_open") == 0 || strcmp(name, "reserve_configure") == 0;
     asked = 0;
     held = 0;
+    for_jobs = 0;
     uint32_t status = call(&handles[handle], name, w);
     if (makes && status == MACSEC_OK)
         made[handle] = true;
@@ -513,6 +614,12 @@ int main(void) {
     }
     for (int i = 0; i < HANDLES; i++)
         macsec_free(&handles[i]);
+    for (int i = 0; i < KEYS; i++)
+        macsec_key_free(&keys[i]);
+    for (int i = 0; i < SLOTS; i++)
+        macsec_slot_free(&slots[i]);
     macsec_free(NULL);
+    macsec_key_free(NULL);
+    macsec_slot_free(NULL);
     return fflush(stdout) == 0 && !ferror(stdout) ? 0 : 1;
 }

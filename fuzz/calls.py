@@ -33,11 +33,18 @@ from handles import CONSTANTS, ROOT, SUITES, Model, asked, hex_of, without_memor
 
 # The calls that allocate: whether one allocation is refused (!), or also all after it (?), since a text's vector that is
 # refused twice its size may get a smaller one.
-ALLOCATING = {"new": "!", "reserve_open": "!", "journal_compacted": "!"}
+ALLOCATING = {"new": "!", "reserve_open": "!", "journal_compacted": "!", "key_take": "!", "slot_new": "!"}
 ALLOCATING |= dict.fromkeys(("configure", "reserve_configure", "command_line", "answer"), "?")
 EVERY = 8
 # The calls that are made seldom, and often fail before they allocate: of these every one is first made so.
-SELDOM = {"reserve_open", "reserve_configure", "journal_compacted"}
+SELDOM = {"reserve_open", "reserve_configure", "journal_compacted", "key_take", "slot_new"}
+
+
+# The calls with keys and slots, which the Python package does not make.
+JOBS = {
+    "key_take", "key_free", "slot_new", "slot_free", "slot_clear", "plan_send", "seal_job", "plan_receive", "open_job",
+    "finish_receive",
+}  # fmt: skip
 
 
 class Calls:
@@ -53,7 +60,8 @@ class Calls:
     JOURNAL = journals.header(JOURNAL_SALT)
     AMOUNTS = [0, 1, 2, 2, 3, 3, 8, 64, 2**32, 2**63, 2**64 - 1]
 
-    def __init__(self, seed):
+    def __init__(self, seed, has_jobs=True):
+        self.has_jobs = has_jobs
         self.random = random.Random(int.from_bytes(hashlib.sha256(seed.encode()).digest(), "big"))
         self.model = Model()
         self.link = []
@@ -66,6 +74,10 @@ class Calls:
 
     def an(self):
         return self.random.choice((0, 0, 0, 1, 1, 2, 3, 4, 255))
+
+    def place(self):
+        """That of a key or of a slot."""
+        return self.random.choice((0, 0, 1, 1, 2))
 
     def sci(self):
         return self.random.choice(self.SCIS)
@@ -222,6 +234,16 @@ class Calls:
             "send_uncontrolled": lambda: (h(), self.client_frame()),
             "seal": self.sealing,
             "receive": lambda: (pick((1, 1, 1, 1, 1, 0, 2)), self.link_frame()),
+            "key_take": lambda: (pick((0, 0, 1, 1, 2)), self.place(), pick(self.NUMBERS)),
+            "key_free": lambda: (0, self.place()),
+            "slot_new": lambda: (0, self.place()),
+            "slot_free": lambda: (0, self.place()),
+            "slot_clear": lambda: (0, self.place()),
+            "plan_send": lambda: (pick((0, 0, 0, 0, 1, 2)), self.place(), self.client_frame()),
+            "seal_job": lambda: (0, self.place(), self.place(), pick((400, 400, 400, 9_248, 0, 23, 60))),
+            "plan_receive": lambda: (pick((1, 1, 1, 1, 0, 2)), self.place(), self.link_frame()),
+            "open_job": lambda: (0, self.place(), self.place()),
+            "finish_receive": lambda: (pick((1, 1, 1, 1, 0, 2)), self.place(), pick((9_248,) * 8 + (9_247, 0))),
             "set_protect": lambda: (h(), pick((0, 1, 1))),
             "set_validation": lambda: (h(), pick((0, 1, 1, 2, 2, 2, 3, 2**32 - 1))),
             "set_replay": lambda: (h(), pick((0, 1, 1)), pick(self.WINDOWS)),
@@ -231,7 +253,7 @@ class Calls:
             "add_tx_sa": lambda: (h(), self.an(), pick(self.NUMBERS), pick(self.PNS), pick((0, 1))),
             "add_rx_sc": lambda: (h(), self.sci()),
             "delete_rx_sc": lambda: (h(), self.sci()),
-            "add_rx_sa": lambda: (h(), self.sci(), self.an(), pick(self.NUMBERS), pick(self.SSCIS), pick(self.PNS)),
+            "add_rx_sa": lambda: (h(), self.sci(), self.an(), pick(self.NUMBERS), pick(self.PNS), pick(self.SSCIS)),
             "set_lowest_pn": lambda: (h(), self.sci(), self.an(), pick(self.PNS)),
             "get_rx_sc": lambda: (h(), pick((0, 0, 1, 2, 63, 64, 2**64 - 1))),
         }
@@ -252,7 +274,9 @@ class Calls:
         "get_options": 8, "keys_left": 8, "get_counters": 20, "get_tx_counters": 10, "get_rx_counters": 15,
         "get_rx_sa_counters": 15, "get_removed_counters": 10, "get_rx_sc": 6, "get_tx_sa": 10, "get_rx_sa": 15, "reserve_open": 4,
         "reserve_configure": 4, "reserve_wanted": 15, "reserve_to_save": 10, "reserve_granted": 15,
-        "reserve_tx_floor": 6, "reserve_rx_floor": 6, "journal_header": 1, "journal_compacted": 5, "seal": 25,
+        "reserve_tx_floor": 6, "reserve_rx_floor": 6, "journal_header": 5, "journal_compacted": 5, "seal": 25,
+        "key_take": 20, "key_free": 4, "slot_new": 6, "slot_free": 4, "slot_clear": 3, "plan_send": 60, "seal_job": 80,
+        "plan_receive": 80, "open_job": 60, "finish_receive": 80,
     }  # fmt: skip
 
     def paired(self):
@@ -270,11 +294,41 @@ class Calls:
         yield "set_protect", (0, 1)
         yield "install_key", (1, *self.key_of(suite, 2))
         yield "add_rx_sc", (1, sender)
-        yield "add_rx_sa", (1, sender, an, suite, 1, pn)
+        yield "add_rx_sa", (1, sender, an, suite, pn, 1)
         yield "enable_rx_sa", (1, sender, an)
         yield "set_replay", (1, self.pick((0, 1)), self.pick((0, 2)))
         yield "set_validation", (1, self.pick((0, 1, 2, 2, 2)))
         yield "reserve_to_save", (1, sender, an)
+
+    def in_jobs(self):
+        """Frames from endpoint 0 to endpoint 1 in slots, mostly as they are seen in use, with other calls in between."""
+        yield from self.paired()
+        suite = next(iter(self.model.ends[1].keys))
+        other = suite % 4 + 1
+        yield "install_key", (0, *self.key_of(other, 1))
+        for key, end, number in ((0, 0, suite), (1, 1, suite), (2, 0, other)):
+            yield "key_free", (0, key)
+            yield "key_take", (end, key, number)
+        for slot in (0, 1, 2):
+            yield "slot_new", (0, slot)
+            yield "slot_clear", (0, slot)
+        for _ in range(self.pick((4, 8, 16))):
+            sent = self.random.sample(range(3), self.random.randrange(1, 4))
+            for slot in sent:
+                yield "plan_send", (0, slot, self.client_frame())
+            for slot in self.random.sample(sent, len(sent)):
+                yield "seal_job", (0, slot, self.pick((0, 0, 0, 1, 2)), self.pick((400, 400, 9_300, 50)))
+            for slot in sent:
+                yield "slot_clear", (0, slot)
+                yield "plan_receive", (1, slot, self.link_frame())
+            for slot in self.random.sample(sent, len(sent)):
+                if self.random.random() < 0.8:
+                    yield "open_job", (0, slot, self.pick((1, 1, 1, 0, 2)))
+            if self.random.random() < 0.3:
+                name = self.pick(("set_validation", "set_replay", "set_lowest_pn", "disable_rx_sa", "enable_rx_sa"))
+                yield name, (1, *self.arguments(name)[1:])
+            for slot in self.random.sample(sent, len(sent)):
+                yield "finish_receive", (self.pick((1, 1, 1, 1, 1, 2)), slot, 9_248)
 
     def paired_by_texts(self):
         """The same of two configurations."""
@@ -332,7 +386,7 @@ class Calls:
                 yield "reserve_rx_floor", (2, other, an, number)
         yield "add_rx_sc", (2, other)
         for pn in (7, 8):
-            yield "add_rx_sa", (2, other, 1, 0, 0, pn)
+            yield "add_rx_sa", (2, other, 1, 0, pn, 0)
         for an in (1, 4):
             yield "reserve_to_save", (2, other, an)
         yield "add_tx_sa", (2, 0, 0, 1, 1)
@@ -345,6 +399,60 @@ class Calls:
         for _ in range(6):
             yield "send", (2, bytes(60))
         yield "journal_compacted", (2, self.JOURNAL + 3 * journals.record(saved) + bytes(64))
+
+    def rarely_forgotten(self):
+        """Retired keys, of which fingerprints stay: their floors are gone, and their octets are refused. A job that was
+        planned before is done. A key that is the fingerprint of another one lets that one stay."""
+        own, other, octets = self.SCIS[2], self.SCIS[0], self.keys[0][:16]
+        name = journals.sending_name(self.JOURNAL_SALT, octets)
+        saved = (name, 9), (journals.receiving_name(name, other, 1), 7)
+        key = lambda number, its: (2, its + bytes(16), self.SALT, 1, 1, number, 16, 0)
+        for journal in (self.JOURNAL + b"".join(map(journals.record, saved)), None):
+            yield "free", (2,)
+            yield ("new", (2, own, 1, 1, 1518)) if journal is None else ("reserve_open", (2, own, 1, 1, 1518, journal))
+            mark = self.model.ends[2].fingerprint(octets)
+            for number, its in ((0, octets), (1, self.keys[1][:16])):
+                yield "install_key", key(number, its)
+            yield "add_rx_sc", (2, other)
+            yield "add_tx_sa", (2, 0, 0, 9, 1)
+            yield "add_tx_sa", (2, 0, 0, 10, 1)
+            if journal is not None:
+                yield "reserve_granted", (2, journals.record(self.model.ends[2].wanted(0, 4)))
+            yield "enable_tx_sa", (2, 0)
+            for made in (("slot_free", 2), ("slot_new", 2), ("key_free", 2)):
+                yield made[0], (0, made[1])
+            yield "key_take", (2, 2, 0)
+            yield "plan_send", (2, 2, bytes(60))
+            yield "delete_tx_sa", (2, 0)
+            for retires in (False, True):
+                if retires:
+                    yield "delete_rx_sa", (2, other, 1)
+                    yield "retire_key", (2, 0)
+                yield "reserve_tx_floor", (2, 0)
+                yield "reserve_rx_floor", (2, other, 1, 0)
+                yield "add_rx_sa", (2, other, 1, 0, 7, 0)
+                yield "add_tx_sa", (2, 1, 0, 9, 1)
+            yield "seal_job", (0, 2, 2, 400)
+            for number, its in ((2, octets), (2, mark), (0, octets)):
+                yield "install_key", key(number, its)
+            for line in (f"A key 2 {octets.hex()} 0", f"A key 2 {octets.hex()} 0 {SUITES[2]}", "A txsa 1 0 9 conf"):
+                yield "command_line", (2, line.encode())
+                yield "answer", (2, 3, line.encode(), 64)
+            yield "add_tx_sa", (2, 0, 1, 1, 1)
+            if journal is not None:
+                yield "reserve_granted", (2, journals.record(self.model.ends[2].wanted(0, 4)))
+            yield "enable_tx_sa", (2, 0)
+            for _ in range(6):
+                yield "send", (2, bytes(60))
+            yield "free", (2,)
+            yield ("new", (2, own, 1, 1, 1518)) if journal is None else ("reserve_open", (2, own, 1, 1, 1518, journal))
+            for number, its in ((0, octets), (1, mark)):
+                yield "install_key", key(number, its)
+            for number in (0, 1):
+                yield "retire_key", (2, number)
+                yield "reserve_tx_floor", (2, 0)
+            for number, its in ((2, octets), (3, mark)):
+                yield "install_key", key(number, its)
 
     def crowded(self):
         yield "free", (2,)
@@ -405,7 +513,7 @@ class Calls:
             yield "install_key", key(number, octets, CONSTANTS[f"SUITE_{suite}"])
         yield "add_rx_sc", (2, other)
         for number, ssci, pn in ((3, 1, 1), (0, 0, 9), (0, 0, 9)):
-            yield "add_rx_sa", (2, other, 0, number, ssci, pn)
+            yield "add_rx_sa", (2, other, 0, number, pn, ssci)
         for pn in (8, 2**32):
             yield "set_lowest_pn", (2, other, 0, pn)
         yield "add_tx_sa", (2, 0, 0, 2**32 - 1, 1)
@@ -445,7 +553,7 @@ class Calls:
         for sci in (own, other, other):
             yield "add_rx_sc", (2, sci)
         for number in (1, 0):
-            yield "add_rx_sa", (2, other, 0, number, 0, 9)
+            yield "add_rx_sa", (2, other, 0, number, 9, 0)
         yield "receive", (2, tagged(0x20))
         yield "enable_rx_sa", (2, other, 0)
         yield "receive", (2, tagged(0x20))
@@ -481,23 +589,27 @@ class Calls:
 
     def all(self, count):
         """So many calls: the lines, and their answers."""
-        rare = (self.crowded, self.rarely_written, self.rarely_refused, self.rarely_made, self.rarely_reserved)
-        waiting = itertools.chain.from_iterable(it() for it in rare)
+        rarely = self.rarely_written, self.rarely_refused, self.rarely_made, self.rarely_reserved, self.rarely_forgotten
+        waiting = itertools.chain.from_iterable(it() for it in (self.crowded, *rarely))
         names, weights = list(self.WEIGHTS), list(self.WEIGHTS.values())
         for _ in range(count):
             made = next(waiting, None)
             if made is None and self.random.random() < 0.025:
-                several = (self.paired, self.paired, self.paired_by_texts, self.kept, self.configured, self.configured)
+                several = (self.paired, self.paired_by_texts, self.in_jobs, self.kept, self.configured, self.configured)
                 waiting = iter(self.pick(several)())
                 made = next(waiting)
             if made is None:
                 name = self.random.choices(names, weights)[0]
                 made = name, self.arguments(name)
             name, words = made
+            if name in JOBS and not self.has_jobs:
+                continue
             self.meet(name, words)
             answer = self.model.answer(name, *words)
             if name == "send" and answer.split()[1] in (str(CONSTANTS["FATE_PROTECTED"]), str(CONSTANTS["FATE_PLAIN"])):
                 self.link = [*self.link[-40:], bytes.fromhex(answer.split()[3])]
+            if name == "seal_job" and answer.endswith(f" : {CONSTANTS['OK']}"):
+                self.link = [*self.link[-40:], bytes.fromhex(answer.split()[2])]
             if name in ("reserve_wanted", "reserve_to_save") and answer.endswith(f" : {CONSTANTS['OK']}"):
                 self.records = [*self.records[-40:], bytes.fromhex(answer.split()[1])]
             yield " ".join([name, *(hex_of(it) if isinstance(it, bytes) else str(it) for it in words)]), answer

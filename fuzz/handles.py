@@ -21,6 +21,7 @@ CONSTANTS |= {name: int(value) for name, value in re.findall(r"#define MACSEC_(\
 FRAME_MIN, FRAME_MAX = CONSTANTS["FRAME_MIN"], CONSTANTS["FRAME_MAX"]
 
 HANDLES = 3
+KEYS = SLOTS = 3
 SUITES = {CONSTANTS["SUITE_GCM_AES_" + it]: "gcm" + it for it in ("128", "256")}
 SUITES |= {CONSTANTS["SUITE_GCM_AES_XPN_" + it]: "xpn" + it for it in ("128", "256")}
 FORMS = {CONSTANTS["FORM_" + it.upper()]: it for it in expected.FORMS}
@@ -28,7 +29,8 @@ MODES = {CONSTANTS["MODE_" + it.upper()]: it for it in expected.MODES}
 # The calls that a handle without an endpoint does not refuse.
 HANDLE_FREE = (
     "new", "configure", "reserve_open", "reserve_configure", "free", "journal_header", "journal_compacted", "seal",
-    "answer",
+    "answer", "key_take", "key_free", "slot_new", "slot_free", "slot_clear", "plan_send", "seal_job", "plan_receive",
+    "open_job", "finish_receive",
 )  # fmt: skip
 # The most octets of a frame that is sealed.
 MOST_SEALED = 2**36 - 32
@@ -50,7 +52,8 @@ class NoReservation(Exception):
 
 
 class Endpoint(expected.Endpoint):
-    """An endpoint that also keeps what deleted associations had counted, and reservations."""
+    """An endpoint that also keeps what deleted associations had counted, and reservations, and that forgets the octets of
+    retired keys."""
 
     def __init__(self, suite, sci, max_frame, form, journal=None):
         super().__init__(suite, sci, max_frame, form)
@@ -62,6 +65,24 @@ class Endpoint(expected.Endpoint):
 
     def key_name(self, number):
         return journals.sending_name(self.salt, self.keys[number].octets if number in self.keys else b"")
+
+    def fingerprint(self, octets):
+        """What is kept of a forgotten key: as many octets of its name as it had itself."""
+        return journals.sending_name(self.salt, octets)[: len(octets)]
+
+    def do_key(self, number, octets, *rest):
+        """A forgotten key is refused by its fingerprint."""
+        mark = self.fingerprint(octets)
+        is_forgotten = any(it.retired and it.octets == mark for it in self.keys.values())
+        super().do_key(number, mark if is_forgotten else octets, *rest)
+
+    def do_retire(self, number):
+        """The key is forgotten, unless a key has its fingerprint already."""
+        super().do_retire(number)
+        mark = self.fingerprint(self.keys[number].octets)
+        if all(it.octets != mark for it in self.keys.values()):
+            self.granted = self.entries()
+            self.keys[number].octets = mark
 
     def command(self, keyword, values):
         if self.keeps and keyword in ("txsa", "rxsa"):
@@ -98,18 +119,21 @@ class Endpoint(expected.Endpoint):
 
     def floor(self, receiving, number):
         """The highest number that the journal had when the endpoint was made, under a key's name, or under its name for
-        receiving from an SCI and AN; or None."""
+        receiving from an SCI and AN; or None. A forgotten key has another name, under which the journal has nothing."""
         if number not in self.keys:
             return None
         name = self.key_name(number)
         return journals.highest(self.before, journals.receiving_name(name, *receiving) if receiving else name)
 
+    def entries(self):
+        """What was reported durable, with an entry for each key."""
+        names = [self.key_name(it) for it in self.keys]
+        return [*self.granted, *((it, 0) for it in names[len(self.granted) :])]
+
     def note_durable(self, reservation):
         """A reservation is durable: the entries of its name are raised."""
-        names = [journals.sending_name(self.salt, it.octets) for it in self.keys.values()]
-        entries = [*self.granted, *((it, 0) for it in names[len(self.granted) :])]
         its, to = reservation
-        self.granted = [(name, max(last, to) if name == its else last) for name, last in entries]
+        self.granted = [(name, max(last, to) if name == its else last) for name, last in self.entries()]
 
     def do_rxsc(self, sci):
         super().do_rxsc(sci)
@@ -129,6 +153,27 @@ class Endpoint(expected.Endpoint):
             return None
         channel, an = self.channel_of(read, frame), read["tci"] & 3
         return (channel.sci, an) if channel and an in channel.sas and channel.sas[an].on else None
+
+    def identity(self, number):
+        """What distinguishes a key from every other one."""
+        key = self.keys[number]
+        return number, key.octets, key.suite, key.offset
+
+    def opened_with(self, frame):
+        """The number of the key with which a link frame would be opened now, if it would be."""
+        row = self.row_of(frame)
+        if row is None or self.mode == "disabled":
+            return None
+        sa = self.rx_sa(*row)
+        pn = self.recovered(sa, expected.read_frame(frame)["pn"])
+        return None if pn is None or (self.replay and pn < sa.lowest) else sa.key
+
+
+class Slot:
+    """A frame, what is to be done with it (seal, open, finish or nothing), and the key for that."""
+
+    def __init__(self, work=None, key=None, frame=None):
+        self.work, self.key, self.frame = work, key, frame
 
 
 def named(table, number, status):
@@ -250,6 +295,10 @@ UNSHOWN = {
     "reserve_configure": " 0",
     "send": f" {CONSTANTS['FATE_NONE']} 0 -",
     "receive": f" {CONSTANTS['VERDICT_NONE']} 0 {'00' * 8} 0 0 -",
+    "plan_send": f" {CONSTANTS['FATE_NONE']} 0 0",
+    "plan_receive": f" {CONSTANTS['FATE_NONE']} 0 0",
+    "seal_job": " 7 -",
+    "finish_receive": f" {CONSTANTS['VERDICT_NONE']} 0 {'00' * 8} 0 0 -",
     "reserve_wanted": " " + "07" * journals.RECORD,
     "reserve_to_save": " " + "07" * journals.RECORD,
     "reserve_tx_floor": " 7",
@@ -283,6 +332,7 @@ class Model:
 
     def __init__(self):
         self.ends = [None] * HANDLES
+        self.keys, self.slots = [None] * KEYS, [None] * SLOTS
         # Each constant that was given or answered.
         self.met = collections.Counter({"OK": 0})
 
@@ -375,6 +425,89 @@ class Model:
         assert sent is None or len(sent) - len(frame) <= CONSTANTS["OVERHEAD_MAX"]
         return f" {CONSTANTS[fate]} {0 if sent is None else key} {hex_of(sent or b'')}"
 
+    # Keys and slots. The frame of a slot that is to be sealed is the protected one.
+
+    def end_of(self, handle):
+        if self.ends[handle] is None:
+            raise Status("E_EMPTY")
+        return self.ends[handle]
+
+    def slot_of(self, slot, *works):
+        """A slot whose work is one of these."""
+        if self.slots[slot] is None:
+            raise Status("E_EMPTY")
+        if self.slots[slot].work not in works:
+            raise Status("E_JOB")
+        return self.slots[slot]
+
+    def call_key_take(self, handle, key, number):
+        if self.keys[key] is not None:
+            raise Status("E_TAKEN")
+        end, number = self.end_of(handle), key_number_of(number)
+        expected.refuse("NoKey", number not in end.keys)
+        expected.refuse("KeyRetired", end.keys[number].retired)
+        self.keys[key] = end.identity(number)
+
+    def call_key_free(self, handle, key):
+        self.keys[key] = None
+
+    def call_slot_new(self, handle, slot):
+        if self.slots[slot] is not None:
+            raise Status("E_TAKEN")
+        self.slots[slot] = Slot()
+
+    def call_slot_free(self, handle, slot):
+        self.slots[slot] = None
+
+    def call_slot_clear(self, handle, slot):
+        self.slot_of(slot, None, "seal", "open", "finish")
+        self.slots[slot] = Slot()
+
+    def call_plan_send(self, handle, slot, frame):
+        end = self.end_of(handle)
+        self.slot_of(slot, None)
+        fate, key, sent = self.call_send(handle, frame).split()
+        if int(fate) != CONSTANTS["FATE_PROTECTED"]:
+            return f" {fate} 0 0"
+        self.slots[slot] = Slot("seal", end.identity(int(key)), bytes.fromhex(sent))
+        return f" {fate} {key} 1"
+
+    def keyed(self, slot, key, work):
+        """A slot with this work, whose key this is."""
+        if self.slots[slot] is None or self.keys[key] is None:
+            raise Status("E_EMPTY")
+        it = self.slot_of(slot, work)
+        if it.key != self.keys[key]:
+            raise Status("E_OTHER_KEY")
+        return it
+
+    def call_seal_job(self, handle, slot, key, room):
+        frame = self.keyed(slot, key, "seal").frame
+        if room < len(frame):
+            raise Status("E_SPACE")
+        self.slots[slot] = Slot()
+        return f" {len(frame)} {frame.hex()}"
+
+    def call_plan_receive(self, handle, slot, frame):
+        end = self.end_of(handle)
+        self.slot_of(slot, None)
+        key = end.opened_with(framed(frame))
+        work, identity = ("finish", None) if key is None else ("open", end.identity(key))
+        self.slots[slot] = Slot(work, identity, frame)
+        return f" 0 {key or 0} {int(key is not None)}"
+
+    def call_open_job(self, handle, slot, key):
+        it = self.keyed(slot, key, "open")
+        self.slots[slot] = Slot("finish", it.key, it.frame)
+
+    def call_finish_receive(self, handle, slot, room):
+        self.end_of(handle)
+        frame = self.slot_of(slot, "open", "finish").frame
+        if room < FRAME_MAX:
+            raise Status("E_SPACE")
+        self.slots[slot] = Slot()
+        return self.call_receive(handle, frame)
+
     def call_send_uncontrolled(self, handle, frame):
         framed(frame)
 
@@ -416,7 +549,7 @@ class Model:
             raise Status("E_NO_SUCH_KEY_OCTETS")
         self.command(handle, "key", number, octets[:length], offset, suite, struct.pack(">I", ssci), salt)
 
-    def call_add_rx_sa(self, handle, sci, an, key, ssci, pn):
+    def call_add_rx_sa(self, handle, sci, an, key, pn, ssci):
         self.command(handle, "rxsa", sci, an_of(an), key_number_of(key), pn, struct.pack(">I", ssci))
 
     def call_command_line(self, handle, line):

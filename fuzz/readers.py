@@ -231,6 +231,8 @@ class Corpus:
             return Input(way, words, {"IN": capture_of(rng, self.captures), "TEXT": keys})
         if way == "--cak-file":
             capture, cak = rng.choice(self.agreements)
+            if not rng.randrange(4):
+                cak = rng.choice(self.agreements)[1]  # of another capture, most of the time: then frames stay closed
             files = {"IN": altered(rng, capture.read_bytes()), "TEXT": text_of(rng, cak.read_text())}
             return Input(way, ["decrypt", "IN", "OUT", way, "TEXT"], files)
         if way == "why":
@@ -250,7 +252,8 @@ class Corpus:
         if way == "--ip-json":
             return Input(way, ["config", way, "IN", "--key", key], {"IN": json_of(rng)})
         if way == "--wpa":
-            return Input(way, ["config", way, "IN"], {"IN": text_of(rng, rng.choice(self.logs))})
+            log = rng.choice(self.logs) if rng.randrange(8) else ""
+            return Input(way, ["config", way, "IN"], {"IN": text_of(rng, log)})
         if way == "--next":
             config = (CAPTURES / "sender.config").read_bytes() if rng.randrange(2) else config
             return Input(way, ["config", way, "TEXT", "IN"], {"TEXT": text_of(rng, self.text), "IN": config})

@@ -38,17 +38,19 @@
  *            MACSEC_E_PN_FLOOR comes first where a journal is the reason.
  * MEMORY     macsec_new allocates seven blocks by malloc, 17.9 MB in all: four for 4,096 keys, one for a frame, two for
  *            the rest. macsec_free frees them. macsec_configure allocates the same, and so do macsec_reserve_open and
- *            macsec_reserve_configure, with one more for a journal that has records. macsec_configure,
- *            macsec_reserve_configure, macsec_command_line and macsec_answer also allocate while they read their text,
- *            macsec_answer while it composes counters and packet numbers, and macsec_journal_compacted while it works,
- *            and free that before they return. No other call allocates, so no other call runs out of memory. malloc
- *            must align a block to each power of two up to 16 that divides its size, as all C libraries do. It must
- *            return: no exception may be thrown through the library, which has no unwinding tables. The library
- *            overwrites a block before it frees it. For blocks of 1 MB or more it asks the kernel for new pages
- *            (madvise), and overwrites them if the kernel refuses. The calls that take a key, a text or an association
- *            overwrite the stack that they used. A retired key stays in its endpoint until macsec_free. Registers,
- *            swap, core dumps and the caller's own copies are not covered. Give each call 96 KB of stack: the calls
- *            that create an endpoint took 66 KB on x86-64, the others 33 KB or less (measured, not proved).
+ *            macsec_reserve_configure, with one more for a journal that has records. macsec_key_take allocates one
+ *            block, and macsec_slot_new three. macsec_configure, macsec_reserve_configure, macsec_command_line and
+ *            macsec_answer also allocate while they read their text, macsec_answer while it composes counters and
+ *            packet numbers, and macsec_journal_compacted while it works, and free that before they return. No other
+ *            call allocates, so no other call runs out of memory. malloc must align a block to each power of two up to
+ *            16 that divides its size, as all C libraries do. It must return: no exception may be thrown through the
+ *            library, which has no unwinding tables. The library overwrites a block before it frees it. For blocks of 1
+ *            MB or more it asks the kernel for new pages (madvise), and overwrites them if the kernel refuses. The
+ *            calls that take a key, a text or an association overwrite the stack that they used. An endpoint overwrites a
+ *            key when it retires it (macsec_retire_key). A macsec_key, and a slot with a job, keep the octets of their
+ *            key also after that. Registers, swap, core dumps and the caller's own copies are not covered. Give each
+ *            call 96 KB of stack: the calls that create an endpoint took 66 KB on x86-64, the others 33 KB or less
+ *            (measured, not proved).
  * PROCESSOR  An x86-64 processor with SSSE3 (every x86-64-v2 has it). The library does not test for it: on another one
  *            the process ends with SIGILL.
  * HANDLES    A handle is the caller's memory, initialized with MACSEC_ENDPOINT_INIT (all zero). Do not copy, move or
@@ -76,18 +78,19 @@
  *            MACSEC_RECEIVED_INIT are.
  *
  * Proved with Rattle: each call creates an endpoint, takes it out of its handle, is one step of the written machine
- * (crates/macsec_secy/specs/Step.antt; with a journal, crates/macsec_reserve/specs/Keeping.antt), or reads its state,
- * for the arguments that C gave; or it takes the steps that the lines of a text say. Each call reads and writes only
+ * (crates/macsec_secy/specs/Step.antt; with a journal, Keeping.antt in crates/macsec_reserve/specs; a command, with or
+ * without a journal, Forgetting.antt there), or reads its state, for the arguments that C gave; or it takes the steps
+ * that the lines of a text say. Each call reads and writes only
  * what it was given, and returns. A reader that finds nothing leaves its output struct unchanged. Measured or tested,
  * not proved: sizes and stack, that macsec_free frees each block, that memory is overwritten, and which calls allocate.
  * Not proved: this header and its inline functions, which a script compares with the library's source; C's side of what
  * it says; malloc; the compilers.
  *
- * In macsec_install_key, macsec_send and macsec_receive no branch and no address depends on a key or on data, except the
- * verdict and the refusal KeyRepeated. The digits of a key in a line or a text decide two branches more, in the same way
- * for every key: does an octet end the word or the line, and are all of them hex digits? Beside a journal, names of keys
- * decide branches too: the journal shows them. This is measured on the libraries by tests/library/constant-time, and not
- * proved.
+ * In the calls for keys, frames and jobs no branch and no address depends on a key or on data, except the verdict, the
+ * refusal KeyRepeated (is the key one of the endpoint's, or its fingerprint that of a retired one?) and MACSEC_E_OTHER_KEY
+ * (is it the key of the job?). The digits of a key in a line or a text decide two branches more, in the same way for every
+ * key: does an octet end the word or the line, and are all of them hex digits? Beside a journal, names of keys decide
+ * branches too: the journal shows them. This is measured on the libraries by tests/library/constant-time, and not proved.
  */
 #ifndef MACSEC_H
 #define MACSEC_H
@@ -165,7 +168,10 @@ enum {
     MACSEC_E_CONFIG_LONG = 52,        /* the configuration has more than 1,048,576 octets or 65,536 lines */
     MACSEC_E_NOT_JOURNAL = 53,        /* no journal, one of another version, or one with a damaged header */
     MACSEC_E_NOT_RECORD = 54,         /* the octets are not a record of a journal */
-    MACSEC_E_ANSWER_LONG = 55         /* the buffer is too small for the answer to the line */
+    MACSEC_E_ANSWER_LONG = 55,        /* the buffer is too small for the answer to the line */
+    MACSEC_E_JOB = 56,                /* the slot has no such job, or it has a frame already */
+    MACSEC_E_OTHER_KEY = 57,          /* the key is not the one that the job needs */
+    MACSEC_E_SPACE = 58               /* the buffer is too small for the frame */
 };
 
 /* Cipher suites (clause 14). Only a key can have the default: the suite of the endpoint's configuration. */
@@ -226,6 +232,17 @@ typedef struct macsec_endpoint {
 
 #define MACSEC_ENDPOINT_INIT { NULL }
 
+/* The handles of a key for jobs and of a slot. */
+typedef struct macsec_key {
+    void *at;
+} macsec_key;
+typedef struct macsec_slot {
+    void *at;
+} macsec_slot;
+
+#define MACSEC_KEY_INIT { NULL }
+#define MACSEC_SLOT_INIT { NULL }
+
 /* A configuration. */
 typedef struct macsec_config {
     uint8_t sci[8];
@@ -267,6 +284,27 @@ typedef struct macsec_received {
     bool delivered;
     uint64_t reserved[3];
 } macsec_received;
+
+/* The plan for a frame. */
+typedef struct macsec_planned {
+    uint32_t status;
+    uint32_t fate; /* MACSEC_FATE_.. of a client frame; of a link frame 0 */
+    uint16_t key;  /* the number of the key that the job needs, if there is one; else 0 */
+    bool job;      /* is the frame of the slot to be sealed, or to be opened? */
+    uint64_t reserved[4];
+} macsec_planned;
+
+/* What becomes of the link frame of a slot, as in macsec_received. What is delivered is in the caller's buffer. */
+typedef struct macsec_finished {
+    size_t length; /* the octets that are delivered */
+    uint32_t status;
+    uint32_t verdict; /* MACSEC_VERDICT_.. */
+    uint8_t sci[8];
+    uint8_t an;
+    bool has_sa;
+    bool delivered;
+    uint64_t reserved[3];
+} macsec_finished;
 
 /* Answers that name no frame. */
 #define MACSEC_SENT_INIT { (const uint8_t *)"", 0, 0, 0, 0, { 0 } }
@@ -405,6 +443,107 @@ static inline uint32_t macsec_receive(macsec_endpoint *e, const uint8_t *frame, 
     return macsec_receive_raw(e, macsec_octets(frame, length), length, out);
 }
 
+/* ---- Frames on several cores ----
+ *
+ * The cipher's work on a frame can be left to another thread. A call with the endpoint plans the frame in a slot, which
+ * holds a copy of it. The job then needs the slot and a key, and no endpoint. The endpoint takes the steps of
+ * macsec_send and macsec_receive, in the order of the calls of macsec_plan_send and macsec_finish_receive.
+ *
+ *     macsec_slot slot = MACSEC_SLOT_INIT;  // for each frame that is under way: 18.7 KB in three blocks
+ *     macsec_slot_new(&slot);
+ *     macsec_key key = MACSEC_KEY_INIT;     // for each key and thread: 4.3 KB in one block
+ *     macsec_key_take(&key, &a, sak.number);
+ *
+ *     macsec_planned planned; // a client frame, in the endpoint's thread
+ *     if (macsec_plan_send(&a, &slot, frame, length, &planned) == MACSEC_OK && planned.job)
+ *         macsec_seal_job(&slot, &key, out, sizeof out, &written);  // in any thread
+ *
+ *     macsec_plan_receive(&a, &slot, frame, length, &planned);      // a link frame, in the endpoint's thread
+ *     if (planned.job)
+ *         macsec_open_job(&slot, &key);                             // in any thread
+ *     macsec_finish_receive(&a, &slot, out, sizeof out, &finished); // in the endpoint's thread
+ *
+ * The caller owes what it owes for an endpoint: HANDLES, POINTERS and THREADS hold for keys and slots too. So each key
+ * and each slot is in one call at a time, and passes from thread to thread by a lock or by a thread's start or join. The
+ * library refuses everything else: a job that is not there or that was done (MACSEC_E_JOB), and every key but the one
+ * of the plan (MACSEC_E_OTHER_KEY).
+ *
+ * ORDER      Transmit sealed frames in the order of their plans, and finish link frames in the order of their arrival:
+ *            a replay window of 0 drops what was overtaken. A plan uses its packet number, also if it is never sealed.
+ * BETWEEN    Any call may come between a plan and its job. A frame is sealed as it was planned, also after its SA was
+ *            deleted. macsec_finish_receive judges a frame by the state that it finds. What was opened is used if the
+ *            endpoint would open the frame in the same way now, under the same key. Else the call opens it itself.
+ * SECRETS    A key, and a slot with a job, hold the octets of a key. Freeing overwrites them, and retiring the key does
+ *            not: free the macsec_key, and clear or finish the slot. The calls with slots can leave such octets on the
+ *            stack. A retired key can't be taken, but one that was taken before still works. */
+
+/* Prepares the endpoint's key of this number once more, in a handle that holds no key. MACSEC_E_TAKEN, MACSEC_E_EMPTY
+ * (the endpoint), MACSEC_E_NO_SUCH_KEY_NUMBER, MACSEC_E_NO_KEY, MACSEC_E_KEY_RETIRED, MACSEC_E_MEMORY. */
+uint32_t macsec_key_take(macsec_key *key, const macsec_endpoint *e, uint16_t number);
+/* Frees the key of a handle, as macsec_free an endpoint. */
+void macsec_key_free_raw(macsec_key *key);
+static inline void macsec_key_free(macsec_key *key) {
+    if (key != NULL)
+        macsec_key_free_raw(key);
+}
+
+/* Creates a slot without a frame, in a handle that holds none. MACSEC_E_TAKEN, MACSEC_E_MEMORY. */
+uint32_t macsec_slot_new(macsec_slot *slot);
+/* Frees the slot of a handle, as macsec_free an endpoint. */
+void macsec_slot_free_raw(macsec_slot *slot);
+static inline void macsec_slot_free(macsec_slot *slot) {
+    if (slot != NULL)
+        macsec_slot_free_raw(slot);
+}
+/* Gives up the frame of a slot, planned or opened, if it has one. */
+uint32_t macsec_slot_clear(macsec_slot *slot);
+
+uint32_t macsec_plan_send_raw(macsec_endpoint *e, macsec_slot *slot, const uint8_t *frame, size_t length,
+                              macsec_planned *out);
+/* Takes the step of macsec_send, without the work of the cipher. If `job` is true, the slot has the frame, and what
+ * macsec_seal_job makes of it is to be transmitted. Else the slot has none; a frame of fate MACSEC_FATE_PLAIN is to be
+ * transmitted as it is. Returns out->status: MACSEC_E_JOB if the slot has a frame, MACSEC_E_FRAME_SHORT,
+ * MACSEC_E_FRAME_LONG. */
+static inline uint32_t macsec_plan_send(macsec_endpoint *e, macsec_slot *slot, const uint8_t *frame, size_t length,
+                                        macsec_planned *out) {
+    return macsec_plan_send_raw(e, slot, macsec_octets(frame, length), length, out);
+}
+
+uint32_t macsec_seal_job_raw(macsec_slot *slot, macsec_key *key, uint8_t *out, size_t length, size_t *written);
+/* Writes the protected frame of the slot to `out`, which has room for `length` octets; `written` is how many it has, at
+ * most MACSEC_FRAME_MAX. The slot then has no frame. MACSEC_E_JOB, MACSEC_E_OTHER_KEY, MACSEC_E_SPACE: then nothing has
+ * changed, and the job can be done later. */
+static inline uint32_t macsec_seal_job(macsec_slot *slot, macsec_key *key, uint8_t *out, size_t length,
+                                       size_t *written) {
+    uint8_t none;
+    return macsec_seal_job_raw(slot, key, length == 0 ? &none : out, length, written);
+}
+
+uint32_t macsec_plan_receive_raw(const macsec_endpoint *e, macsec_slot *slot, const uint8_t *frame, size_t length,
+                                 macsec_planned *out);
+/* Puts a link frame into a slot without one. `job` says whether macsec_finish_receive would open it now: then
+ * macsec_open_job can do that before, or need not. Nothing of the endpoint changes. Returns out->status: MACSEC_E_JOB
+ * if the slot has a frame, MACSEC_E_FRAME_SHORT, MACSEC_E_FRAME_LONG. */
+static inline uint32_t macsec_plan_receive(const macsec_endpoint *e, macsec_slot *slot, const uint8_t *frame,
+                                           size_t length, macsec_planned *out) {
+    return macsec_plan_receive_raw(e, slot, macsec_octets(frame, length), length, out);
+}
+
+/* Opens the link frame of a slot. MACSEC_OK says nothing of the frame: whether its ICV is valid, macsec_finish_receive
+ * says. MACSEC_E_JOB, MACSEC_E_OTHER_KEY. */
+uint32_t macsec_open_job(macsec_slot *slot, macsec_key *key);
+
+uint32_t macsec_finish_receive_raw(macsec_endpoint *e, macsec_slot *slot, uint8_t *out, size_t length,
+                                   macsec_finished *finished);
+/* Takes the step of macsec_receive for the link frame of a slot, opened before or not. What is delivered is written to
+ * `out`, which has room for `length` octets: MACSEC_FRAME_MAX or more. The slot then has no frame. Returns
+ * finished->status: MACSEC_E_JOB if the slot has no link frame, MACSEC_E_SPACE. */
+static inline uint32_t macsec_finish_receive(macsec_endpoint *e, macsec_slot *slot, uint8_t *out, size_t length,
+                                             macsec_finished *finished) {
+    uint8_t none;
+    return macsec_finish_receive_raw(e, slot, length == 0 ? &none : out, length, finished);
+}
+
 /* ---- Commands (10.7): each is carried out, or refused and then nothing has changed ---- */
 
 /* Protect client frames, or send them as they are. */
@@ -421,7 +560,9 @@ uint32_t macsec_set_tag_form(macsec_endpoint *e, uint32_t form);
  * takes 4,096 keys in its life (macsec_keys_left), and then another endpoint has to take over (docs/C.md). Another
  * endpoint, or the next run of the program, knows nothing of the key: see macsec_add_tx_sa. */
 uint32_t macsec_install_key(macsec_endpoint *e, const macsec_sak *key);
-/* Retire a key that no association uses: no new association may use it. */
+/* Retire a key that no association uses: no new association may use it. The endpoint overwrites its octets, and what it
+ * had computed from them. Of the key only a fingerprint stays, by which the octets are still refused: the first octets of
+ * a SHA-256 digest, as many as the key had. */
 uint32_t macsec_retire_key(macsec_endpoint *e, uint16_t key);
 
 /* Create a transmit association (an: 0 to 3), disabled, whose first packet number is `next`; it encrypts if `conf`,
@@ -438,8 +579,8 @@ uint32_t macsec_add_rx_sc(macsec_endpoint *e, const uint8_t sci[8]);
 uint32_t macsec_delete_rx_sc(macsec_endpoint *e, const uint8_t sci[8]);
 /* Create a receive association, disabled, whose lowest acceptable packet number is `lowest`. `ssci` is the
  * sender's, if packet numbers are extended; else it is not used. */
-uint32_t macsec_add_rx_sa(macsec_endpoint *e, const uint8_t sci[8], uint8_t an, uint16_t key, uint32_t ssci,
-                      uint64_t lowest);
+uint32_t macsec_add_rx_sa(macsec_endpoint *e, const uint8_t sci[8], uint8_t an, uint16_t key, uint64_t lowest,
+                      uint32_t ssci);
 /* Enable it; disable it; raise its lowest acceptable packet number; delete it. */
 uint32_t macsec_enable_rx_sa(macsec_endpoint *e, const uint8_t sci[8], uint8_t an);
 uint32_t macsec_disable_rx_sa(macsec_endpoint *e, const uint8_t sci[8], uint8_t an);
@@ -557,8 +698,8 @@ uint32_t macsec_reserve_wanted(const macsec_endpoint *e, uint8_t an, uint64_t am
 /* The record that saves the lowest acceptable packet number of a receive association, or MACSEC_E_NOT_FOUND. */
 uint32_t macsec_reserve_to_save(const macsec_endpoint *e, const uint8_t sci[8], uint8_t an, macsec_record *out);
 /* The floor of a key, and of a receive association under a key: the highest packet number that earlier runs reserved or
- * saved, 0 if none. An association that begins at it or below is refused. It stays the same as long as the endpoint
- * lives. MACSEC_E_NOT_FOUND if there is no such key. */
+ * saved, 0 if none. An association that begins at it or below is refused. It stays the same until the key is retired,
+ * and is then 0. MACSEC_E_NOT_FOUND if there is no such key. */
 uint32_t macsec_reserve_tx_floor(const macsec_endpoint *e, uint16_t key, uint64_t *out);
 uint32_t macsec_reserve_rx_floor(const macsec_endpoint *e, const uint8_t sci[8], uint8_t an, uint16_t key,
                                  uint64_t *out);
@@ -640,6 +781,9 @@ static inline const char *macsec_status_name(uint32_t status) {
         case MACSEC_E_NOT_JOURNAL: return "NotJournal";
         case MACSEC_E_NOT_RECORD: return "NotRecord";
         case MACSEC_E_ANSWER_LONG: return "AnswerLong";
+        case MACSEC_E_JOB: return "Job";
+        case MACSEC_E_OTHER_KEY: return "OtherKey";
+        case MACSEC_E_SPACE: return "Space";
         default: return "unknown";
     }
 }

@@ -42,7 +42,7 @@ static int make_receiver(macsec_endpoint *e, const macsec_sak *key) {
     macsec_config config = { { 0, 0, 0, 0, 0, 0, 0, 2 }, MACSEC_SUITE_GCM_AES_128, MACSEC_FORM_AUTO, 1518 };
     return failed("new", macsec_new(e, &config)) || failed("install_key", macsec_install_key(e, key)) ||
            failed("add_rx_sc", macsec_add_rx_sc(e, sci_a)) ||
-           failed("add_rx_sa", macsec_add_rx_sa(e, sci_a, AN, key->number, 0, FIRST_PN)) ||
+           failed("add_rx_sa", macsec_add_rx_sa(e, sci_a, AN, key->number, FIRST_PN, 0)) ||
            failed("enable_rx_sa", macsec_enable_rx_sa(e, sci_a, AN));
 }
 

@@ -34,7 +34,7 @@ static void make_end(macsec_endpoint *e, int own) {
     must("add_tx_sa", macsec_add_tx_sa(e, 0, (uint16_t)own, 1, true));
     must("enable_tx_sa", macsec_enable_tx_sa(e, 0));
     must("add_rx_sc", macsec_add_rx_sc(e, scis[other]));
-    must("add_rx_sa", macsec_add_rx_sa(e, scis[other], 0, (uint16_t)other, (uint32_t)other + 1, 1));
+    must("add_rx_sa", macsec_add_rx_sa(e, scis[other], 0, (uint16_t)other, 1, (uint32_t)other + 1));
     must("enable_rx_sa", macsec_enable_rx_sa(e, scis[other], 0));
 }
 

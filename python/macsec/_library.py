@@ -118,7 +118,7 @@ CALLS = {
     "delete_tx_sa": (c_uint8,),
     "add_rx_sc": (_SCI,),
     "delete_rx_sc": (_SCI,),
-    "add_rx_sa": (_SCI, c_uint8, c_uint16, c_uint32, c_uint64),
+    "add_rx_sa": (_SCI, c_uint8, c_uint16, c_uint64, c_uint32),
     "enable_rx_sa": (_SCI, c_uint8),
     "disable_rx_sa": (_SCI, c_uint8),
     "set_lowest_pn": (_SCI, c_uint8, c_uint64),

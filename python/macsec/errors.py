@@ -51,6 +51,9 @@ MEANINGS = {
     Status.NotJournal: "the octets are no journal, one of another version, or one with a damaged header",
     Status.NotRecord: "the octets are not a record of a journal",
     Status.AnswerLong: "the buffer is too small for the answer to the line",
+    Status.Job: "the slot has no such job, or it has a frame already",
+    Status.OtherKey: "the key is not the one that the job needs",
+    Status.Space: "the buffer is too small for the frame",
 }
 
 

@@ -72,6 +72,9 @@ class Status(_Number):
     NotJournal = 53
     NotRecord = 54
     AnswerLong = 55
+    Job = 56
+    OtherKey = 57
+    Space = 58
 
 
 class Suite(IntEnum):

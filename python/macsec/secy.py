@@ -378,8 +378,8 @@ class SecY:
 
     def add_rx_sa(self, sci: SciLike, an: int, key: int, pn: int, ssci: int = 0) -> None:
         """Creates a receive association, disabled. `pn` is its lowest acceptable packet number, `ssci` the sender's."""
-        numbers = number_of(an, 8, "an"), number_of(key, 16, "key"), number_of(ssci, 32, "ssci")
-        self._call("add_rx_sa", sci_of(sci), *numbers, number_of(pn, 64, "pn"))
+        numbers = number_of(an, 8, "an"), number_of(key, 16, "key"), number_of(pn, 64, "pn")
+        self._call("add_rx_sa", sci_of(sci), *numbers, number_of(ssci, 32, "ssci"))
 
     def enable_rx_sa(self, sci: SciLike, an: int) -> None:
         """Enables a receive association."""

@@ -1,5 +1,5 @@
-/* The calls that take keys: when the library returns, what it left on the stack is overwritten. tools/merged-library
- * gives the library's own calls the prefix uncleared_ and links this above them. */
+/* The calls that take keys, or that retire one: when the library returns, what it left on the stack is overwritten.
+ * tools/merged-library gives the library's own calls the prefix uncleared_ and links this above them. */
 #include "../../include/macsec.h"
 #include <string.h>
 
@@ -23,6 +23,7 @@ CLEARS(65536)
 
 CALL(32768, macsec_install_key, (macsec_endpoint * e, const macsec_sak *key), (e, key))
 CALL(32768, macsec_retire_key, (macsec_endpoint * e, uint16_t key), (e, key))
+CALL(32768, macsec_key_take, (macsec_key * key, const macsec_endpoint *e, uint16_t number), (key, e, number))
 CALL(32768, macsec_command_line_raw, (macsec_endpoint * e, const uint8_t *text, size_t length), (e, text, length))
 CALL(32768, macsec_answer_raw,
      (macsec_endpoint * e, uint32_t number, const uint8_t *text, size_t text_length, uint8_t *out, size_t out_length,
@@ -34,8 +35,8 @@ CALL(32768, macsec_seal_raw,
 CALL(32768, macsec_add_tx_sa, (macsec_endpoint * e, uint8_t an, uint16_t key, uint64_t next, bool conf),
      (e, an, key, next, conf))
 CALL(32768, macsec_add_rx_sa,
-     (macsec_endpoint * e, const uint8_t sci[8], uint8_t an, uint16_t key, uint32_t ssci, uint64_t lowest),
-     (e, sci, an, key, ssci, lowest))
+     (macsec_endpoint * e, const uint8_t sci[8], uint8_t an, uint16_t key, uint64_t lowest, uint32_t ssci),
+     (e, sci, an, key, lowest, ssci))
 CALL(65536, macsec_configure_raw, (macsec_endpoint * e, const uint8_t *text, size_t length, uint32_t *line),
      (e, text, length, line))
 CALL(65536, macsec_reserve_configure_raw,

@@ -1,5 +1,5 @@
 -- What the calls of a handle return, given the outputs of its endpoint: of the keeping machine of `macsec_reserve`, which
--- without a journal is the machine.
+-- without a journal is the machine. A command takes its step in the machine that forgets retired keys.
 use Rattle.std.specs.Prelude.{◌≡◌, ℕ, List, Bool, true, false, Option, Some, None, Ok, Err, option_map}
 use Rattle.macsec_commands.specs.declared.command.Command.{Command}
 use Rattle.macsec_commands.specs.declared.config.EndConfig.{EndConfig}
@@ -20,7 +20,7 @@ use Rattle.macsec_c_calls.specs.SentParts.{SentParts, unsent}
 use Rattle.macsec_c_calls.specs.SentParts.{parts_of_kept as sent_of_kept}
 use Rattle.macsec_c_calls.specs.Statuses.{done_status, empty_status, not_journal_status, taken_status, status_of_argument_fault, status_of_new_fault}
 
--- what a handle holds after an input
+-- what a handle holds after an input that is not a command
 abbrev pub after_input : Option Keeping → Input → Option Keeping
 after_input held input = option_map (λ k. (keeping_step k (endpoint_input input)).1) held
 

@@ -63,7 +63,7 @@ pub extern "C" fn macsec_install_key(e: &mut Endpoint, key: &Sak) -> u32
     carry_out(e, new_key_of(key).map(|key| Command::Key(key)))
 }
 
-/// Retire the key of this number: no new SA may use it.
+/// Retire the key of this number: no new SA may use it, and its octets are overwritten.
 #[unsafe(no_mangle)]
 pub extern "C" fn macsec_retire_key(e: &mut Endpoint, key: u16) -> u32
     ensures { (result, e.new.state) ≡ commanded e.old.state (naming by.Retire (key_number_of key)) }
@@ -126,8 +126,8 @@ pub extern "C" fn macsec_add_rx_sa(
     sci: &[u8; 8],
     an: u8,
     key: u16,
-    ssci: u32,
     lowest: u64,
+    ssci: u32,
 ) -> u32
     ensures { (result, e.new.state) ≡ commanded e.old.state (naming_both (λ n k. by.RxSa (sci_of sci.now) n k ssci lowest) (an_of an) (key_number_of key)) }
 {

@@ -1,3 +1,4 @@
 pub mod Commanded
 pub mod Printed
 pub mod Short
+pub mod JobSteps

@@ -10,7 +10,8 @@ use Rattle.macsec_suite.specs.declared.refusal.Refusal.TheVariants.{ScFull, NoSc
 use Rattle.macsec_commands.specs.declared.command.Command.{Command}
 use Rattle.macsec_commands.specs.declared.event.End.TheVariants.{A}
 use Rattle.macsec_secy.specs.Step.{Output, operator_command, refused}
-use Rattle.macsec_reserve.specs.Keeping.{Keeping, KeepingOutput, dropped_no_reservation, endpoint_input, endpoint_output, keeping_step, noted}
+use Rattle.macsec_reserve.specs.Forgetting.{forgetting_step}
+use Rattle.macsec_reserve.specs.Keeping.{Keeping, KeepingOutput, dropped_no_reservation, endpoint_input, endpoint_output, noted}
 use Rattle.macsec_script_parser.specs.Kinds.{tells}
 use Rattle.macsec_script_printer.specs.Refusals.{refusal_text}
 use Rattle.macsec_script_printer.specs.OneEnd.{command_text}
@@ -70,6 +71,6 @@ commanded_short n small noted k = omega arith
 -- no answer to a management command needs more than the smallest buffer
 pub command_needs : (k : Keeping) (n : ℕ) (c : Command) → n < 2 ^ 32 → needed (answer_of_line k n (tells A c)) ≡ 64
 command_needs k n c small =
-    let after = keeping_step k (endpoint_input (operator_command c)) in
+    let after = forgetting_step k (endpoint_input (operator_command c)) in
     let short = commanded_short n small after.0 after.1 in
     omega arith

@@ -5,7 +5,8 @@ use Rattle.macsec_commands.specs.declared.event.End.TheVariants.{A}
 use Rattle.macsec_commands.specs.declared.event.Event.TheVariants as event
 use Rattle.macsec_suite.specs.RefusalNumbers.{number_of_refusal}
 use Rattle.macsec_secy.specs.Step.{Output, operator_command, refused}
-use Rattle.macsec_reserve.specs.Keeping.{Keeping, KeepingOutput, dropped_no_reservation, endpoint_input, endpoint_output, keeping_step, noted}
+use Rattle.macsec_reserve.specs.Forgetting.{forgetting_step}
+use Rattle.macsec_reserve.specs.Keeping.{Keeping, KeepingOutput, dropped_no_reservation, endpoint_input, endpoint_output, noted}
 use Rattle.macsec_script_parser.specs.declared.lines.Action.TheVariants as action
 use Rattle.macsec_script_parser.specs.declared.lines.Line.{Line}
 use Rattle.macsec_script_parser.specs.declared.lines.Line.TheVariants as line
@@ -48,7 +49,7 @@ commanded n noted after = shown after []
 -- line n
 abbrev pub answer_of_line : Keeping → ℕ → Line → Answer
 answer_of_line k n (line.Action (action.Event (event.Command A c))) =
-    let after = keeping_step k (endpoint_input (operator_command c)) in
+    let after = forgetting_step k (endpoint_input (operator_command c)) in
     commanded n after.0 after.1
 answer_of_line k n (line.Action (action.Counters A)) = shown k (counters_text (label.Line n) k.secy)
 answer_of_line k n (line.Action (action.Numbers A)) = shown k (numbers_text n k.secy)

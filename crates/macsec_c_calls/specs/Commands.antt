@@ -3,7 +3,8 @@ use Rattle.std.specs.Prelude.{ℕ, Ok, Err}
 use Rattle.macsec_suite.specs.RefusalNumbers.{number_of_refusal}
 use Rattle.macsec_commands.specs.declared.command.Command.{Command}
 use Rattle.macsec_secy.specs.Step.{Output, done, refused, leaves, dropped_no_sa, dropped_too_long, received, fault, operator_command}
-use Rattle.macsec_reserve.specs.Keeping.{Keeping, KeepingOutput, dropped_no_reservation, endpoint_input, endpoint_output, keeping_step, noted}
+use Rattle.macsec_reserve.specs.Forgetting.{forgetting_step}
+use Rattle.macsec_reserve.specs.Keeping.{Keeping, KeepingOutput, dropped_no_reservation, endpoint_input, endpoint_output, noted}
 use Rattle.macsec_c_calls.specs.Arguments.{Named}
 use Rattle.macsec_c_calls.specs.Statuses.{done_status, status_of_argument_fault, status_of_frame_fault}
 
@@ -26,5 +27,5 @@ status_of_kept noted = done_status
 abbrev pub commanded : Keeping → Named Command → ℕ × Keeping
 commanded k (Err f) = (status_of_argument_fault f, k)
 commanded k (Ok c) =
-    let after = keeping_step k (endpoint_input (operator_command c)) in
+    let after = forgetting_step k (endpoint_input (operator_command c)) in
     (status_of_kept after.0, after.1)

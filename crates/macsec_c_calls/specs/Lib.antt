@@ -12,3 +12,5 @@ pub mod Shown
 pub mod Statuses
 pub mod Texts
 pub mod Writing
+pub mod Jobs
+pub mod TakenKeys

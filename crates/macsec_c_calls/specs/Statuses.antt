@@ -10,6 +10,8 @@ use Rattle.macsec_script_parser.specs.declared.lines.LineFault.{LineFault}
 use Rattle.macsec_script_parser.specs.declared.lines.LineFault.TheVariants as line
 use Rattle.macsec_script_parser.specs.declared.faults.ScriptFault.{ScriptFault}
 use Rattle.macsec_script_parser.specs.declared.faults.ScriptFault.TheVariants as script
+use Rattle.macsec_jobs.specs.declared.job_fault.JobFault.{JobFault}
+use Rattle.macsec_jobs.specs.declared.job_fault.JobFault.TheVariants as job
 use Rattle.macsec_reserve.specs.declared.keeper.OpenFault.{OpenFault}
 use Rattle.macsec_reserve.specs.declared.keeper.OpenFault.TheVariants as opening
 use Rattle.macsec_c_calls.specs.declared.arguments.ArgumentFault.{ArgumentFault}
@@ -41,6 +43,23 @@ not_record_status = 54
 -- the buffer is too small for the answer to a line
 abbrev pub answer_long_status : ℕ
 answer_long_status = 55
+
+-- the slot has no such job, or it has a frame already
+abbrev pub job_status : ℕ
+job_status = 56
+
+-- the key is not the one that the job needs
+abbrev pub other_key_status : ℕ
+other_key_status = 57
+
+-- the buffer is too small for a frame
+abbrev pub space_status : ℕ
+space_status = 58
+
+abbrev pub status_of_job_fault : JobFault → ℕ
+status_of_job_fault job.NoJob = job_status
+status_of_job_fault job.OtherKey = other_key_status
+status_of_job_fault job.Space = space_status
 
 abbrev pub status_of_argument_fault : ArgumentFault → ℕ
 status_of_argument_fault argument.Suite = 34

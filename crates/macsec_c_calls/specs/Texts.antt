@@ -24,7 +24,8 @@ use Rattle.macsec_secy.specs.Step.{Output, refused, operator_command}
 use Rattle.macsec_reserve.specs.declared.keeper.OpenFault.{OpenFault}
 use Rattle.macsec_reserve.specs.declared.keeper.OpenFault.TheVariants as open_fault
 use Rattle.macsec_reserve.specs.Journal.{is_journal}
-use Rattle.macsec_reserve.specs.Keeping.{Keeping, KeepingOutput, alone, dropped_no_reservation, endpoint_input, endpoint_output, keeping_step, noted, opened}
+use Rattle.macsec_reserve.specs.Forgetting.{forgetting_step}
+use Rattle.macsec_reserve.specs.Keeping.{Keeping, KeepingOutput, alone, dropped_no_reservation, endpoint_input, endpoint_output, noted, opened}
 use Rattle.macsec_c_calls.specs.declared.configuring.ConfigFault.{ConfigFault}
 use Rattle.macsec_c_calls.specs.declared.configuring.ConfigFault.TheVariants.{Text, New, NotJournal, Refused}
 use Rattle.macsec_c_calls.specs.Commands.{commanded}
@@ -55,7 +56,7 @@ after_output n noted after = Ok after
 
 abbrev pub after_command : ℕ → Keeping → Command → Result Keeping ConfigFault
 after_command n k c =
-    let after = keeping_step k (endpoint_input (operator_command c)) in
+    let after = forgetting_step k (endpoint_input (operator_command c)) in
     after_output n after.0 after.1
 
 -- the endpoint after these commands, which are carried out in order until one is refused

@@ -100,7 +100,7 @@ fn answer_command(keeper: &mut Keeper, n: u32, command: &Command, out: &mut [u8]
             length: MIN_ANSWER_LEN,
         };
     }
-    let outcome = keeper.command(command);
+    let outcome = keeper.command_forgetting(command);
     let text = command_text(n, outcome);
     let octets = text.as_str().as_bytes();
     put(out, octets);

@@ -18,7 +18,7 @@ pub fn carry_out(keeper: &mut Keeper, command: Result<Command, ArgumentFault>) -
         Ok(command) => command,
         Err(fault) => return fault.status(),
     };
-    match keeper.command(&command) {
+    match keeper.command_forgetting(&command) {
         Ok(()) => DONE,
         Err(refusal) => u32::from(refusal.number()),
     }

@@ -106,7 +106,7 @@ fn command_of(line: &Line) -> Option<Command>
 fn carry_out_line(keeper: &mut Keeper, n: u32, command: &Command) -> Result<(), ConfigFault>
     ensures { map_ok (λ done. keeper.new) result ≡ after_command n keeper.old command.now }
 {
-    match keeper.command(command) {
+    match keeper.command_forgetting(command) {
         Ok(()) => Ok(()),
         Err(refusal) => Err(ConfigFault::Refused(n, refusal)),
     }

@@ -6,17 +6,22 @@
 //!   status of each fault and the number of each verdict are the ones in `specs/Statuses.antt`.
 //! - A reader returns the status and shows the value of `specs/Shown.antt` or `specs/Reserving.antt`. If it finds
 //!   nothing, its output is unchanged.
-//! - A command has the status of its output in the machine of `macsec_reserve` (`specs/Commands.antt`). The result for
-//!   a frame shows the output (`specs/SentParts.antt`, `specs/ReceivedParts.antt`).
+//! - A command has the status of its output in the machine of `macsec_reserve` that forgets retired keys
+//!   (`specs/Commands.antt`). The result for a frame shows the output (`specs/SentParts.antt`,
+//!   `specs/ReceivedParts.antt`).
 //! - `configured` and `configured_beside` create the endpoint of a text after the steps of all its commands, or give
 //!   the first fault or refusal, or run out of memory. `command_line` is the step of a line's command
 //!   (`specs/Texts.antt`).
+//! - A plan, a job and the end of a reception do what `specs/Jobs.antt` says: with a slot in between, the steps and the
+//!   answers are those of `macsec_send` and `macsec_receive`.
 //! - `seal` seals a frame for a test as `protect_in_place` would, whatever its SecTAG is (`specs/Sealing.antt`).
 //! - `answer` writes the answer of `specs/Answers.antt` to the beginning of the buffer, and leaves the endpoint after
 //!   it. If the buffer is too small, or memory runs out, nothing is written and nothing has changed. A line that is
 //!   wrong, or that is not about end A alone, changes nothing; its answer is the fault's text. A law (`laws`): the text
-//!   is what the line prints in a script, and the endpoint is the one after the line there, unless the journal refuses
-//!   the packet number of a command. `macsec_script::laws::prints_of_end_a` says the same of every world of a script.
+//!   is what the line prints in a script, and the endpoint is the one after the line there, except that a key which the
+//!   line retires is forgotten. Premises: the journal does not refuse the packet number of a command, and the line
+//!   installs no key that was forgotten. `macsec_script::laws::prints_of_end_a` says the same of every world of a
+//!   script.
 #![tactic(auto)]
 
 mod answering;
@@ -24,6 +29,7 @@ mod arguments;
 mod commands;
 mod configuring;
 mod creating;
+mod jobs;
 pub mod laws;
 mod receiving;
 mod reserving;
@@ -31,6 +37,7 @@ mod sealing;
 mod sending;
 mod showing;
 mod statuses;
+mod taking;
 mod texts;
 
 pub use answering::{Answered, Ending, answer};
@@ -40,6 +47,10 @@ pub use arguments::{
 pub use commands::{Sak, carry_out, new_key_of, rx_sa_of, tx_sa_of};
 pub use configuring::{ConfigFault, command_line, configured, configured_beside};
 pub use creating::{Config, config_of, endpoint_alone, endpoint_beside, status_of_open_fault};
+pub use jobs::{
+    Finished, Planned, finish_frame, open_job, plan_to_receive, plan_to_send, seal_job, unfinished,
+    unplanned,
+};
 pub use receiving::{Received, received_of, unreceived};
 pub use reserving::{
     Record, note_durable, show_rx_floor, show_to_save, show_tx_floor, show_wanted, write_compacted,
@@ -53,6 +64,8 @@ pub use showing::{
 };
 pub use statuses::{
     ANSWER_LONG, DONE, EMPTY, FATE_NO_RESERVATION, FATE_NO_SA, FATE_NONE, FATE_PLAIN,
-    FATE_PROTECTED, FATE_TOO_LONG, NONE, NOT_JOURNAL, NOT_RECORD, TAKEN, number_of_verdict,
-    status_of_frame_fault, status_of_line_fault, status_of_new_fault, status_of_script_fault,
+    FATE_PROTECTED, FATE_TOO_LONG, JOB, NONE, NOT_JOURNAL, NOT_RECORD, OTHER_KEY, SPACE, TAKEN,
+    number_of_verdict, status_of_frame_fault, status_of_line_fault, status_of_new_fault,
+    status_of_script_fault,
 };
+pub use taking::{new_slot, take_key};

@@ -29,7 +29,7 @@ pub struct Received<'a> {
 }
 
 /// The SA of a frame as C sees it: whether there is one, the SCI of its SC, and its AN.
-fn place_of(row: Option<(Sci, u8)>) -> (bool, [u8; 8], u8)
+pub(crate) fn place_of(row: Option<(Sci, u8)>) -> (bool, [u8; 8], u8)
     ensures { result ≡ place_parts row }
 {
     match row {

@@ -27,6 +27,15 @@ pub const NOT_RECORD: u32 = 54;
 /// The buffer is too small for the answer to a line.
 pub const ANSWER_LONG: u32 = 55;
 
+/// The slot has no such job, or it has a frame already.
+pub const JOB: u32 = 56;
+
+/// The key is not the one that the job needs.
+pub const OTHER_KEY: u32 = 57;
+
+/// The buffer is too small for a frame.
+pub const SPACE: u32 = 58;
+
 /// No client frame was taken: the status is not 0.
 pub const FATE_NONE: u32 = 0;
 

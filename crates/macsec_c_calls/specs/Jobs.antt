@@ -1,0 +1,139 @@
+-- The calls that leave the work of the cipher to jobs: what they return, and what is left in the endpoint and the slot.
+use Rattle.std.specs.Prelude.{◌≡◌, ◌≤◌, ℕ, List, replicate, length, take, nat_lt, Bool, true, false, not, if◌then◌else◌, Option, Some, None, Result, Ok, Err}
+use Rattle.macsec_tag.specs.Limits.{max_frame_len}
+use Rattle.macsec_secy.specs.declared.answers.DropReason.TheVariants as reason
+use Rattle.macsec_secy.specs.declared.fault.FrameFault.{FrameFault}
+use Rattle.macsec_secy.specs.Jobs.{job_of_frame}
+use Rattle.macsec_secy.specs.Step.{client_frame, frame_fault, link_frame}
+use Rattle.macsec_reserve.specs.Keeping.{Keeping, endpoint_input, keeping_step}
+use Rattle.macsec_jobs.specs.declared.answers.SendPlan.{SendPlan}
+use Rattle.macsec_jobs.specs.declared.answers.SendPlan.TheVariants as plan
+use Rattle.macsec_jobs.specs.declared.job_fault.JobFault.{JobFault}
+use Rattle.macsec_jobs.specs.declared.planned_key.PlannedKey.{PlannedKey}
+use Rattle.macsec_jobs.specs.Answers.{PlansWork}
+use Rattle.macsec_jobs.specs.Slots.{SlotState, frame_planned, is_idle, is_opening, is_received, is_sealing, open_fault, seal_fault}
+use Rattle.macsec_c_calls.specs.declared.jobs.Finished.{Finished}
+use Rattle.macsec_c_calls.specs.declared.jobs.Planned.{Planned}
+use Rattle.macsec_c_calls.specs.ReceivedParts.{ReceivedParts, unreceived}
+use Rattle.macsec_c_calls.specs.ReceivedParts.{parts_of_kept as received_of_kept}
+use Rattle.macsec_c_calls.specs.SentParts.{SentParts}
+use Rattle.macsec_c_calls.specs.SentParts.{parts_of_kept as sent_of_kept}
+use Rattle.macsec_c_calls.specs.Statuses.{done_status, job_status, space_status, status_of_frame_fault, status_of_job_fault}
+
+-- ---- plans
+
+-- there is no plan, with this status
+abbrev pub unplanned : ℕ → Planned
+unplanned status = record { status = status; fate = 0; key = 0; job = false; reserved = replicate 4 0 }
+
+-- a plan: the fate of a client frame, and the key of the job, if there is one
+abbrev pub planned_as : ℕ → ℕ → Bool → Planned
+planned_as fate key is_job = record { status = done_status; fate = fate; key = key; job = is_job; reserved = replicate 4 0 }
+
+-- the answer for a client frame, by the plan and the number of the slot's key
+abbrev pub planned_for : Result SendPlan FrameFault → ℕ → Planned
+planned_for (Ok plan.Job) key = planned_as 1 key true
+planned_for (Ok plan.Plain) key = planned_as 2 0 false
+planned_for (Ok (plan.Dropped reason.NoSa)) key = planned_as 3 0 false
+planned_for (Ok (plan.Dropped reason.TooLong)) key = planned_as 4 0 false
+planned_for (Ok plan.NoReservation) key = planned_as 5 0 false
+planned_for (Err f) key = unplanned (status_of_frame_fault f)
+
+-- and for a link frame, by whether it is to be opened
+abbrev pub taken_as : Result Bool FrameFault → ℕ → Planned
+taken_as (Ok job) key = planned_as 0 (if job then key else 0) job
+taken_as (Err f) key = unplanned (status_of_frame_fault f)
+
+-- the answer that `macsec_send` would have
+abbrev pub sent_by : Keeping → List ℕ → SentParts
+sent_by k frame = sent_of_kept (keeping_step k (endpoint_input (client_frame frame))).0
+
+-- the endpoint takes its step for the client frame, and the answer is that of the step, but for a protected frame: that is
+-- what the slot's job makes
+pub record IsPlanned (k : Keeping) (client : List ℕ) (result : Planned) (later : Keeping) (left : SlotState) : Type 0 where
+  pub after : later ≡ (keeping_step k (endpoint_input (client_frame client))).1
+  pub status : result.status ≡ (sent_by k client).status
+  pub fate : result.fate ≡ (sent_by k client).fate
+  pub key : result.key ≡ (sent_by k client).key
+  pub job : result.job ≡ is_sealing left.work
+  pub frame : is_sealing left.work ≡ true → frame_planned left ≡ (sent_by k client).frame
+  pub idle : is_idle left.work ≡ not result.job
+  pub reserved : result.reserved ≡ replicate 4 0
+
+-- by whether the slot has no frame; else nothing changes
+abbrev pub PlansIf : Bool → Keeping → SlotState → List ℕ → Planned → Keeping → SlotState → Type 0
+PlansIf true k s frame result after left = IsPlanned k frame result after left
+PlansIf false k s frame result after left = (result ≡ unplanned job_status) × (after ≡ k) × (left ≡ s)
+
+abbrev pub PlansToSend : Keeping → SlotState → List ℕ → Planned → Keeping → SlotState → Type 0
+PlansToSend k s frame result after left = PlansIf (is_idle s.work) k s frame result after left
+
+-- the slot has the link frame, with the opening that it needs, if it needs one
+pub record IsTaken (k : Keeping) (link : List ℕ) (result : Planned) (left : SlotState) : Type 0 where
+  pub frame : left.frame ≡ link
+  pub planned : PlansWork left.work left.key (job_of_frame k.secy link) k.secy.keys
+  pub shown : result ≡ planned_as 0 (if is_opening left.work then left.key.number else 0) (is_opening left.work)
+
+-- by the fault of the frame
+abbrev pub TakesUnless : Option FrameFault → Keeping → List ℕ → Planned → SlotState → Type 0
+TakesUnless None k frame result left = IsTaken k frame result left
+TakesUnless (Some f) k frame result left = (result ≡ unplanned (status_of_frame_fault f)) × (is_idle left.work ≡ true)
+
+-- by whether the slot has no frame; else nothing changes
+abbrev pub TakesIf : Bool → Keeping → SlotState → List ℕ → Planned → SlotState → Type 0
+TakesIf true k s frame result left = TakesUnless (frame_fault frame) k frame result left
+TakesIf false k s frame result left = (result ≡ unplanned job_status) × (left ≡ s)
+
+abbrev pub PlansToReceive : Keeping → SlotState → List ℕ → Planned → SlotState → Type 0
+PlansToReceive k s frame result left = TakesIf (is_idle s.work) k s frame result left
+
+-- ---- jobs
+
+-- the protected frame is at the start of the buffer, and the slot has no frame; or nothing changes, and why
+abbrev pub SealsUnless : Option JobFault → SlotState → List ℕ → ℕ → ℕ → List ℕ → ℕ → SlotState → Type 0
+SealsUnless None s out written status out_after written_after left =
+    (status ≡ done_status) × (take written_after out_after ≡ frame_planned s) × (written_after ≤ length out) × (is_idle left.work ≡ true)
+SealsUnless (Some f) s out written status out_after written_after left =
+    (status ≡ status_of_job_fault f) × (out_after ≡ out) × (written_after ≡ written) × (left ≡ s)
+
+abbrev pub SealsWith : SlotState → PlannedKey → List ℕ → ℕ → ℕ → List ℕ → ℕ → SlotState → Type 0
+SealsWith s key out written status out_after written_after left =
+    SealsUnless (seal_fault s.work s.key s.frame key (length out)) s out written status out_after written_after left
+
+-- the slot has the same link frame, which is no longer to be opened; or nothing changes, and why
+abbrev pub OpensUnless : Option JobFault → SlotState → ℕ → SlotState → Type 0
+OpensUnless None s status left =
+    (status ≡ done_status) × (is_received left.work ≡ true) × (is_opening left.work ≡ false) × (left.frame ≡ s.frame)
+OpensUnless (Some f) s status left = (status ≡ status_of_job_fault f) × (left ≡ s)
+
+abbrev pub OpensWith : SlotState → PlannedKey → ℕ → SlotState → Type 0
+OpensWith s key status left = OpensUnless (open_fault s.work s.key key) s status left
+
+-- ---- receiving
+
+abbrev pub parts_of_finished : Finished → List ℕ → ReceivedParts
+parts_of_finished r out = record { status = r.status; verdict = r.verdict; place = (r.has_sa, r.sci, r.an); delivered = (r.delivered, take r.length out); reserved = r.reserved }
+
+-- the endpoint takes its step for the link frame of the slot, with the answer that `macsec_receive` would have; what is
+-- delivered is at the start of the buffer
+pub record IsFinished (k : Keeping) (link : List ℕ) (result : Finished) (out : List ℕ) (later : Keeping) (left : SlotState) : Type 0 where
+  pub after : later ≡ (keeping_step k (endpoint_input (link_frame link))).1
+  pub shown : parts_of_finished result out ≡ received_of_kept (keeping_step k (endpoint_input (link_frame link))).0
+  pub idle : is_idle left.work ≡ true
+
+-- nothing changes, with this status
+pub record IsUnfinished (status : ℕ) (k : Keeping) (s : SlotState) (result : Finished) (out out_after : List ℕ) (later : Keeping) (left : SlotState) : Type 0 where
+  pub shown : parts_of_finished result out_after ≡ unreceived status
+  pub same_out : out_after ≡ out
+  pub same_endpoint : later ≡ k
+  pub same_slot : left ≡ s
+
+-- by whether the slot has a link frame, and whether the buffer is too small
+abbrev pub FinishesIf : Bool → Bool → Keeping → SlotState → List ℕ → Finished → List ℕ → Keeping → SlotState → Type 0
+FinishesIf false small k s out result out_after after left = IsUnfinished job_status k s result out out_after after left
+FinishesIf true true k s out result out_after after left = IsUnfinished space_status k s result out out_after after left
+FinishesIf true false k s out result out_after after left = IsFinished k s.frame result out_after after left
+
+abbrev pub FinishesFrame : Keeping → SlotState → List ℕ → Finished → List ℕ → Keeping → SlotState → Type 0
+FinishesFrame k s out result out_after after left =
+    FinishesIf (is_received s.work) (nat_lt (length out) max_frame_len) k s out result out_after after left

@@ -1,0 +1,219 @@
+//! Frames whose work of the cipher is left to jobs.
+
+ghost use Rattle.std.specs.Prelude.{◌≡◌, ℕ, List, Ok};
+ghost use Rattle.macsec_jobs.specs.Answers.{output_of_finished};
+ghost use Rattle.macsec_c_calls.specs.Jobs.{FinishesFrame, OpensWith, PlansToReceive, PlansToSend, SealsWith, parts_of_finished, planned_as, planned_for, taken_as, unplanned};
+ghost use Rattle.macsec_c_calls.specs.ReceivedParts.{parts_of_kept, unreceived};
+ghost use Rattle.macsec_c_calls.specs.Statuses.{status_of_job_fault};
+
+use crate::receiving::place_of;
+use crate::{
+    DONE, FATE_NO_RESERVATION, FATE_NO_SA, FATE_NONE, FATE_PLAIN, FATE_PROTECTED, FATE_TOO_LONG,
+    JOB, OTHER_KEY, SPACE, number_of_verdict, status_of_frame_fault,
+};
+use macsec_jobs::{Finished as Reception, JobFault, JobKey, SendPlan, Slot};
+use macsec_reserve::Keeper;
+use macsec_secy::{DropReason, FrameFault, MAX_FRAME_LEN};
+
+/// The plan for a frame.
+#[repr(C)]
+#[derive(Drop)]
+pub struct Planned {
+    /// The status.
+    pub status: u32,
+    /// The fate of a client frame, as in `Sent`; for a link frame 0.
+    pub fate: u32,
+    /// The number of the key that the job needs, or 0.
+    pub key: u16,
+    /// Whether there is a job: the frame is to be sealed, or to be opened.
+    pub job: bool,
+    /// Zeros.
+    pub reserved: [u64; 4],
+}
+
+/// The result of receiving the link frame of a slot.
+#[repr(C)]
+#[derive(Drop)]
+pub struct Finished {
+    /// How many octets are delivered at the controlled port, or 0.
+    pub length: usize,
+    /// The status.
+    pub status: u32,
+    /// The number of the verdict, 1 to 12, or 0 if the status is not 0.
+    pub verdict: u32,
+    /// The SA that the frame is for, if `has_sa` is true: the SCI of its SC, and its AN.
+    pub sci: [u8; 8],
+    pub an: u8,
+    pub has_sa: bool,
+    /// Whether a frame is delivered.
+    pub delivered: bool,
+    /// Zeros.
+    pub reserved: [u64; 3],
+}
+
+/// The status of a job that is not done.
+fn status_of_job_fault(fault: JobFault) -> u32
+    ensures { result ≡ status_of_job_fault fault }
+{
+    match fault {
+        JobFault::NoJob => JOB,
+        JobFault::OtherKey => OTHER_KEY,
+        JobFault::Space => SPACE,
+    }
+}
+
+/// The answer if nothing is planned, with this status.
+pub fn unplanned(status: u32) -> Planned
+    ensures { result ≡ unplanned status }
+{
+    Planned {
+        status,
+        fate: FATE_NONE,
+        key: 0,
+        job: false,
+        reserved: [0; 4],
+    }
+}
+
+/// A plan.
+fn planned_as(fate: u32, key: u16, job: bool) -> Planned
+    ensures { result ≡ planned_as fate key job }
+{
+    Planned {
+        status: DONE,
+        fate,
+        key,
+        job,
+        reserved: [0; 4],
+    }
+}
+
+/// Plans a client frame, in a slot without a frame.
+pub fn plan_to_send(keeper: &mut Keeper, slot: &mut Slot, frame: &[u8]) -> Planned
+    ensures { PlansToSend keeper.old slot.old frame.now result keeper.new slot.new }
+{
+    if !slot.is_idle() {
+        return unplanned(JOB);
+    }
+    let plan = slot.plan_send(keeper, frame);
+    planned_for(plan, slot.key_number())
+}
+
+/// The answer for a client frame, given the number of the slot's key.
+fn planned_for(plan: Result<SendPlan, FrameFault>, key: u16) -> Planned
+    ensures { result ≡ planned_for plan key }
+{
+    match plan {
+        Ok(SendPlan::Job) => planned_as(FATE_PROTECTED, key, true),
+        Ok(SendPlan::Plain) => planned_as(FATE_PLAIN, 0, false),
+        Ok(SendPlan::Dropped(DropReason::NoSa)) => planned_as(FATE_NO_SA, 0, false),
+        Ok(SendPlan::Dropped(DropReason::TooLong)) => planned_as(FATE_TOO_LONG, 0, false),
+        Ok(SendPlan::NoReservation) => planned_as(FATE_NO_RESERVATION, 0, false),
+        Err(fault) => unplanned(status_of_frame_fault(fault)),
+    }
+}
+
+/// Plans a link frame, in a slot without a frame. Nothing of the endpoint changes.
+pub fn plan_to_receive(keeper: &Keeper, slot: &mut Slot, frame: &[u8]) -> Planned
+    ensures { PlansToReceive keeper.now slot.old frame.now result slot.new }
+{
+    if !slot.is_idle() {
+        return unplanned(JOB);
+    }
+    let taken = slot.plan_receive(keeper, frame);
+    taken_as(taken, slot.key_number())
+}
+
+/// The answer for a link frame, given the number of the slot's key.
+fn taken_as(taken: Result<bool, FrameFault>, key: u16) -> Planned
+    ensures { result ≡ taken_as taken key }
+{
+    match taken {
+        Ok(true) => planned_as(FATE_NONE, key, true),
+        Ok(false) => planned_as(FATE_NONE, 0, false),
+        Err(fault) => unplanned(status_of_frame_fault(fault)),
+    }
+}
+
+/// Seals the client frame of a slot into a buffer. Returns the status.
+pub fn seal_job(slot: &mut Slot, key: &JobKey, out: &mut [u8], written: &mut usize) -> u32
+    ensures { SealsWith slot.old key.now out.old written.old result out.new written.new slot.new }
+{
+    match slot.seal(key, out) {
+        Ok(length) => {
+            *written = length;
+            DONE
+        }
+        Err(fault) => status_of_job_fault(fault),
+    }
+}
+
+/// Opens the link frame of a slot. Returns the status.
+pub fn open_job(slot: &mut Slot, key: &JobKey) -> u32
+    ensures { OpensWith slot.old key.now result slot.new }
+{
+    match slot.open(key) {
+        Ok(()) => DONE,
+        Err(fault) => status_of_job_fault(fault),
+    }
+}
+
+/// The result for a frame that is not received, with this status.
+pub fn unfinished(status: u32) -> Finished
+    ensures { (out : List ℕ) → parts_of_finished result out ≡ unreceived status }
+{
+    Finished {
+        length: 0,
+        status,
+        verdict: 0,
+        sci: [0; 8],
+        an: 0,
+        has_sa: false,
+        delivered: false,
+        reserved: [0; 3],
+    }
+}
+
+/// The result for a frame that is received.
+fn finished_as(received: &Reception) -> Finished
+    ensures { (frame out : List ℕ) → parts_of_finished result out ≡ parts_of_kept (output_of_finished (Ok received.now) frame out) }
+{
+    let (has_sa, sci, an) = place_of(received.row);
+    let (delivered, length) = match received.delivered {
+        Some(length) => (true, length),
+        None => (false, 0),
+    };
+    Finished {
+        length,
+        status: DONE,
+        verdict: number_of_verdict(received.verdict),
+        sci,
+        an,
+        has_sa,
+        delivered,
+        reserved: [0; 3],
+    }
+}
+
+/// Receives the link frame of a slot, and writes what is delivered to a buffer.
+pub fn finish_frame(keeper: &mut Keeper, slot: &mut Slot, out: &mut [u8]) -> Finished
+    ensures { FinishesFrame keeper.old slot.old out.old result out.new keeper.new slot.new }
+{
+    if !slot.is_received() {
+        return unfinished(JOB);
+    }
+    if out.len() < MAX_FRAME_LEN {
+        return unfinished(SPACE);
+    }
+    finished_of(slot.finish_receive(keeper, out))
+}
+
+/// The result of receiving.
+fn finished_of(outcome: Result<Reception, FrameFault>) -> Finished
+    ensures { (frame out : List ℕ) → parts_of_finished result out ≡ parts_of_kept (output_of_finished outcome frame out) }
+{
+    match outcome {
+        Ok(received) => finished_as(&received),
+        Err(fault) => unfinished(status_of_frame_fault(fault)),
+    }
+}

@@ -1,0 +1,4 @@
+pub mod SameKeys
+mod Usable
+mod Opened
+mod Delivered

@@ -1,0 +1,3 @@
+pub mod PlannedKeys
+pub mod Slots
+pub mod Answers
