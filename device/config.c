@@ -147,6 +147,14 @@ static bool take_group(struct config *c, const struct words *w) {
     return true;
 }
 
+static bool take_workers(struct config *c, const struct words *w) {
+    uint64_t count;
+    if (!words_number(w, 2, &count) || count > WORKERS_MAX)
+        return false;
+    c->workers = (unsigned)count;
+    return true;
+}
+
 /* Takes a line that switches something on. Returns false if it is another one. */
 static bool take_switch(struct config *c, const struct words *w) {
     bool is_alone = words_are(w, 3, "device", "isolate") && words_is(w, 2, "alone");
@@ -168,18 +176,20 @@ const char *config_take(struct config *c, const struct words *w) {
     if (take_switch(c, w))
         return NULL;
     if (w->count != 3)
-        return "`device link NAME`, `tap NAME`, `group NAME`, `port off`, `persist`, `transient`, `isolate`, `shared`, "
-               "`landlock optional` or `allow ..` is expected";
+        return "`device link NAME`, `tap NAME`, `group NAME`, `port off`, `workers N`, `persist`, `transient`, "
+               "`isolate`, `shared`, `landlock optional` or `allow ..` is expected";
     if (words_is(w, 1, "link"))
         return take_name(c->link, w) ? NULL : "no network device can have this name";
     if (words_is(w, 1, "tap"))
         return take_name(c->tap, w) ? NULL : "no network device can have this name";
     if (words_is(w, 1, "group"))
         return take_group(c, w) ? NULL : "there is no such group";
+    if (words_is(w, 1, "workers"))
+        return take_workers(c, w) ? NULL : "the number of workers is not 0 to 8";
     if (words_is(w, 1, "port") && words_is(w, 2, "off"))
         return c->begins_off = true, NULL;
-    return "the word after `device` is not link, tap, group, port, persist, transient, isolate, shared, landlock or "
-           "allow";
+    return "the word after `device` is not link, tap, group, port, workers, persist, transient, isolate, shared, "
+           "landlock or allow";
 }
 
 /* Takes the lines of the device, and makes comments of them, so that the others keep their numbers. */

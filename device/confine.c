@@ -158,6 +158,17 @@ static const unsigned of_journal[] = {
     SYS_exit,
 };
 
+/* Those of a worker. It uses no file but the eventfd by which it says that a frame is there. */
+static const unsigned of_workers[] = {
+    SYS_write,
+    SYS_futex,
+    SYS_restart_syscall,
+    /* the thread ends */
+    SYS_rt_sigprocmask,
+    SYS_madvise,
+    SYS_exit,
+};
+
 enum { BEFORE = 3, AFTER = 9, CALLS_MAX = 32 };
 
 #define LOAD(member) BPF_STMT(BPF_LD | BPF_W | BPF_ABS, (unsigned)offsetof(struct seccomp_data, member))
@@ -205,6 +216,10 @@ int confine_saver(void) {
     return filter_calls(of_journal, sizeof of_journal / sizeof of_journal[0]);
 }
 
+int confine_worker(void) {
+    return filter_calls(of_workers, sizeof of_workers / sizeof of_workers[0]);
+}
+
 #else
 
 static int restrict_files(int state, bool unconfined) {
@@ -219,6 +234,10 @@ int confine_calls(void) {
 }
 
 int confine_saver(void) {
+    return 0;
+}
+
+int confine_worker(void) {
     return 0;
 }
 

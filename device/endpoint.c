@@ -11,6 +11,7 @@ enum { LINE_LONGEST = 20000 };
  * line does not come again once it is retired. */
 static void note(struct device *d, const struct words *w, bool passes) {
     uint64_t key;
+    workers_forget(d->workers);
     floods_end(d);
     keys_note(w);
     totals_note(w);
@@ -34,6 +35,7 @@ bool endpoint_is_open(const struct device *d) {
 void endpoint_close(struct device *d) {
     port_set(d, false);
     floods_end(d);
+    workers_forget(d->workers);
     numbers_save(d->numbers, d->endpoint, NULL);
     numbers_forget(d->numbers);
     macsec_free(d->endpoint);

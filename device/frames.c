@@ -8,21 +8,23 @@ static void count_fault(uint32_t status, uint64_t *too_short, uint64_t *too_long
         ++*too_long;
 }
 
-/* Adds to the waiting frames what the endpoint makes of a client frame. Returns its fate. */
-static uint32_t send_one(struct device *d, const struct frame *frame) {
+void frames_sent(struct device *d, const macsec_sent *sent) {
+    count_fault(sent->status, &d->counts.tap_too_short, &d->counts.tap_too_long);
+    if (sent->fate == MACSEC_FATE_NO_RESERVATION)
+        d->counts.no_reservation++;
+    history_sent(&d->history, sent);
+    if (sent->length > 0)
+        link_append(sent->frame, sent->length, &d->counts);
+}
+
+uint32_t frames_send(struct device *d, const struct frame *frame) {
     macsec_sent sent;
-    uint32_t status;
     if (d->port.off) {
         d->counts.port_out++;
         return MACSEC_FATE_NONE;
     }
-    status = macsec_send(d->endpoint, frame->octets, frame->length, &sent);
-    count_fault(status, &d->counts.tap_too_short, &d->counts.tap_too_long);
-    if (sent.fate == MACSEC_FATE_NO_RESERVATION)
-        d->counts.no_reservation++;
-    history_sent(&d->history, &sent);
-    if (sent.length > 0)
-        link_append(sent.frame, sent.length, &d->counts);
+    (void)macsec_send(d->endpoint, frame->octets, frame->length, &sent); /* the status is in the answer too */
+    frames_sent(d, &sent);
     return sent.fate;
 }
 
@@ -36,6 +38,8 @@ static enum outcome deliver(struct device *d, const macsec_received *got) {
 
 enum outcome frames_from_client(struct device *d) {
     unsigned used = 0, lacked = 0;
+    if (d->workers != NULL)
+        return parallel_from_client(d);
     for (unsigned i = link_waiting(); i < BATCH; i++) {
         struct frame frame;
         uint32_t fate;
@@ -45,7 +49,7 @@ enum outcome frames_from_client(struct device *d) {
         if (outcome == BUSY)
             break;
         d->counts.tap_in++;
-        fate = send_one(d, &frame);
+        fate = frames_send(d, &frame);
         used += fate == MACSEC_FATE_PROTECTED;
         lacked += fate == MACSEC_FATE_NO_RESERVATION;
     }
@@ -53,28 +57,34 @@ enum outcome frames_from_client(struct device *d) {
     return link_flush(&d->link, &d->counts);
 }
 
-/* Judges a frame of LINK. Returns GONE if TAP is. */
-static enum outcome receive_one(struct device *d, const struct frame *frame) {
-    macsec_received got;
-    uint32_t status = macsec_receive(d->endpoint, frame->octets, frame->length, &got);
+enum outcome frames_received(struct device *d, const macsec_received *got) {
     d->counts.link_in++;
-    count_fault(status, &d->counts.link_too_short, &d->counts.link_too_long);
-    d->counts.no_endpoint += status == MACSEC_E_EMPTY;
-    history_received(&d->history, &got);
-    floods_note(d, got.verdict);
-    return got.delivered ? deliver(d, &got) : DONE;
+    count_fault(got->status, &d->counts.link_too_short, &d->counts.link_too_long);
+    d->counts.no_endpoint += got->status == MACSEC_E_EMPTY;
+    history_received(&d->history, got);
+    floods_note(d, got->verdict);
+    return got->delivered ? deliver(d, got) : DONE;
+}
+
+enum outcome frames_receive(struct device *d, const struct frame *frame) {
+    macsec_received got;
+    (void)macsec_receive(d->endpoint, frame->octets, frame->length, &got); /* the status is in the answer too */
+    return frames_received(d, &got);
 }
 
 enum outcome frames_from_link(struct device *d) {
     struct unfinished frames[BATCH];
     unsigned count;
-    enum outcome outcome = link_read(&d->link, frames, &count);
+    enum outcome outcome;
+    if (d->workers != NULL)
+        return parallel_from_link(d);
+    outcome = link_read(&d->link, frames, &count);
     for (unsigned i = 0; i < count; i++) {
         struct segments s;
         struct frame frame;
         segments_begin(&s, &frames[i]);
         while (segments_next(&s, &frame))
-            if (receive_one(d, &frame) == GONE)
+            if (frames_receive(d, &frame) == GONE)
                 return GONE;
     }
     floods_stop(d);

@@ -151,6 +151,7 @@ macsec_endpoint *handover_begin(struct device *d) {
 void handover_take(struct device *d, macsec_endpoint *e) {
     macsec_endpoint *before = d->endpoint;
     (void)numbers_reserve_soon(d->numbers, e, HANDOVER_WAITS);
+    workers_forget(d->workers);
     totals_carry(before);
     macsec_free(before);
     d->endpoint = e;

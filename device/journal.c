@@ -233,6 +233,9 @@ static int read_records(struct journal *journal, off_t length, size_t limit, str
     journal->spare = malloc(journal->room);
     if (journal->octets == NULL || journal->spare == NULL)
         return failed(fault, JOURNAL_MEMORY, ENOMEM);
+    /* All pages come now, and not one after another as the file fills. */
+    memset(journal->octets, 0, journal->room);
+    memset(journal->spare, 0, journal->room);
     return read_all(journal->file, journal->octets, journal->length) != 0 ? failed(fault, JOURNAL_READ, errno) : 0;
 }
 

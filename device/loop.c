@@ -10,7 +10,7 @@
 #include <unistd.h>
 
 /* What an event is about. Clients are numbered from CLIENT on. */
-enum { TAP, LINK, SIGNALS, CLOCK, LIFE, LISTENER, JOURNAL, CLIENT };
+enum { TAP, LINK, SIGNALS, CLOCK, LIFE, LISTENER, JOURNAL, WORKERS, CLIENT };
 
 /* The most events of a wait. */
 enum { EVENTS = CLIENT + CLIENTS };
@@ -57,16 +57,18 @@ static int open_clock(struct device *d) {
 }
 
 int loop_open(struct device *d) {
-    const int files[CLIENT] = { d->tap.file,         d->link.socket,          d->signals, -1, d->life.socket,
-                                d->control.listener, numbers_file(d->numbers) };
+    const int files[WORKERS] = { d->tap.file,         d->link.socket,          d->signals, -1, d->life.socket,
+                                 d->control.listener, numbers_file(d->numbers) };
     int result = open_clock(d);
     d->events = epoll_create1(EPOLL_CLOEXEC);
     if (d->events < 0) {
         message_of_errno("epoll");
         return ENDS_FAILED;
     }
-    for (uint32_t i = 0; i < CLIENT && result == 0; i++)
+    for (uint32_t i = 0; i < WORKERS && result == 0; i++)
         result = watch(d, EPOLL_CTL_ADD, i == CLOCK ? d->clock : files[i], EPOLLIN, i);
+    if (result == 0 && d->workers != NULL)
+        result = watch(d, EPOLL_CTL_ADD, workers_file(d->workers), EPOLLIN, WORKERS);
     return result;
 }
 
@@ -170,7 +172,16 @@ static int on_listener(struct device *d) {
                                                                                                       : ENDS_FAILED;
 }
 
+/* GONE can mean LINK or TAP, of which rtnetlink or the next event says so. */
+static int end_of(struct device *d, enum outcome outcome) {
+    return outcome == GONE && !life_read(d) ? ENDS_FAILED : GOES_ON;
+}
+
+/* What is no frame finds no job under way. */
 static int on_event(struct device *d, const struct epoll_event *event) {
+    if (event->data.u32 != TAP && event->data.u32 != LINK && event->data.u32 != WORKERS &&
+        end_of(d, parallel_drain(d)) != GOES_ON)
+        return ENDS_FAILED;
     switch (event->data.u32) {
     case TAP:
         return on_tap(d, event->events);
@@ -186,9 +197,25 @@ static int on_event(struct device *d, const struct epoll_event *event) {
         return on_listener(d);
     case JOURNAL:
         return on_journal(d);
+    case WORKERS:
+        workers_read_event(d->workers);
+        return GOES_ON; /* loop_run goes on with the frames after each event */
     default:
         return on_client(d, (int)(event->data.u32 - CLIENT), event->events);
     }
+}
+
+/* Waits for events. While frames are in rings, it does jobs if there are none, and finished frames end the wait. */
+static int wait_for_events(struct device *d, struct epoll_event events[EVENTS]) {
+    int count, left = waits_left(d);
+    if (d->workers == NULL || !workers_have_frames(d->workers))
+        return epoll_wait(d->events, events, EVENTS, left);
+    count = epoll_wait(d->events, events, EVENTS, 0);
+    if (count != 0 || workers_help(d->workers))
+        return count;
+    count = epoll_wait(d->events, events, EVENTS, workers_sleep(d->workers, link_waiting() == 0) ? left : 0);
+    workers_woke(d->workers);
+    return count;
 }
 
 int loop_run(struct device *d) {
@@ -196,13 +223,15 @@ int loop_run(struct device *d) {
     int result = GOES_ON;
     while (result == GOES_ON) {
         struct epoll_event events[EVENTS];
-        int count = epoll_wait(d->events, events, EVENTS, waits_left(d));
+        int count = wait_for_events(d, events);
         if (count < 0 && errno != EINTR) {
             message_of_errno("epoll");
             return ENDS_FAILED;
         }
         for (int i = 0; i < count && result == GOES_ON; i++)
             result = on_event(d, &events[i]);
+        if (result == GOES_ON)
+            result = end_of(d, parallel_go_on(d));
         if (result == GOES_ON)
             result = send_answers(d);
         if (result == GOES_ON)

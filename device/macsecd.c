@@ -58,13 +58,17 @@ static int start(struct device *d) {
     if (result == 0)
         result = life_open(d);
     if (result == 0)
+        result = workers_open(&d->workers, d->config.workers);
+    if (result == 0)
         result = loop_open(d);
     if (result == 0)
         result = confine_rights(numbers_folder(d->numbers), d->config.unconfined);
     if (result == 0)
         result = configure(d);
     if (result == 0)
-        result = numbers_start(d->numbers, d->endpoint); /* the thread of the journal has no other rights either */
+        result = numbers_start(d->numbers, d->endpoint); /* the threads have no other rights either */
+    if (result == 0)
+        result = workers_start(d->workers);
     if (result == 0)
         result = life_begin(d);
     return result == 0 ? confine_calls() : result;
@@ -88,6 +92,7 @@ static int run(struct device *d) {
         result = start(d);
     if (result != 0) {
         config_wipe(&d->config);
+        workers_close(d->workers);
         macsec_free(d->endpoint);
         keys_wipe();
         return result;
@@ -98,6 +103,8 @@ static int run(struct device *d) {
     service_notify("READY=1");
     result = loop_run(d);
     service_notify("STOPPING=1");
+    workers_close(d->workers);
+    d->workers = NULL;
     if (!numbers_close(d->numbers, d->endpoint) && result == 0)
         result = ENDS_FAILED;
     macsec_free(d->endpoint);

@@ -253,16 +253,16 @@ static size_t find_given_up(struct names *n, struct name *found[KEPT_NAMES]) {
     return count;
 }
 
-size_t names_room(const struct names *n) {
-    size_t marks = n->count < KEPT_NAMES ? n->count : KEPT_NAMES;
-    return (1 + n->count + marks) * MACSEC_RECORD_LENGTH;
-}
-
 size_t names_count(const struct names *n) {
     size_t count = 0;
     for (size_t i = 0; i < n->count; i++)
         count += !is_old(n, &n->at[i]);
     return count;
+}
+
+size_t names_room(const struct names *n) {
+    size_t count = names_count(n), marks = count < KEPT_NAMES ? count : KEPT_NAMES;
+    return (1 + count + marks) * MACSEC_RECORD_LENGTH;
 }
 
 size_t names_all(struct names *n, uint8_t *out) {
@@ -290,6 +290,10 @@ static const macsec_record *instead_of(const struct name *name, const macsec_rec
         if (memcmp(name->made.octets, records[i].octets, NAME) == 0)
             return &records[i];
     return NULL;
+}
+
+size_t names_copy_room(const struct names *n) {
+    return (1 + n->count) * MACSEC_RECORD_LENGTH;
 }
 
 size_t names_copy(const struct names *n, const macsec_record *instead, size_t count, uint8_t *out) {

@@ -415,7 +415,7 @@ uint32_t numbers_configure_empty(const struct numbers *n, macsec_endpoint *e, co
 
 uint32_t numbers_configure(const struct numbers *n, macsec_endpoint *e, const char *line, size_t length,
                            const macsec_record *instead, size_t count) {
-    size_t octets = names_room(&n->names);
+    size_t octets = names_copy_room(&n->names);
     uint8_t *journal = malloc(octets);
     uint32_t number, status;
     if (journal == NULL)

@@ -11,7 +11,9 @@
 /* Octets of an Ethernet header. */
 enum { HEADER = 14 };
 
-static uint8_t buffer[MACSEC_FRAME_MAX + 1];
+/* The last two frames that were read. */
+static uint8_t buffers[2][MACSEC_FRAME_MAX + 1];
+static unsigned next_buffer;
 
 uint32_t tap_mtu(uint32_t link_mtu, uint32_t max_frame) {
     uint32_t frame = max_frame < MACSEC_FRAME_MAX ? max_frame : MACSEC_FRAME_MAX;
@@ -86,12 +88,14 @@ static bool is_gone(int error) {
 }
 
 enum outcome tap_read(struct tap *t, struct frame *frame) {
+    uint8_t *buffer = buffers[next_buffer];
     ssize_t length;
     do
-        length = read(t->file, buffer, sizeof buffer);
+        length = read(t->file, buffer, sizeof buffers[0]);
     while (length < 0 && errno == EINTR);
     if (length < 0)
         return is_gone(errno) ? GONE : BUSY;
+    next_buffer = 1 - next_buffer;
     frame->octets = buffer;
     frame->length = (size_t)length;
     return DONE;

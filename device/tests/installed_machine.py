@@ -28,6 +28,11 @@ CARDS = {
     "other0": ("02:00:00:00:00:05", "wan0"),
 }
 
+# For an emulated machine: services of Debian's that start in 90 seconds elsewhere.
+PATIENCE = """[Manager]
+DefaultTimeoutStartSec=900
+DefaultTimeoutStopSec=300
+"""
 COMMANDS = f"""[Unit]
 Description=Commands over the second serial line
 [Service]
@@ -61,6 +66,10 @@ def accelerators() -> list[str]:
     return ["kvm", "tcg"] if {"vmx", "svm"} & set(flags) else ["tcg"]
 
 
+# Programs of an emulated machine start some fifty times as slowly. So waiting takes at most so many times as long there.
+SLOWER = 1 if "kvm" in accelerators() else 5
+
+
 def write(root: pathlib.Path, path: str, text: str) -> None:
     """Writes a file below a root."""
     (root / path).parent.mkdir(parents=True, exist_ok=True)
@@ -72,6 +81,8 @@ def furnish(root: pathlib.Path) -> None:
     write(root, "etc/hostname", "installed\n")
     write(root, "etc/hosts", "127.0.0.1 localhost installed\n")
     write(root, "etc/systemd/system/commands.service", COMMANDS)
+    if SLOWER > 1:
+        write(root, "etc/systemd/system.conf.d/patience.conf", PATIENCE)
     write(root, "etc/systemd/network/wan0.network", OTHER)
     for address, name in CARDS.values():
         text = f"[Match]\nMACAddress={address}\nDriver=virtio_net\n[Link]\nName={name}\n"
@@ -160,7 +171,7 @@ class Guest:
         """qemu's arguments."""
         more = "root=/dev/vda rw net.ifnames=0 random.trust_cpu=on"
         words = words_of(self.base / "vmlinuz", self.base / "initrd.img", 768, more, accelerators())
-        words += ["-cpu", "max", "-smp", "1", "-serial", f"file:{self.folder}/console"]
+        words += ["-cpu", "max", "-smp", "1" if SLOWER == 1 else "4", "-serial", f"file:{self.folder}/console"]
         words += ["-serial", f"unix:{self.folder}/line,server=on,wait=off"]
         words += ["-qmp", f"unix:{self.folder}/qmp,server=on,wait=off"]
         words += ["-drive", f"file={self.folder}/disk,if=virtio,format=qcow2"]
@@ -217,6 +228,7 @@ class Guest:
 
     def attempt(self, script: str, seconds: float = 60) -> tuple[int | None, str]:
         """Runs a script there. Returns its status, or None if it does not end, and its output."""
+        seconds *= SLOWER
         self.line.settimeout(10)
         self.line.sendall(json.dumps({"script": script, "seconds": seconds}).encode() + b"\n")
         got = self.answer(seconds + 30)
@@ -261,7 +273,7 @@ class Guest:
         with contextlib.suppress(Failed):
             self.attempt("systemctl reboot", 60)
         assert self.machine is not None
-        self.machine.process.wait(180)
+        self.machine.process.wait(180 * SLOWER)
         self.line.close()
         self.start()
 

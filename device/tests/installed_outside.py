@@ -12,7 +12,7 @@ import threading
 import time
 
 from house.reporting import Failed, call, until
-from installed_machine import CARDS
+from installed_machine import CARDS, SLOWER
 from macsecd_world import Namespace, checksum, connected, inside
 
 MACSEC, EAPOL, IPV4, ARP = b"\x88\xe5", b"\x88\x8e", b"\x08\x00", b"\x08\x06"
@@ -211,7 +211,7 @@ class Outside:
         """The seconds until the machine's instance passes an echo request, or infinity after so many seconds."""
         began = time.monotonic()
         it = Pings(self, name)
-        until(lambda: len(it.answered) > 1, seconds)
+        until(lambda: len(it.answered) > 1, seconds * SLOWER)
         it.stop()
         return it.answered[1] - began if len(it.answered) > 1 else float("inf")
 

@@ -147,7 +147,7 @@ static uint32_t add_sending(macsec_endpoint *e, uint8_t an, uint64_t next) {
 }
 
 static uint32_t add_receiving(macsec_endpoint *e, uint8_t an, uint64_t lowest) {
-    return macsec_add_rx_sa(e, sender, an, an, sender[5], lowest);
+    return macsec_add_rx_sa(e, sender, an, an, lowest, sender[5]);
 }
 
 static uint64_t sending_floor(const macsec_endpoint *e, uint8_t an) {

@@ -18,6 +18,7 @@ PLANTED: list[tuple[dict[int, str], list[str]]] = [
     ({1: "device link lo"}, ["line 1: LINK lo is not an Ethernet device"]),
     ({1: "device link averyveryverylongname0"}, ["line 1: no network device can have this name", "the file: there is no"]),
     ({1: "device link link0\ndevice tab x"}, ["line 2: the word after `device` is not link"]),
+    ({1: "device link link0\ndevice workers 9"}, ["line 2: the number of workers is not 0 to 8"]),
     ({1: "# none"}, ["the file: there is no line `device link NAME`"]),
     ({10: "device isolate"}, ["the file: `device shared` and `device isolate` exclude each other"]),
     ({2: "end A gcm12 0200000000010001 1514 sci"}, ["line 2: a keyword is unknown, or"]),

@@ -15,7 +15,7 @@ CONTROLS: dict[str, list[tuple[str, str, str]]] = {
     "traffic": [("frames.c", "d->counts.tap_in++;", "d->counts.tap_in += 2;"),
                  ("tap.c", "frame - HEADER - MACSEC_OVERHEAD_MAX;", "frame - HEADER;"),
                 ("show.c", "extended ? UINT64_MAX : UINT32_MAX", "UINT32_MAX")],
-    "rekey": [("frames.c", "if (sent.length > 0)", "if (sent.length > 0 && sent.key != 2)")],
+    "rekey": [("frames.c", "if (sent->length > 0)", "if (sent->length > 0 && sent->key != 2)")],
     "restart": [("names.c", "return (n->count + 1) * MACSEC_RECORD_LENGTH;", "return MACSEC_RECORD_LENGTH;"),
                 ("numbers.c", "    if (names_note(&n->names, &record, sa.key, false) == NULL)", "    if (false)")],
     "replays": [("numbers.c", "    (void)save_all(n, e, NULL);\n    numbers_reserve(n, e);",
@@ -83,7 +83,7 @@ CONTROLS: dict[str, list[tuple[str, str, str]]] = {
     "agreement": [("limits.c", "window <= l->window;", "true;"), ("limits.c", "offset != 0)", "offset > 49)"),
                   ("limits.c", "|| length < l->key_length)", "|| length > l->key_length)"),
                   ("words.c", "line[length - 1] == '\\r'", "false"),
-                  ("endpoint.c", "    port_set(d, false);\n", ""), ("frames.c", "status == MACSEC_E_EMPTY;", "0;")],
+                  ("endpoint.c", "    port_set(d, false);\n", ""), ("frames.c", "got->status == MACSEC_E_EMPTY;", "0;")],
     "load": [("endpoint.c", "r.status = lines_carry_out(d->numbers, copy, line, length, &r.raised);",
               "r.status = lines_carry_out(d->numbers, d->endpoint, line, length, &r.raised);"),
              ("endpoint.c", "        note_lines(d, lines, length);\n", ""),
@@ -143,7 +143,7 @@ CONTROLS: dict[str, list[tuple[str, str, str]]] = {
                  "    macsec_free(d->endpoint);\n    return result;\n}\n")],
     "soak": [("control.c", "    d->counts.requests++;\n",
               "    d->counts.requests++;\n    answer[0] = *(char *)memset(__builtin_malloc(4096), 1, 4096);\n"),
-             ("frames.c", "return got.delivered ?", "return got.delivered && d->counts.link_in % 1000 ?")],
+             ("frames.c", "return got->delivered ?", "return got->delivered && d->counts.link_in % 1000 ?")],
     "hostile": [("control.c", "static char request[REQUEST + 1]", "static char request[64]")],
 }
 # fmt: on

@@ -364,7 +364,7 @@ def check_many_keys(world: World, sender: pathlib.Path, keys: int, longest: floa
         f"keys: a pause of {1000 * pause:.0f} ms, the machine {1000 * polls.machine:.0f}",
     )
     report(shown["journal_names"] < 300, f"keys: the journal has {shown['journal_names']} names after {keys} keys")
-    report(size <= 1 << 18, f"keys: the journal has {size} octets after {keys} keys")
+    report(size <= 1 << 17, f"keys: the journal has {size} octets after {keys} keys")
     report(lacked == 0, f"keys: {lacked} frames lacked a reservation")
     client.socket.close()
     a.stop(signal.SIGKILL)

@@ -1,5 +1,5 @@
-"""Keys in the memory of macsecd, which is read from outside: after new keys, lines that are all carried out, a second
-endpoint, `close`, and when macsecd ends."""
+"""Keys in the memory of macsecd, which is read from outside: after new keys, for which the old ones are retired, lines
+that are all carried out, a second endpoint, `close`, and when macsecd ends."""
 
 from __future__ import annotations
 
@@ -17,8 +17,6 @@ from macsecd_world import LIBC, SALT, End, Packets, World, hand_over_lines, ping
 
 SEIZE, DETACH, STOPS_AT_EXIT, AT_EXIT = 0x4206, 17, 0x40, signal.SIGTRAP | 6 << 8
 PLAIN = bytes.fromhex("ffffffffffff02000000000988b5")
-# A retired key stays in its endpoint.
-STAYS = True
 # Octets that may be unlocked: the stack of a thread that has no keys.
 LEFT = 512 << 10
 # Fewer parts of what was prepared from a key than this: it was not found. Up to FEW parts can be of something else that
@@ -55,7 +53,7 @@ class Secrets:
             self.parts.setdefault(key, set())
 
     def judge(self, what: str, living: Iterable[str] = (), memory: list[Region] | None = None) -> None:
-        """Nothing of a key may be in the memory, but for the living ones, which must be."""
+        """Nothing of a key may be in the memory, except of the keys in use, which must be there."""
         memory = regions(self.number) if memory is None else memory
         lives = set(map(bytes.fromhex, living))
         for number, (key, parts) in enumerate(self.parts.items()):
@@ -66,17 +64,9 @@ class Secrets:
                 is_gone = found.octets == found.digits == 0 and found.parts <= FEW
                 report(is_gone, f"{what}: key {number} of {len(self.parts)}: {found}")
 
-    def judge_retired(self, retired: Iterable[str]) -> None:
-        """The lines of retired keys are gone. What the endpoint has of them is in locked memory."""
-        memory = regions(self.number)
-        for key in map(bytes.fromhex, retired):
-            found = hits(memory, key, self.parts[key])
-            report(found.digits == 0, f"the text of a retired key is in the memory: {found}")
-            report((found.octets > 0) == STAYS, f"a retired key: {found}")
-
 
 def check_locked(end: End) -> None:
-    """The memory is locked, but for the stack of the thread that writes the journal."""
+    """The memory is locked, except the stack of the thread that writes the journal."""
     assert end.process is not None
     free = [it for it in mappings(end.process.pid) if "lo" not in it.flags]
     size = sum(it.last - it.first for it in free)
@@ -144,7 +134,7 @@ def check_loads(a: End, known: Secrets, octets: int, living: list[str]) -> None:
     report(answer == "1 ok\n2 ok\n", f"a second endpoint does not take over: {answer}")
     known.add(*refused, passed[0])
     known.judge("a second endpoint", [*living, *kept])
-    known.add(passed[1])  # the second endpoint has it, retired
+    known.add(passed[1])  # the second endpoint has retired it
 
 
 def check_secrets(world: World, suite: str, changes: int) -> None:
@@ -162,7 +152,7 @@ def check_secrets(world: World, suite: str, changes: int) -> None:
         living = change_keys(world, phase, octets)
         known.add(*living)
     known.note(*living)
-    known.judge_retired([key.hex() for key in known.parts if key.hex() not in living])
+    known.judge("after new keys", living)
     check_loads(a, known, octets, list(living))
     report(ping(a) == 3, "no replies by a second endpoint")
     check_locked(a)

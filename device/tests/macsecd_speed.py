@@ -25,7 +25,9 @@ CLOCKED = ["macsec_send_raw", "macsec_receive_raw", "read", "write", "recvmmsg",
 CLOCK = [*(f"-Wl,--wrap={name}" for name in CLOCKED), str(ROOT / "device/tests/macsecd_clock.c")]
 # macsecd without batches: relay-single takes one frame at a time.
 SINGLE = ("device.h", "enum { BATCH = 64 };", "enum { BATCH = 1 };")
-RELAY = [*(f"-Wl,--wrap={name}" for name in CLOCKED[:2]), str(ROOT / "device/tests/macsecd_relay.c")]
+RELAYED = [*CLOCKED[:2], "macsec_slot_new", "macsec_slot_free_raw", "macsec_plan_send_raw", "macsec_seal_job_raw"]
+RELAYED += ["macsec_plan_receive_raw", "macsec_open_job", "macsec_finish_receive_raw"]
+RELAY = [*(f"-Wl,--wrap={name}" for name in RELAYED), str(ROOT / "device/tests/macsecd_relay.c")]
 
 
 def clocked(text: str) -> list[float]:
@@ -62,9 +64,10 @@ def frames_one_way(folder: pathlib.Path, programs: pathlib.Path, frames: int) ->
 
 
 def processor_time(end: End) -> float:
-    """The microseconds of a processor that its macsecd has used, with those of the system for it."""
+    """The microseconds of a processor that all threads of its macsecd have used, with those of the system for them."""
     assert end.process is not None
-    return int(pathlib.Path(f"/proc/{end.process.pid}/schedstat").read_text().split()[0]) / 1000
+    threads = pathlib.Path(f"/proc/{end.process.pid}/task").glob("*/schedstat")
+    return sum(int(it.read_text().split()[0]) for it in threads) / 1000
 
 
 def run_tcp(folder: pathlib.Path, programs: pathlib.Path, octets: int) -> list[float]:

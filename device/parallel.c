@@ -1,0 +1,215 @@
+/* The path of frames with workers: they are planned into rings, and leave and are delivered in the order in which they
+ * came. One frame alone takes the path without workers, so that it waits for no other thread.
+ *
+ * The endpoint's thread waits for the jobs under way before each request, each report and each tick of the clock. So
+ * these find what they would find without workers: a frame that was read before is counted, and was judged by what the
+ * endpoint was then. */
+#include "device.h"
+#include <string.h>
+
+/* ---- Sending ---- */
+
+/* Sends sealed frames in their order, as far as LINK takes them. */
+static enum outcome send_finished(struct device *d) {
+    struct ring *r = workers_ring(d->workers, SENDING);
+    enum outcome outcome = DONE;
+    while (outcome == DONE) {
+        struct ring_place *p;
+        while (link_waiting() < BATCH && (p = ring_first(r)) != NULL) {
+            macsec_sent sent = { p->out, p->length, MACSEC_OK, p->fate, 0, { 0 } };
+            d->counts.link_refused += p->length == 0; /* its packet number is used */
+            frames_sent(d, &sent);
+            workers_remove(d->workers, SENDING);
+        }
+        outcome = link_flush(&d->link, &d->counts);
+        if (ring_first(r) == NULL)
+            return outcome;
+    }
+    return outcome;
+}
+
+/* Plans a client frame into the ring, which has a free place. Returns its fate. */
+static uint32_t plan_client_frame(struct device *d, const struct frame *frame) {
+    struct ring_place *p = ring_free(workers_ring(d->workers, SENDING));
+    struct copies *copies = NULL;
+    macsec_planned planned;
+    if (d->port.off) {
+        d->counts.port_out++;
+        return MACSEC_FATE_NONE;
+    }
+    (void)macsec_plan_send(d->endpoint, &p->slot, frame->octets, frame->length, &planned); /* as in macsec_send */
+    p->length = 0;
+    p->fate = planned.fate;
+    if (planned.job) {
+        copies = workers_copies(d->workers, d->endpoint, planned.key);
+        if (copies == NULL)
+            (void)macsec_slot_clear(&p->slot); /* nothing is sent; parallel_from_client has looked for this key */
+    } else if (planned.fate == MACSEC_FATE_PLAIN) {
+        memcpy(p->out, frame->octets, frame->length);
+        p->length = frame->length;
+    } else {
+        macsec_sent dropped = { NULL, 0, planned.status, planned.fate, 0, { 0 } };
+        frames_sent(d, &dropped);
+        return planned.fate;
+    }
+    workers_put(d->workers, SENDING, copies);
+    return planned.fate;
+}
+
+/* Are there copies of the key that the endpoint sends under, or does it send under none? */
+static bool can_plan(const struct device *d) {
+    macsec_tx_sa sa;
+    for (uint8_t an = 0; an < MACSEC_AN_COUNT; an++)
+        if (macsec_get_tx_sa(d->endpoint, an, &sa) == MACSEC_OK && sa.on &&
+            workers_copies(d->workers, d->endpoint, sa.key) == NULL)
+            return false;
+    return true;
+}
+
+/* Waits until all places of the sending ring but so many are finished and their frames given to LINK. */
+static enum outcome leave_at_most(struct device *d, unsigned count) {
+    enum outcome outcome = send_finished(d);
+    while (outcome == DONE && ring_count(workers_ring(d->workers, SENDING)) > count) {
+        (void)workers_await(d->workers, SENDING, 0);
+        outcome = send_finished(d);
+    }
+    return outcome;
+}
+
+/* What was read of TAP in a batch. */
+struct client_batch {
+    unsigned frames, used, lacked;
+};
+
+static void note_fate(struct device *d, struct client_batch *b, uint32_t fate) {
+    d->counts.tap_in++;
+    b->frames++;
+    b->used += fate == MACSEC_FATE_PROTECTED;
+    b->lacked += fate == MACSEC_FATE_NO_RESERVATION;
+}
+
+/* Reads a batch. Without other frames, and if a key can't be copied, frames are sealed at once. */
+static enum outcome read_client_frames(struct device *d, struct client_batch *b) {
+    struct frame frame, following;
+    bool plans = can_plan(d);
+    enum outcome outcome = plans ? DONE : leave_at_most(d, 0);
+    if (outcome == DONE)
+        outcome = tap_read(&d->tap, &frame);
+    while (outcome == DONE) {
+        bool is_last = b->frames + 1 == BATCH;
+        outcome = is_last ? BUSY : tap_read(&d->tap, &following);
+        if (!plans || (b->frames == 0 && outcome == BUSY && ring_count(workers_ring(d->workers, SENDING)) == 0))
+            note_fate(d, b, frames_send(d, &frame));
+        else
+            note_fate(d, b, plan_client_frame(d, &frame));
+        frame = following;
+    }
+    return outcome;
+}
+
+enum outcome parallel_from_client(struct device *d) {
+    struct client_batch b = { 0, 0, 0 };
+    enum outcome outcome = leave_at_most(d, RING - BATCH);
+    if (outcome == DONE)
+        outcome = read_client_frames(d, &b);
+    numbers_used(d->numbers, d->endpoint, b.used, b.lacked > 0);
+    return outcome == GONE ? outcome : send_finished(d);
+}
+
+/* ---- Receiving ---- */
+
+/* Judges the frame of the first place, which is finished, and delivers it. */
+static enum outcome receive_first(struct device *d, struct ring_place *p) {
+    static uint8_t out[MACSEC_FRAME_MAX];
+    macsec_received got = MACSEC_RECEIVED_INIT;
+    macsec_finished finished;
+    (void)macsec_finish_receive(d->endpoint, &p->slot, out, sizeof out, &finished); /* as in macsec_receive */
+    got.frame = out;
+    got.length = finished.length;
+    got.status = finished.status;
+    got.verdict = finished.verdict;
+    memcpy(got.sci, finished.sci, sizeof got.sci);
+    got.an = finished.an;
+    got.has_sa = finished.has_sa;
+    got.delivered = finished.delivered;
+    workers_remove(d->workers, RECEIVING);
+    return frames_received(d, &got);
+}
+
+/* Delivers the finished frames that are first. */
+static enum outcome receive_finished(struct device *d) {
+    enum outcome outcome = DONE;
+    struct ring_place *p;
+    while (outcome == DONE && (p = ring_first(workers_ring(d->workers, RECEIVING))) != NULL)
+        outcome = receive_first(d, p);
+    return outcome;
+}
+
+/* Waits until there is a free place. */
+static enum outcome make_room(struct device *d) {
+    enum outcome outcome = receive_finished(d);
+    if (outcome == DONE && ring_free(workers_ring(d->workers, RECEIVING)) == NULL) {
+        (void)workers_await(d->workers, RECEIVING, 0);
+        outcome = receive_finished(d);
+    }
+    return outcome;
+}
+
+/* Plans a frame of LINK. If it needs no job or its key can't be copied, macsec_finish_receive does all. */
+static enum outcome plan_link_frame(struct device *d, const struct frame *frame) {
+    enum outcome outcome = make_room(d);
+    struct ring_place *p = ring_free(workers_ring(d->workers, RECEIVING));
+    macsec_planned planned;
+    if (outcome != DONE)
+        return outcome;
+    if (macsec_plan_receive(d->endpoint, &p->slot, frame->octets, frame->length, &planned) != MACSEC_OK)
+        return frames_receive(d, frame); /* it counts and judges nothing, and says why */
+    workers_put(d->workers, RECEIVING, planned.job ? workers_copies(d->workers, d->endpoint, planned.key) : NULL);
+    return DONE;
+}
+
+enum outcome parallel_from_link(struct device *d) {
+    struct unfinished frames[BATCH];
+    unsigned count = 0;
+    enum outcome outcome = receive_finished(d);
+    bool alone;
+    if (outcome == DONE)
+        outcome = link_read(&d->link, frames, &count);
+    if (outcome == GONE)
+        return outcome;
+    alone = count == 1 && ring_count(workers_ring(d->workers, RECEIVING)) == 0;
+    for (unsigned i = 0; i < count; i++) {
+        struct segments s;
+        struct frame frame;
+        segments_begin(&s, &frames[i]);
+        while (segments_next(&s, &frame))
+            if ((alone ? frames_receive(d, &frame) : plan_link_frame(d, &frame)) == GONE)
+                return GONE;
+    }
+    outcome = receive_finished(d);
+    floods_stop(d);
+    return outcome;
+}
+
+/* ---- Both ---- */
+
+enum outcome parallel_go_on(struct device *d) {
+    enum outcome outcome;
+    if (d->workers == NULL)
+        return DONE;
+    outcome = receive_finished(d);
+    return outcome == GONE || send_finished(d) == GONE ? GONE : DONE;
+}
+
+enum outcome parallel_drain(struct device *d) {
+    bool gone = false;
+    if (d->workers == NULL)
+        return DONE;
+    while (ring_count(workers_ring(d->workers, RECEIVING)) > 0) { /* also if TAP is gone: then they are refused */
+        (void)workers_await(d->workers, RECEIVING, 0);
+        gone = receive_finished(d) == GONE || gone;
+    }
+    for (unsigned i = 0; i < ring_count(workers_ring(d->workers, SENDING)); i++)
+        (void)workers_await(d->workers, SENDING, i);
+    return send_finished(d) == GONE || gone ? GONE : DONE;
+}

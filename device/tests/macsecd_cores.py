@@ -1,0 +1,157 @@
+"""macsecd with workers beside macsecd without, in one run: UDP, TCP and echo requests, and the same without the cipher.
+
+UDP goes through one macsecd, whose frames nobody receives. TCP and echo requests go through two. There are as many
+rounds as asked for, of all numbers of workers one after the other; the best throughput and the least median count.
+Other work on the machine's processors changes the results: the threads need as many that are free."""
+
+from __future__ import annotations
+
+import os
+import pathlib
+import socket
+import statistics
+import struct
+import subprocess
+import time
+from typing import NamedTuple
+
+from house import ROOT
+from house.compiling import WARNINGS
+from house.reporting import Failed, call, report
+from macsecd_losses import settled
+from macsecd_speed import DATAGRAM, RELAY, processor_time
+from macsecd_world import End, World, build, checksum, inside, is_answered, tcp
+
+# What workers have to gain at least, by their number, and what an echo may lose, in microseconds.
+BARS_UDP, BARS_TCP, BAR_ECHO = {2: 2.2}, {2: 1.5}, 10.0
+
+
+class Speed(NamedTuple):
+    """A throughput, and the microseconds of processors that a frame takes in the first macsecd."""
+
+    each_second: float
+    processors: float
+
+
+class Row(NamedTuple):
+    """What was measured with a number of workers: frames by UDP, million octets by TCP, and microseconds of an echo."""
+
+    udp: Speed
+    tcp: Speed
+    echo: float
+
+    def text(self) -> str:
+        """What is printed of it."""
+        udp = f"UDP {self.udp.each_second:,.0f} frames a second, {self.udp.processors:.2f} us of processors each"
+        tcp = f"TCP {self.tcp.each_second:.1f} million octets a second, {self.tcp.processors:.2f} us for each frame"
+        return f"{udp}; {tcp}; an echo {self.echo:.1f} us"
+
+
+def build_datagrams(folder: pathlib.Path) -> pathlib.Path:
+    """Builds the program that sends datagrams."""
+    source, out = ROOT / "device/tests/macsecd_datagrams.c", folder / "macsecd_datagrams"
+    call("gcc", *WARNINGS, "-pedantic", "-O2", "-o", str(out), str(source))
+    return out
+
+
+def run_udp(folder: pathlib.Path, programs: pathlib.Path, sender: pathlib.Path, seconds: float) -> Speed:
+    """Frames of 1,400 octets to one macsecd, more than it can take."""
+    with World(folder, programs) as world:
+        world.prepare()
+        a = world.ends[0]
+        a.start()
+        words = [*a.enter, str(sender), str(seconds + 1), "10.9.0.2", "9", str(DATAGRAM)]
+        with subprocess.Popen(words, stdin=subprocess.DEVNULL) as sending:
+            time.sleep(0.5)
+            before, began, used = a.counters(), time.monotonic(), processor_time(a)
+            time.sleep(seconds)
+            after, ended, grown = a.counters(), time.monotonic(), processor_time(a) - used
+            report(sending.poll() is None, "the sender of datagrams ends before it is measured")
+        report(sending.returncode == 0, f"the sender of datagrams ends with {sending.returncode}")
+        frames = after["device LinkOut"] - before["device LinkOut"]
+        missed = after["device TapIn"] - before["device TapIn"] - frames
+        report(abs(missed) <= 256, f"{missed} frames of TAP did not leave")
+        report(a.stop() == 0, f"macsecd does not end well: {a.log()}")
+    return Speed(frames / (ended - began), grown / frames)
+
+
+def run_tcp(folder: pathlib.Path, programs: pathlib.Path, octets: int) -> Speed:
+    """TCP from one client to the other."""
+    with World(folder, programs) as world:
+        world.start()
+        a, b = world.ends
+        tcp(a, octets // 8)
+        before, used = settled(a, b), processor_time(a)
+        seconds = tcp(a, octets)
+        grown, after = processor_time(a) - used, settled(a, b)
+        frames = after[0]["device LinkOut"] - before[0]["device LinkOut"]
+        names = "device LinkLost", "device LinkRefused", "device TapRefused"
+        lost = [sum(now[name] - old[name] for name in names) for now, old in zip(after, before)]
+        report(lost == [0, 0], f"frames were lost: {lost}")
+        report([it.stop() for it in (a, b)] == [0, 0], f"macsecd does not end well: {a.log()}{b.log()}")
+    return Speed(octets / seconds / 1e6, grown / frames)
+
+
+def run_echo(folder: pathlib.Path, programs: pathlib.Path, count: int) -> float:
+    """Echo requests in a quiet network, each a millisecond after the reply to the last one. Returns the median."""
+    times = []
+    with World(folder, programs) as world:
+        world.start()
+        with inside(world.ends[0].namespace):
+            it = socket.socket(socket.AF_INET, socket.SOCK_RAW, 1)
+        for sequence in range(count):
+            octets = struct.pack("!BBHHH", 8, 0, 0, 1, sequence) + bytes(56)
+            octets = octets[:2] + struct.pack("!H", checksum(octets)) + octets[4:]
+            began = time.perf_counter()
+            it.sendto(octets, ("10.9.0.2", 0))
+            if not is_answered(it, 4, 1, sequence, 1.0):
+                raise Failed("an echo request is not answered")
+            times.append(time.perf_counter() - began)
+            time.sleep(0.001)
+        it.close()
+    return statistics.median(times[count // 10 :]) * 1e6
+
+
+def best(rows: list[Row]) -> Row:
+    """The best of each."""
+    return Row(max(it.udp for it in rows), max(it.tcp for it in rows), min(it.echo for it in rows))
+
+
+def compare(what: str, rows: dict[int, Row], bars: bool) -> None:
+    """Prints the best of each number of workers, beside none, and whether the bars hold."""
+    none = rows[0]
+    for workers, row in rows.items():
+        gains = row.udp.each_second / none.udp.each_second, row.tcp.each_second / none.tcp.each_second
+        later = row.echo - none.echo
+        print(f"cores: best of {what}, {workers} workers: {row.text()}", flush=True)
+        print(f"cores: beside none: UDP {gains[0]:.2f}, TCP {gains[1]:.2f}, an echo {later:+.1f} us", flush=True)
+        if bars and workers > 0:
+            least = BARS_UDP.get(workers, 0), BARS_TCP.get(workers, 0)
+            report(gains[0] >= least[0], f"{workers} workers: UDP gains {gains[0]:.2f}, and not {least[0]}")
+            report(gains[1] >= least[1], f"{workers} workers: TCP gains {gains[1]:.2f}, and not {least[1]}")
+            report(later <= BAR_ECHO, f"{workers} workers: an echo takes {later:.1f} us longer")
+
+
+def measure_cores(
+    folder: pathlib.Path, library: pathlib.Path, numbers: list[int], short: bool = False, rounds: int = 5
+) -> None:
+    """Measures macsecd, and without `short` the same without the cipher, with each number of workers."""
+    device, sender = ROOT / "device", build_datagrams(folder)
+    programs = {"macsecd": build(folder / "full", library, [], device)}
+    if not short:
+        programs["relay"] = build(folder / "relay", library, [], device, RELAY)
+    rounds, seconds, octets, echoes = (1, 1.0, 100 << 20, 300) if short else (rounds, 3.0, 400 << 20, 1000)
+    rows: dict[str, dict[int, list[Row]]] = {name: {workers: [] for workers in numbers} for name in programs}
+    for number in range(rounds):
+        print(f"cores: round {number + 1}, load {os.getloadavg()[0]:.1f}", flush=True)
+        for name, each in programs.items():
+            for workers in numbers:
+                End.workers = workers
+                at = f"{name}{number}-{workers}"
+                udp = run_udp(folder / f"{at}-udp", each, sender, seconds)
+                tcp_ = run_tcp(folder / f"{at}-tcp", each, octets)
+                row = Row(udp, tcp_, run_echo(folder / f"{at}-echo", each, echoes))
+                rows[name][workers].append(row)
+                print(f"cores: {name}, {workers} workers: {row.text()}", flush=True)
+    for name in programs:
+        compare(name, {workers: best(rows[name][workers]) for workers in numbers}, name == "macsecd")

@@ -1,0 +1,383 @@
+/* Threads that do the work of the cipher. The endpoint's thread plans a frame, a worker seals or opens it, and the
+ * endpoint's thread takes it from its ring. So this thread alone calls the library with the endpoint.
+ *
+ * A worker that finds no job looks for a moment more and then sleeps, by a futex. One is woken for each WAKES jobs that
+ * no thread has taken, so a few frames wake none. The endpoint's thread does jobs too, when it has nothing else to do
+ * and when a ring is too full. It leaves no job behind when it waits, so each job is done although no worker may have
+ * been woken for it. While it waits in its loop, an eventfd reports that the first frame is finished. */
+#define _GNU_SOURCE
+#include "device.h"
+#include <errno.h>
+#include <limits.h>
+#include <linux/futex.h>
+#include <pthread.h>
+#include <stdlib.h>
+#include <string.h>
+#include <sys/eventfd.h>
+#include <sys/mman.h>
+#include <sys/syscall.h>
+#include <unistd.h>
+
+/* A page, the octets of a worker's stack (sanitizers need most of them), and how many it overwrites before it sleeps:
+ * the calls of jobs need less and can leave octets of keys there. */
+enum { PAGE = 4096, STACK = 1024 * 1024, USED = 64 * 1024 };
+
+/* How often a worker looks before it sleeps, which is for some 15 us, and how many jobs wake one. */
+enum { LOOKS = 300, WAKES = 8 };
+
+/* How many keys have copies at a time. */
+enum { COPIES = 64 };
+
+/* What the endpoint's thread waits for: nothing, any event of its loop, or one place. */
+enum awaited { NOTHING, EVENT, PLACE };
+
+/* The copies of a key: one for each worker, and one for the endpoint's thread. */
+struct copies {
+    bool there, usable; /* not usable: the key could not be taken, which is not tried for each frame */
+    uint16_t number;
+    unsigned jobs; /* that need them */
+    macsec_key keys[WORKERS_MAX + 1];
+};
+
+struct worker {
+    struct workers *all;
+    unsigned index;
+    pthread_t thread;
+};
+
+struct workers {
+    /* Of the endpoint's thread alone. */
+    unsigned count, started, jobs; /* the threads, those that were started, and the jobs since the rings were empty */
+    int events;                    /* an eventfd, written when a first frame is there and the loop waits */
+    uint8_t *stacks;
+    struct copies copies[COPIES];
+    struct copies *last;
+    struct worker each[WORKERS_MAX];
+    /* Of all threads. */
+    _Alignas(64) _Atomic uint32_t bell; /* changes with each wake */
+    _Atomic uint32_t sleepers, begun, unconfined, ends;
+    _Alignas(64) _Atomic uint32_t awaits;
+    struct ring rings[2];
+};
+
+/* ---- Sleeping ---- */
+
+/* Sleeps while there is this value. It can end at any time, so the caller looks again. */
+static void sleep_while(_Atomic uint32_t *at, uint32_t value) {
+    (void)syscall(SYS_futex, at, FUTEX_WAIT_PRIVATE, value, NULL, NULL, 0);
+}
+
+/* It can't fail: the address is good, and nobody needs to sleep there. */
+static void wake(_Atomic uint32_t *at, int count) {
+    (void)syscall(SYS_futex, at, FUTEX_WAKE_PRIVATE, count, NULL, NULL, 0);
+}
+
+static void ring_bell(struct workers *w, int count) {
+    atomic_fetch_add(&w->bell, 1);
+    if (atomic_load(&w->sleepers) > 0)
+        wake(&w->bell, count);
+}
+
+/* The counter of an eventfd can't be full here. */
+static void tell(const struct workers *w) {
+    const uint64_t one = 1;
+    while (write(w->events, &one, sizeof one) < 0 && errno == EINTR)
+        ;
+}
+
+/* Its own function, which the caller's frame does not have. */
+__attribute__((noinline)) static void overwrite_stack(void) {
+    char area[USED];
+    explicit_bzero(area, sizeof area);
+}
+
+/* ---- Jobs ---- */
+
+/* Does the job of a place that this thread has taken, with the copy of this index. What was sealed has its length; an
+ * opened frame is judged later, whatever came of it. */
+static void carry_out(struct ring_place *p, unsigned index) {
+    size_t written = 0;
+    macsec_key *key = &p->copies->keys[index];
+    if (!p->seals)
+        (void)macsec_open_job(&p->slot, key);
+    else if (macsec_seal_job(&p->slot, key, p->out, sizeof p->out, &written) == MACSEC_OK)
+        p->length = written;
+    else
+        (void)macsec_slot_clear(&p->slot); /* else the slot would take no other frame */
+    ring_finish(p);
+}
+
+/* Does a job of either ring. Returns its place, or NULL if there is none. */
+static struct ring_place *do_job(struct workers *w, unsigned index, unsigned ring) {
+    struct ring_place *p = ring_take(&w->rings[ring]);
+    if (p == NULL)
+        p = ring_take(&w->rings[1 - ring]);
+    if (p != NULL)
+        carry_out(p, index);
+    return p;
+}
+
+/* Wakes the endpoint's thread if it waits for a place that is finished. The place may be another frame's already: then
+ * it wakes for nothing. */
+static void wake_for(struct workers *w, struct ring_place *p) {
+    uint32_t awaited = atomic_load(&w->awaits);
+    if (awaited == PLACE)
+        wake(&p->state, 1);
+    else if (awaited == EVENT && (ring_is_first(&w->rings[0], p) || ring_is_first(&w->rings[1], p)) &&
+             atomic_exchange(&w->awaits, NOTHING) == EVENT)
+        tell(w);
+}
+
+static void *work(void *argument) {
+    struct worker *it = argument;
+    struct workers *w = it->all;
+    unsigned looks = 0;
+    if (confine_worker() != 0)
+        atomic_store(&w->unconfined, 1);
+    atomic_fetch_add(&w->begun, 1);
+    wake(&w->begun, 1);
+    for (;;) {
+        uint32_t bell = atomic_load(&w->bell); /* before all looks: a later bell ends the sleep */
+        struct ring_place *p;
+        if (atomic_load(&w->ends) != 0)
+            break;
+        p = do_job(w, it->index, it->index % 2);
+        if (p != NULL) {
+            wake_for(w, p);
+            looks = 0;
+        } else if (++looks < LOOKS) {
+            __builtin_ia32_pause();
+        } else {
+            overwrite_stack();
+            atomic_fetch_add(&w->sleepers, 1);
+            sleep_while(&w->bell, bell);
+            atomic_fetch_sub(&w->sleepers, 1);
+            looks = 0;
+        }
+    }
+    overwrite_stack();
+    return NULL;
+}
+
+/* ---- Opening and closing ---- */
+
+static int failed(int error) {
+    errno = error;
+    message_of_errno("workers");
+    return ENDS_FAILED;
+}
+
+/* Their stacks are locked in memory, as the heap is. Below each one is a page that can't be used. */
+static int make_stacks(struct workers *w) {
+    size_t length = (size_t)w->count * STACK;
+    void *stacks = mmap(NULL, length, PROT_READ | PROT_WRITE, MAP_PRIVATE | MAP_ANONYMOUS | MAP_STACK, -1, 0);
+    if (stacks == MAP_FAILED)
+        return failed(errno);
+    w->stacks = stacks;
+    if (mlock2(stacks, length, MLOCK_ONFAULT) != 0)
+        message_of_errno("the stacks of workers can't be locked, so keys may be swapped");
+    for (unsigned i = 0; i < w->count; i++)
+        if (mprotect(w->stacks + (size_t)i * STACK, PAGE, PROT_NONE) != 0)
+            return failed(errno);
+    return 0;
+}
+
+int workers_open(struct workers **w, unsigned count) {
+    struct workers *it;
+    *w = NULL;
+    if (count == 0)
+        return 0;
+    it = aligned_alloc(_Alignof(struct workers), sizeof *it);
+    if (it == NULL)
+        return failed(ENOMEM);
+    memset(it, 0, sizeof *it);
+    it->count = count;
+    *w = it;
+    it->events = eventfd(0, EFD_NONBLOCK | EFD_CLOEXEC);
+    if (it->events < 0)
+        return failed(errno);
+    if (ring_open(&it->rings[SENDING]) != MACSEC_OK || ring_open(&it->rings[RECEIVING]) != MACSEC_OK)
+        return failed(ENOMEM);
+    return make_stacks(it);
+}
+
+static int start_one(struct workers *w, unsigned index) {
+    struct worker *it = &w->each[index];
+    pthread_attr_t attributes;
+    int error = pthread_attr_init(&attributes);
+    *it = (struct worker){ .all = w, .index = index };
+    if (error != 0)
+        return error;
+    error = pthread_attr_setstack(&attributes, w->stacks + (size_t)index * STACK + PAGE, STACK - PAGE);
+    if (error == 0)
+        error = pthread_create(&it->thread, &attributes, work, it);
+    (void)pthread_attr_destroy(&attributes);
+    return error;
+}
+
+int workers_start(struct workers *w) {
+    if (w == NULL)
+        return 0;
+    for (; w->started < w->count; w->started++) {
+        int error = start_one(w, w->started);
+        if (error != 0)
+            return failed(error);
+    }
+    for (uint32_t begun; (begun = atomic_load(&w->begun)) < w->count;)
+        sleep_while(&w->begun, begun);
+    return atomic_load(&w->unconfined) == 0 ? 0 : ENDS_FAILED;
+}
+
+/* No octet of a key is left in the stacks: the threads have overwritten what they used. */
+void workers_close(struct workers *w) {
+    if (w == NULL)
+        return;
+    atomic_store(&w->ends, 1);
+    ring_bell(w, INT_MAX);
+    while (w->started > 0)
+        (void)pthread_join(w->each[--w->started].thread, NULL);
+    workers_forget(w); /* it does the jobs that are left */
+    ring_close(&w->rings[SENDING]);
+    ring_close(&w->rings[RECEIVING]);
+    (void)close(w->events); /* nothing is lost if this or the next call fails */
+    if (w->stacks != NULL)
+        (void)munmap(w->stacks, (size_t)w->count * STACK);
+    free(w);
+}
+
+int workers_file(const struct workers *w) {
+    return w->events;
+}
+
+struct ring *workers_ring(struct workers *w, enum direction direction) {
+    return &w->rings[direction];
+}
+
+/* ---- Keys ---- */
+
+static void free_copies(struct copies *c) {
+    for (unsigned i = 0; i <= WORKERS_MAX; i++)
+        macsec_key_free(&c->keys[i]);
+    c->there = c->usable = false;
+}
+
+/* Copies that can be made: there are none, or no job needs them. */
+static struct copies *free_place(struct workers *w) {
+    struct copies *found = NULL;
+    for (unsigned i = 0; i < COPIES; i++) {
+        if (!w->copies[i].there)
+            return &w->copies[i];
+        if (w->copies[i].jobs == 0)
+            found = &w->copies[i];
+    }
+    if (found != NULL)
+        free_copies(found);
+    return found;
+}
+
+static struct copies *make_copies(struct workers *w, const macsec_endpoint *e, uint16_t number) {
+    struct copies *c = free_place(w);
+    if (c == NULL)
+        return NULL;
+    c->there = c->usable = true;
+    c->number = number;
+    for (unsigned i = 0; i <= w->count && c->usable; i++)
+        c->usable = macsec_key_take(&c->keys[i], e, number) == MACSEC_OK;
+    return c;
+}
+
+struct copies *workers_copies(struct workers *w, const macsec_endpoint *e, uint16_t number) {
+    struct copies *c = w->last;
+    if (c == NULL || !c->there || c->number != number) {
+        c = NULL;
+        for (unsigned i = 0; i < COPIES && c == NULL; i++)
+            if (w->copies[i].there && w->copies[i].number == number)
+                c = &w->copies[i];
+        if (c == NULL)
+            c = make_copies(w, e, number);
+        w->last = c;
+    }
+    return c != NULL && c->usable ? c : NULL;
+}
+
+/* A place is finished, so its job needs no copies any more. */
+static void release(struct ring_place *p) {
+    if (p->copies != NULL)
+        p->copies->jobs--;
+    p->copies = NULL;
+}
+
+void workers_forget(struct workers *w) {
+    if (w == NULL)
+        return;
+    for (unsigned i = 0; i < ring_count(&w->rings[SENDING]); i++)
+        (void)workers_await(w, SENDING, i);
+    for (unsigned i = 0; i < ring_count(&w->rings[RECEIVING]); i++)
+        (void)workers_await(w, RECEIVING, i);
+    for (unsigned i = 0; i < COPIES; i++)
+        if (w->copies[i].there)
+            free_copies(&w->copies[i]);
+    overwrite_stack();
+}
+
+/* ---- In the endpoint's thread ---- */
+
+void workers_put(struct workers *w, enum direction direction, struct copies *copies) {
+    struct ring *r = &w->rings[direction];
+    struct ring_place *p = ring_free(r);
+    if (!workers_have_frames(w))
+        w->jobs = 0;
+    p->copies = copies;
+    p->seals = direction == SENDING;
+    ring_put(r, copies != NULL);
+    if (copies == NULL)
+        return;
+    copies->jobs++;
+    if (++w->jobs % WAKES == 0 && ring_untaken(r) >= WAKES)
+        ring_bell(w, 1);
+}
+
+void workers_remove(struct workers *w, enum direction direction) {
+    release(ring_first(&w->rings[direction]));
+    ring_remove(&w->rings[direction]);
+}
+
+bool workers_have_frames(const struct workers *w) {
+    return ring_count(&w->rings[SENDING]) + ring_count(&w->rings[RECEIVING]) > 0;
+}
+
+bool workers_help(struct workers *w) {
+    return do_job(w, w->count, RECEIVING) != NULL;
+}
+
+struct ring_place *workers_await(struct workers *w, enum direction direction, unsigned index) {
+    struct ring_place *p = ring_at(&w->rings[direction], index);
+    for (unsigned looks = 0; !ring_is_finished(p); looks++) {
+        if (ring_take_place(p)) {
+            carry_out(p, w->count);
+        } else if (do_job(w, w->count, direction) == NULL && looks > LOOKS) {
+            atomic_store(&w->awaits, PLACE);
+            sleep_while(&p->state, TAKEN);
+            atomic_store(&w->awaits, NOTHING);
+        } else {
+            __builtin_ia32_pause();
+        }
+    }
+    release(p);
+    return p;
+}
+
+bool workers_sleep(struct workers *w, bool sends) {
+    atomic_store(&w->awaits, EVENT);
+    return (!sends || ring_first(&w->rings[SENDING]) == NULL) && ring_first(&w->rings[RECEIVING]) == NULL;
+}
+
+void workers_woke(struct workers *w) {
+    atomic_store(&w->awaits, NOTHING);
+}
+
+void workers_read_event(struct workers *w) {
+    uint64_t count;
+    if (read(w->events, &count, sizeof count) < 0 && errno != EAGAIN && errno != EINTR)
+        message_of_errno("workers");
+}
