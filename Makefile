@@ -2,25 +2,24 @@
 #                    tour; with ARGS='..' on those arguments, as in make try ARGS='protect CONFIG IN OUT'. build/try has
 #                    it and the commands in Python
 # make test          builds without proofs and runs most checks, in at most 5 minutes
-# make               proves and builds the program, build/macsec; with CPU=x86-64-v3 build/macsec-x86-64-v3, for
-#                    processors with vectors of 256 bits
+# make               proves and builds the program, build/macsec, for the processor at hand; with CPU=x86-64-v2 for every
+#                    one, with CPU=x86-64-v3 for those with vectors of 256 bits
 # make run           does the same, and runs it on the tour
 # make lib           proves and builds the library for C of the header include/macsec.h: build/libmacsec.a and
-#                    build/libmacsec.so.1; with CPU=x86-64-v3 also those of build/glibc-hwcaps/x86-64-v3
+#                    build/libmacsec.so.1 for every processor, and those of build/glibc-hwcaps/x86-64-v3 if CPU is that
 # make kept          proves the program's libraries and keeps the work where rt takes it, before a crate is changed
-# make device        builds the MACsec device build/macsecd, and build/macsecctl, over the library for C; with
-#                    CPU=x86-64-v3 build/macsecd-x86-64-v3
+# make device        builds the MACsec device build/macsecd, and build/macsecctl, over the library for C of CPU
 # make install       copies the program, its manual pages, the libraries for C, their header and pkg-config file to
 #                    PREFIX, /usr/local by default, under DESTDIR
 # make install-device copies the device's programs, their manual pages and the unit for systemd to PREFIX, as make
-#                    install does; the device of CPU becomes macsecd there
+#                    install does
 # make install-python copies the Python package to PREFIX/lib/macsec/python, its commands and their manual pages
 # make dist          makes build/dist: macsec-VERSION.tar.gz and the Debian packages macsec, libmacsec1, libmacsec-dev,
 #                    python3-macsec, macsec-doc and macsecd
 # make check         the gate
 # make pictures      draws docs/pictures again, from crates.txt and docs/PERFORMANCE.md
 # make reference     writes docs/reference again, from the sources
-# make bench         measures the cipher and frames
+# make bench         measures the cipher and an endpoint, by time and by instructions, built for each processor
 # make clean         removes what make has built
 # make help          prints this list and the checks, each of which is a target: make NAME runs it over what is built,
 #                    and proves and builds that first
@@ -29,26 +28,35 @@ SOURCES := crates.txt $(shell find crates -name out -prune -o -type f \( -name '
 INPUTS := 100000
 SEED := 1
 PREFIX ?= /usr/local
-CPU ?= x86-64-v2
-BUILT := build/macsec$(if $(filter x86-64-v3,$(CPU)),-x86-64-v3)
+# What programs are built for: by default the processor at hand, by what the loader of the C library says.
+ifndef CPU
+CPU := $(shell /lib64/ld-linux-x86-64.so.2 --help 2> /dev/null | grep -q 'x86-64-v3 .supported' \
+    && echo x86-64-v3 || echo x86-64-v2)
+endif
+ifeq ($(filter x86-64-v2 x86-64-v3,$(CPU)),)
+$(error CPU is x86-64-v2 or x86-64-v3, and not $(CPU))
+endif
 DEVICE_FLAGS := -std=c11 -pthread -Wall -Wextra -Werror -pedantic -Iinclude -O2 -fstack-protector-strong -D_FORTIFY_SOURCE=2 \
     -fstack-clash-protection -fcf-protection -fPIE -pie -Wl,-z,relro -Wl,-z,now -Wl,-z,noexecstack
 HWCAPS := glibc-hwcaps/x86-64-v3
-DEVICE := build/macsecd$(if $(filter x86-64-v3,$(CPU)),-x86-64-v3)
+LIBRARIES := build/libmacsec.a build/$(HWCAPS)/libmacsec.a
+BOTH := build/macsec-x86-64-v2 build/macsec-x86-64-v3
+BENCHES := build/macsec_bench-x86-64-v2 build/macsec_bench-x86-64-v3
 DEVICE_SOURCES := $(sort $(filter-out device/macsecctl.c,$(wildcard device/*.c)))
 
 # The checks that make a program or a library first, and the others.
 OVER_PROGRAM := altered-frames conformance conformance-controls peer planted stored-runs
-OVER_LIBRARY := c-programs constant-time device-forged device-fuzz isolated isolated-controls isolated-unit journal \
-    keys-in-memory macsecd macsecd-controls macsecd-isolated pages python readers two-hosts
-CHECKS := $(OVER_PROGRAM) $(OVER_LIBRARY) against allocators any-order c-cost c-header controls device-analyzed \
+OVER_LIBRARY := c-programs constant-time device-forged device-fuzz instructions isolated isolated-controls \
+    isolated-unit journal keys-in-memory macsecd macsecd-controls macsecd-isolated macsecd-workers pages python readers \
+    two-hosts workers
+CHECKS := $(OVER_PROGRAM) $(OVER_LIBRARY) against allocators any-order c-cost c-header controls cores device-analyzed \
     device-forged-linux device-installed device-kernel edits failures fuzz isolated-kinds kept-frames kernel-captures \
     lanes-used live mka moves needed packages style table version
 
 .PHONY: all try test run lib kept device device-of install install-device install-python dist check pictures reference \
-    bench toolchain clean help $(CHECKS)
+    bench toolchain clean help always $(CHECKS)
 
-all: $(BUILT)
+all: build/macsec
 
 try: toolchain
 	@tools/unproved macsec libmacsec.a
@@ -64,12 +72,12 @@ test: toolchain
 run: build/macsec
 	@build/macsec run - < examples/scripts/tour.macsec
 
-lib: build/libmacsec.a $(if $(filter x86-64-v3,$(CPU)),build/$(HWCAPS)/libmacsec.a)
+lib: $(if $(filter x86-64-v3,$(CPU)),$(LIBRARIES),build/libmacsec.a)
 
 kept: toolchain
 	@tools/prove kept
 
-install: build/macsec build/libmacsec.a
+install: build/macsec lib
 	install -d "$(DESTDIR)$(PREFIX)/bin" "$(DESTDIR)$(PREFIX)/include" "$(DESTDIR)$(PREFIX)/lib/pkgconfig"
 	install -d "$(DESTDIR)$(PREFIX)/share/man/man1" "$(DESTDIR)$(PREFIX)/share/man/man5"
 	install -m 755 build/macsec "$(DESTDIR)$(PREFIX)/bin/macsec"
@@ -93,7 +101,7 @@ install-python:
 	    install -D -m 755 python/installed_command.py "$(DESTDIR)$(PREFIX)/bin/$$each" || exit 1; done
 	tools/completions python --to "$(DESTDIR)$(PREFIX)"
 
-dist: build/macsec build/libmacsec.a build/$(HWCAPS)/libmacsec.a
+dist: $(BOTH) $(LIBRARIES)
 	tools/dist
 
 check: toolchain
@@ -106,8 +114,8 @@ pictures:
 reference:
 	tools/reference
 
-bench: toolchain
-	cd crates/macsec_bench && rt run -- measure
+bench: $(BENCHES)
+	@tests/program/bench
 
 help:
 	@sed -n '/^RT/q; s/^# //p' Makefile; tools/check --targets
@@ -120,12 +128,15 @@ $(OVER_PROGRAM): build/macsec
 fuzz: build/macsec build/macsec-rattle
 failures: build/macsec
 $(OVER_LIBRARY): build/libmacsec.a
-c-programs constant-time pages python: build/macsec
-constant-time keys-in-memory: build/$(HWCAPS)/libmacsec.a
-packages: build/macsec build/libmacsec.a build/$(HWCAPS)/libmacsec.a
-controls: build/macsec build/macsec-rattle build/libmacsec.a
+c-programs pages python: build/macsec
+constant-time: $(BOTH)
+constant-time instructions keys-in-memory: build/$(HWCAPS)/libmacsec.a
+packages: $(BOTH) $(LIBRARIES)
+controls: build/macsec build/macsec-x86-64-v2 build/macsec-rattle build/libmacsec.a
+against: $(BOTH) $(LIBRARIES)
+c-cost: $(BENCHES) $(LIBRARIES)
 
-device: $(DEVICE) build/macsecctl
+device: build/macsecd build/macsecctl
 
 # The same in a folder TO, over a library LIBRARY that is there: for the packages.
 device-of:
@@ -133,22 +144,23 @@ device-of:
 	$(CC) $(DEVICE_FLAGS) -o "$(TO)/macsecctl" device/macsecctl.c
 
 install-device: device
-	install -D -m 755 -t "$(DESTDIR)$(PREFIX)/sbin" build/macsecctl device/macsec-link
+	install -D -m 755 -t "$(DESTDIR)$(PREFIX)/sbin" build/macsecd build/macsecctl device/macsec-link
 	sed -i 's|/usr/local|$(PREFIX)|' "$(DESTDIR)$(PREFIX)/sbin/macsec-link"
-	install -m 755 $(DEVICE) "$(DESTDIR)$(PREFIX)/sbin/macsecd"
 	install -D -m 644 -t "$(DESTDIR)$(PREFIX)/share/man/man8" man/macsecd.8 man/macsecctl.8 man/macsec-link.8
 	install -d "$(DESTDIR)$(PREFIX)/lib/systemd/system"
 	sed 's|/usr/local|$(PREFIX)|' device/macsecd@.service > "$(DESTDIR)$(PREFIX)/lib/systemd/system/macsecd@.service"
 	tools/completions device --to "$(DESTDIR)$(PREFIX)"
 
-# The program, proved and then built by LLVM.
-build/macsec: $(SOURCES) | toolchain
-	@echo "proving and building build/macsec: from nothing many minutes, with a line for each crate" >&2
-	@tools/prove
+# The program and the device for CPU, under their short names. They are compared, since a check may have built them for
+# another processor.
+build/macsec build/macsecd: %: %-$(CPU) always
+	@for end in "" .proved; do \
+	    [ ! -e $<$$end ] || cmp -s $<$$end $@$$end || cp -f $<$$end $@$$end || exit 1; done
 
-# The program for processors with vectors of 256 bits, and as Rattle's own compiler builds it.
-build/macsec-x86-64-v3 build/macsec-rattle: $(SOURCES) | toolchain build/macsec
-	@tools/prove $(notdir $@)
+# The program and the benchmark, proved and then built by LLVM, and the program as Rattle's own compiler builds it.
+$(BOTH) $(BENCHES) build/macsec-rattle: $(SOURCES) | toolchain
+	@echo "proving and building $@: from nothing many minutes, with a line for each crate" >&2
+	@tools/prove $(@F)
 
 # The library for C, with what it must be linked with.
 build/libmacsec.a: $(SOURCES) tools/merged-library $(wildcard tools/library/*) | toolchain
@@ -156,10 +168,9 @@ build/libmacsec.a: $(SOURCES) tools/merged-library $(wildcard tools/library/*) |
 	@tools/prove libmacsec_c.a
 	tools/merged-library build/libmacsec_c.a $@
 
-build/macsecd: $(DEVICE_SOURCES) build/libmacsec.a $(wildcard device/*.h)
-	$(CC) $(DEVICE_FLAGS) -o $@ $(filter %.c %.a,$^)
-
-build/macsecd-x86-64-v3: $(DEVICE_SOURCES) build/$(HWCAPS)/libmacsec.a $(wildcard device/*.h)
+build/macsecd-x86-64-v2: build/libmacsec.a
+build/macsecd-x86-64-v3: build/$(HWCAPS)/libmacsec.a
+build/macsecd-x86-64-v2 build/macsecd-x86-64-v3: $(DEVICE_SOURCES) $(wildcard device/*.h)
 	$(CC) $(DEVICE_FLAGS) -o $@ $(filter %.c %.a,$^)
 
 build/macsecctl: device/macsecctl.c

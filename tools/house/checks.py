@@ -4,6 +4,7 @@ from __future__ import annotations
 
 from typing import NamedTuple
 
+from house.processors import KINDS, WIDER, runs
 from house.written import table
 
 # What a check needs, in the order in which the gate makes it: nothing but sources; the compiler of `rt`, or its log;
@@ -45,7 +46,9 @@ class Check(NamedTuple):
 
 BUILT = "--program {program}"
 BOTH = "--program {program} --program {rattle}"
-BOTH_LIBRARIES = "build/libmacsec.a build/glibc-hwcaps/x86-64-v3/libmacsec.a"
+# The builds that this processor runs.
+LIBRARIES = "build/libmacsec.a" + (f" build/glibc-hwcaps/{WIDER}/libmacsec.a" if runs(WIDER) else "")
+BUILDS = " ".join(f"--program build/macsec-{it}" for it in KINDS if runs(it))
 
 # fmt: off
 CHECKS: list[Check] = [
@@ -100,10 +103,12 @@ CHECKS: list[Check] = [
           hand="--calls {inputs} --seed {seed}"),
     Check("constant-time", "reports what depends on keys or on data, in the library for C and in the program",
           "tests/library/constant-time", LIBRARY, 60, "a table read by index, branches on a key, comparisons that end early",
-          gate=f"--mistakes --program build/macsec {BOTH_LIBRARIES}"),
-    Check("keys-in-memory", "looks for keys in the memory of a process that has freed them",
+          gate=f"--mistakes {BUILDS} {LIBRARIES}"),
+    Check("keys-in-memory", "looks for keys in the memory of a process that has retired or freed them",
           "tests/library/keys-in-memory", LIBRARY, 20, "libraries that overwrite no blocks, or no stack",
-          test="{library}", gate=f"--mistakes build/libmacsec_c.a {BOTH_LIBRARIES}"),
+          test="{library}", gate=f"--mistakes build/libmacsec_c.a {LIBRARIES}"),
+    Check("instructions", "counts the instructions of a frame and of a key through the library for C, against limits",
+          "tests/library/instructions", LIBRARY, 15, "a limit below what is counted, one far above it", gate=LIBRARIES),
     Check("pages", "runs the examples of the pages, and checks their links", "tools/pages", LIBRARY, 10,
           "another output, links that lead nowhere", test=f"{BUILT} --library {{shared}}", gate=""),
     Check("packages", "makes the packages and tries them", "tools/dist --check", LIBRARY, 30,
@@ -118,12 +123,16 @@ CHECKS: list[Check] = [
           30, "commands with mistakes, limits of time and memory, too few inputs",
           test="--inputs 300 --seed {seed} --library {shared}", gate="--inputs 2000 --seed {seed}",
           hand="--inputs {inputs} --seed {seed}"),
-    Check("device", "compiles the device", "make --no-print-directory device", LIBRARY, 10, None, gate=""),
+    Check("device", "compiles the device", "make --no-print-directory device CPU=x86-64-v2", LIBRARY, 10, None,
+          gate=""),
     Check("device-fuzz", "gives mutated octets to macsecd's readers, under sanitizers", "device/tests/device-fuzz", LIBRARY, 20,
           "readers with mistakes; clang that is missing", gate="--inputs 2000 --mistakes --seed {seed}",
           hand="--minutes 2 --mistakes --seed {seed}"),
     Check("macsecd", "runs the device in network namespaces", "device/tests/macsecd", ROOT_USER, 60,
           "the check macsecd-controls", gate="--short --seed {seed}", hand="--seed {seed}"),
+    Check("workers", "sends frames through the device's workers in one process, under sanitizers", "device/tests/workers",
+          LIBRARY, 20, "workers and rings with mistakes (--mistakes)", test="--short --library {library} --seed {seed}",
+          gate="--short --seed {seed}", hand="--mistakes --seed {seed}"),
     Check("controls", "sees that the checks report something wrong", "tests/program/controls", ALL, 60,
           "it is made of them", gate=""),
     Check("any-order", "sees that rt ci accepts what make run leaves", "tests/any-order", ALL, 60, None, gate=""),
@@ -145,15 +154,20 @@ CHECKS: list[Check] = [
           "device/tests/device-installed", GUEST, 900, "device/tests/device-installed --controls", hand=""),
     Check("macsecd-isolated", "runs the device's other checks with an isolated LINK", "device/tests/macsecd --isolated",
           ROOT_USER, 600, "the check macsecd-controls", hand="--seed {seed}"),
+    Check("macsecd-workers", "runs the device's checks with three workers", "device/tests/macsecd --workers 3", ROOT_USER,
+          600, "the checks macsecd-controls and workers", hand="--seed {seed}"),
     Check("macsecd-controls", "plants mistakes in the device", "device/tests/macsecd --short --controls", ROOT_USER, 1200,
           "it is made of them", hand=""),
     Check("device-analyzed", "runs the analyzers of gcc and clang over the device and the examples in C",
           "device/tests/device-analyzed", NOTHING, 15, "memory that is read after it was freed", test=""),
     Check("peer", "compares frames with Scapy's and with what tshark reads", "tests/program/peer", PROGRAM, 60, None,
           hand=""),
-    Check("against", "measures the program beside OpenSSL", "tests/program/against", PROGRAM, 120, None, hand=""),
-    Check("c-cost", "counts the instructions of a frame through the library", "tests/program/c-cost", LIBRARY, 60, None,
-          hand=""),
+    Check("against", "measures the program and the library beside OpenSSL, built for each processor",
+          "tests/program/against", LIBRARY, 180, None, hand=""),
+    Check("c-cost", "counts the instructions of a frame through the library, built for each processor",
+          "tests/program/c-cost", LIBRARY, 60, None, hand=""),
+    Check("cores", "measures how many frames several threads seal through the library",
+          "tests/library/cores build/libmacsec.a", LIBRARY, 10, None, hand=""),
     Check("device-kernel", "runs the device against a Linux kernel in a virtual machine", "device/tests/device-kernel",
           GUEST, 900, None, hand=""),
     Check("kernel-captures", "opens captures of a Linux kernel in a virtual machine", "python/tests/kernel-captures",
@@ -191,8 +205,9 @@ def markdown() -> str:
     """The table for docs/MAINTAINING.md."""
     rows = []
     for it in CHECKS:
-        marks = ["yes" if it.test is not None else "", f"{it.seconds} s" if it.gate is not None else ""]
-        rows.append([f"`{it.name}`", it.does, it.needs, *marks, it.control or "**nothing**"])
+        time = f"{it.seconds} s" if it.gate is not None else f"({it.seconds} s)" if it.hand is not None else ""
+        mark = "yes" if it.test is not None else ""
+        rows.append([f"`{it.name}`", it.does, it.needs, mark, time, it.control or "**nothing**"])
     return table("check | does | needs | `make test` | gate | is shown", rows)
 
 

@@ -110,11 +110,12 @@ def pack(folder: pathlib.Path, files: dict[str, str], out: pathlib.Path) -> path
 def words_of(
     kernel: pathlib.Path, initrd: pathlib.Path, memory: int, more: str = "", accelerators: Sequence[str] = ("tcg",)
 ) -> list[str]:
-    """qemu's arguments, but for cards and consoles. It takes the first of the accelerators that there is."""
+    """qemu's arguments, except for cards and consoles. It takes the first of the accelerators that there is."""
     words = f"qemu-system-x86_64 -m {memory} -display none -no-reboot -nic none".split()
     for it in accelerators:
         words += ["-accel", it]
-    append = f"console=ttyS0 quiet panic=-1 {more}"
+    # Linux tests the timer while it starts, and stops if an emulated machine gets no processor meanwhile.
+    append = f"console=ttyS0 quiet panic=-1 no_timer_check {more}"
     return [*words, "-kernel", str(kernel), "-initrd", str(initrd), "-append", append]
 
 

@@ -13,9 +13,10 @@ from typing import Callable
 
 from house.crates import ROOT
 from house.linked import links
+from house.processors import EVERY, KINDS, WIDER, at_hand, runs
 
 TRIPLET = "x86_64-linux-gnu"
-HWCAPS = "glibc-hwcaps/x86-64-v3"
+HWCAPS = f"glibc-hwcaps/{WIDER}"
 NAMES = ["libmacsec1", "libmacsec-dev", "macsec", "macsec-doc", "python3-macsec"]
 DOC, LIBRARIES = "/usr/share/doc", f"/usr/lib/{TRIPLET}"
 # Below /usr: the folder of the package for Python.
@@ -77,11 +78,6 @@ def text(path: str) -> str:
     return read(f"{ROOT}/{path}").decode()
 
 
-def has_vectors() -> bool:
-    """Does this processor have vectors of 256 bits, so that the loader takes the library for them?"""
-    return "x86-64-v3 (supported" in run("/lib64/ld-linux-x86-64.so.2", "--help")
-
-
 def tried_in_c(where: str, do: Callable[..., str], at: str, room: str, flags: list[str]) -> None:
     """Compiles the examples in C, and runs them over the shared library, and one over the static one."""
     examples = f"{at}{DOC}/libmacsec-dev/examples/c"
@@ -93,7 +89,7 @@ def tried_in_c(where: str, do: Callable[..., str], at: str, room: str, flags: li
     see(f"{where}, talk.c, linked statically, prints its text", do(f"{room}/static") == text("examples/c/talk.txt"))
     faster = f"{at}{LIBRARIES}/{HWCAPS}/libmacsec.so.1"
     is_there = do("sh", "-c", f"[ ! -e {faster} ] || echo yes") != ""
-    expected = f"/{HWCAPS}/libmacsec.so.1" if is_there and has_vectors() else f"/{TRIPLET}/libmacsec.so.1"
+    expected = f"/{HWCAPS}/libmacsec.so.1" if is_there and runs(WIDER) else f"/{TRIPLET}/libmacsec.so.1"
     loaded = re.findall(r"libmacsec\.so\.1 => (\S+)", do("env", "LD_TRACE_LOADED_OBJECTS=1", f"{room}/talk"))
     see(f"{where}, the loader takes ..{expected}", len(loaded) == 1 and loaded[0].endswith(expected))
 
@@ -114,11 +110,29 @@ def tried_in_python(where: str, do: Callable[..., str], at: str, room: str) -> N
     see(f"{where}, an example in Python prints its text", told == text("examples/python/dissect.txt"))
 
 
+def tried_programs(where: str, do: Callable[..., str], top: str, tour: str) -> None:
+    """Runs the tour by the program below a folder, and by the program for each kind of processors. If these are there,
+    the first one is a script that runs the one for this processor."""
+    program, of_kinds = f"{top}/bin/macsec", [f"{top}/lib/macsec/{it}/macsec" for it in KINDS]
+    are_there = do("sh", "-c", f"[ ! -e {of_kinds[0]} ] || echo yes") != ""
+    for path in [program, *(it for kind, it in zip(KINDS, of_kinds) if are_there and runs(kind))]:
+        told = do(path, "run", tour)
+        see(
+            f"{where}, {os.path.relpath(path, top)} prints the text of the tour",
+            told == text("examples/scripts/tour.txt"),
+        )
+    if are_there:
+        told = do("sh", "-c", f"sh -x {program} run {tour} 2>&1")
+        chosen = re.findall(r"^\+ exec \S+/lib/macsec/(\S+)/macsec run ", told, re.M)
+        see(f"{where}, bin/macsec runs the program for {at_hand()}", chosen == [at_hand()])
+        wide = do("objdump", "-d", of_kinds[KINDS.index(EVERY)]).count("%ymm") if shutil.which("objdump") else 0
+        see(f"{where}, the program for {EVERY} has no vectors of 256 bits", wide == 0)
+
+
 def tried(where: str, do: Callable[..., str], at: str, room: str, flags: list[str]) -> None:
     """Tries what the packages of Debian install: `do` runs a command, `at` is before each path of them, and `room` is a
     folder for what is made."""
-    told = do(f"{at}/usr/bin/macsec", "run", f"{at}{DOC}/macsec/examples/tour.macsec")
-    see(f"{where}, the tour prints its text", told == text("examples/scripts/tour.txt"))
+    tried_programs(where, do, f"{at}/usr", f"{at}{DOC}/macsec/examples/tour.macsec")
     tried_in_c(where, do, at, room, flags)
     tried_in_python(where, do, at, room)
     do("touch", f"{room}/frames.pcap")
@@ -205,6 +219,7 @@ def archive(name: str, room: str) -> None:
     flags = do("pkg-config", "--cflags", "--libs", "macsec").split()
     do("gcc", "-o", f"{room}/talk", f"{top}/share/doc/macsec/examples/c/talk.c", *flags)
     see("unpacked, the archive has what talk.c needs", do(f"{room}/talk") == text("examples/c/talk.txt"))
+    tried_programs("in the archive", do, top, f"{top}/share/doc/macsec/examples/tour.macsec")
     cargo = shutil.which("cargo")
     if cargo and subprocess.run([cargo, "--version"], stdout=subprocess.DEVNULL).returncode == 0:
         # Cargo finds its compiler by variables and files of the user.
