@@ -129,7 +129,7 @@ CALLS: dict[str, Callable[..., str]] = {
     "delete_tx_sa": done(lambda it, an: it.delete_tx_sa(int(an))),
     "add_rx_sc": done(lambda it, sci: it.add_rx_sc(sci)),
     "delete_rx_sc": done(lambda it, sci: it.delete_rx_sc(sci)),
-    "add_rx_sa": done(lambda it, sci, an, key, ssci, pn: it.add_rx_sa(sci, int(an), int(key), int(pn), int(ssci))),
+    "add_rx_sa": done(lambda it, sci, an, key, pn, ssci: it.add_rx_sa(sci, int(an), int(key), int(pn), int(ssci))),
     "enable_rx_sa": done(lambda it, sci, an: it.enable_rx_sa(sci, int(an))),
     "disable_rx_sa": done(lambda it, sci, an: it.disable_rx_sa(sci, int(an))),
     "set_lowest_pn": done(lambda it, sci, an, pn: it.set_lowest_pn(sci, int(an), int(pn))),

@@ -114,17 +114,20 @@ class Pipes(InFolder):
         assert it.stdin is not None
         it.stdin.write((CAPTURES / "link.pcap").read_bytes())
         it.stdin.flush()
-        self.wait_until_read(it.stdin.fileno())
+        self.wait_until_read(it.stdin.fileno(), it.pid)
         it.send_signal(signal.SIGINT)
         printed, error = it.communicate(timeout=120)
         self.assertEqual((it.returncode, b"OK 3" in printed, error), (0, True, b""))
 
     @staticmethod
-    def wait_until_read(pipe: int) -> None:
-        """Waits until nothing is left in a pipe."""
-        until = time.monotonic() + 60
-        while fcntl.ioctl(pipe, termios.FIONREAD, bytes(4)) != bytes(4) and time.monotonic() < until:
-            time.sleep(0.02)
+    def wait_until_read(pipe: int, reader: int) -> None:
+        """Waits until nothing is left in a pipe, and the process that reads it has used that and sleeps."""
+        until, sleeps = time.monotonic() + 60, 0
+        while sleeps < 5 and time.monotonic() < until:
+            is_read = fcntl.ioctl(pipe, termios.FIONREAD, bytes(4)) == bytes(4)
+            state = pathlib.Path(f"/proc/{reader}/stat").read_text().rpartition(")")[2].split()[0]
+            sleeps = sleeps + 1 if is_read and state == "S" else 0
+            time.sleep(0.05)
 
     def test_a_reader_that_leaves(self) -> None:
         shell = f"cat {CAPTURES}/link.pcap | {' '.join(command('decrypt', '-', '-', '--key', KEY))} | head -c 1"

@@ -99,20 +99,23 @@ static size_t key_words(char line[300], const macsec_sak *key, const char *befor
     return at;
 }
 
-static void install(macsec_endpoint *e, macsec_sak key) {
+static void install_as(macsec_endpoint *e, macsec_sak key, uint16_t number, uint32_t wanted) {
     char line[300];
+    key.number = number;
     if (text) {
         size_t length = key_words(line, &key, "A ");
-        must("key line", macsec_command_line(e, (const uint8_t *)line, length), MACSEC_OK);
+        must("key line", macsec_command_line(e, (const uint8_t *)line, length), wanted);
         return;
     }
     if (keys)
         secret(key.bytes, key.length);
-    must("install", macsec_install_key(e, &key), MACSEC_OK);
-    if (key.number == 0) {
-        key.number = 77;
-        must("install again", macsec_install_key(e, &key), MACSEC_E_KEY_REPEATED);
-    }
+    must("install", macsec_install_key(e, &key), wanted);
+}
+
+static void install(macsec_endpoint *e, macsec_sak key) {
+    install_as(e, key, key.number, MACSEC_OK);
+    if (key.number == 0 && !text)
+        install_as(e, key, 77, MACSEC_E_KEY_REPEATED);
 }
 
 /* What an endpoint answers to lines, and the record that saves a packet number. */
@@ -150,8 +153,7 @@ static void receive_twice(macsec_endpoint *b, uint8_t *frame, size_t length) {
     }
 }
 
-/* One frame from a to b, with a wrong tag first. */
-static void pass(macsec_endpoint *a, macsec_endpoint *b, size_t length) {
+static uint8_t *client_frame(size_t length) {
     uint8_t *frame = malloc(length);
     for (size_t i = 0; i < length; i++)
         frame[i] = (uint8_t)(i * 7);
@@ -160,6 +162,12 @@ static void pass(macsec_endpoint *a, macsec_endpoint *b, size_t length) {
         frame[12] = 8, frame[13] = 0;
     if (data)
         secret(frame + 12, length - 12);
+    return frame;
+}
+
+/* One frame from a to b, with a wrong tag first. */
+static void pass(macsec_endpoint *a, macsec_endpoint *b, size_t length) {
+    uint8_t *frame = client_frame(length);
     macsec_sent sent;
     must("send", macsec_send(a, frame, length, &sent), MACSEC_OK);
     shown(&sent, sizeof sent);
@@ -172,6 +180,60 @@ static void pass(macsec_endpoint *a, macsec_endpoint *b, size_t length) {
     receive_twice(b, link, sent.length);
     free(frame);
     free(link);
+}
+
+/* ---- Frames in slots ---- */
+
+/* Keys of a and of b, the key number 1 of a, and a slot at each end. */
+static macsec_key of_a, of_b, another;
+static macsec_slot at_a, at_b;
+
+static void open_slots(macsec_endpoint *a, macsec_endpoint *b) {
+    must("take", macsec_key_take(&of_a, a, 0), MACSEC_OK);
+    must("take", macsec_key_take(&of_b, b, 0), MACSEC_OK);
+    must("take", macsec_key_take(&another, a, 1), MACSEC_OK);
+    must("slot", macsec_slot_new(&at_a), MACSEC_OK);
+    must("slot", macsec_slot_new(&at_b), MACSEC_OK);
+}
+
+static void free_slots(void) {
+    macsec_key_free(&of_a);
+    macsec_key_free(&of_b);
+    macsec_key_free(&another);
+    macsec_slot_free(&at_a);
+    macsec_slot_free(&at_b);
+}
+
+static void open_twice(macsec_endpoint *b, uint8_t *link, size_t length) {
+    static uint8_t out[MACSEC_FRAME_MAX];
+    for (int good = 0; good < 2; good++) {
+        macsec_planned planned;
+        macsec_finished finished;
+        link[length - 1] ^= 1;
+        must("plan a link frame", macsec_plan_receive(b, &at_b, link, length, &planned), MACSEC_OK);
+        must("open by another", macsec_open_job(&at_b, &another), MACSEC_E_OTHER_KEY);
+        must("open", macsec_open_job(&at_b, &of_b), MACSEC_OK);
+        must("finish", macsec_finish_receive(b, &at_b, out, sizeof out, &finished), MACSEC_OK);
+        shown(&finished, sizeof finished);
+        must_be("verdict", finished.verdict, good ? MACSEC_VERDICT_OK : MACSEC_VERDICT_NOT_VALID);
+    }
+}
+
+/* One frame from a to b by jobs, with a wrong tag first. */
+static void pass_in_slots(macsec_endpoint *a, macsec_endpoint *b, size_t length) {
+    static uint8_t link[MACSEC_FRAME_MAX];
+    uint8_t *frame = client_frame(length);
+    macsec_planned planned;
+    size_t written = 0;
+    must("plan", macsec_plan_send(a, &at_a, frame, length, &planned), MACSEC_OK);
+    must("seal by another", macsec_seal_job(&at_a, &another, link, sizeof link, &written), MACSEC_E_OTHER_KEY);
+    must("seal", macsec_seal_job(&at_a, &of_a, link, sizeof link, &written), MACSEC_OK);
+    shown(&written, sizeof written);
+    frames++;
+    hidden += is_hidden(link + written - 16, 16);
+    shown(link, written);
+    open_twice(b, link, written);
+    free(frame);
 }
 
 static void reserve(macsec_endpoint *a) {
@@ -199,14 +261,20 @@ static void run(uint32_t suite, uint8_t offset, bool encrypts, unsigned seed) {
         reserve(&a);
     must("enable", macsec_enable_tx_sa(&a, 0), MACSEC_OK);
     must("rxsc", macsec_add_rx_sc(&b, own), MACSEC_OK);
-    must("rxsa", macsec_add_rx_sa(&b, own, 0, 0, is_xpn(suite) ? 1 : 0, 1), MACSEC_OK);
+    must("rxsa", macsec_add_rx_sa(&b, own, 0, 0, 1, is_xpn(suite) ? 1 : 0), MACSEC_OK);
     must("rxon", macsec_enable_rx_sa(&b, own, 0), MACSEC_OK);
-    for (size_t i = 0; i < COUNT(lengths); i++)
+    open_slots(&a, &b);
+    for (size_t i = 0; i < COUNT(lengths); i++) {
         pass(&a, &b, lengths[i]);
+        if (i % 4 == 0)
+            pass_in_slots(&a, &b, lengths[i]);
+    }
+    free_slots();
     ask(&b, own);
     must("off", macsec_disable_tx_sa(&a, 0), MACSEC_OK);
     must("delete", macsec_delete_tx_sa(&a, 0), MACSEC_OK);
     must("retire", macsec_retire_key(&a, 0), MACSEC_OK);
+    install_as(&a, sak(0, suite, offset, 1, seed), 78, MACSEC_E_KEY_REPEATED);
     macsec_free(&a);
     macsec_free(&b);
 }

@@ -2,7 +2,8 @@
  *
  * usage: memory WAY SUITE KEYS: SUITE is 1 to 4. WAY is struct, line or config, and KEYS how many keys come one after
  * another. Or, as with struct: rekeys, and KEYS is how many changes of keys there are; beside, and a third endpoint
- * lives on; locked, and the memory is locked.
+ * lives on; locked, and the memory is locked; journal, and the endpoints have a journal; jobs, and the frames pass in
+ * slots; kept, and no key is retired.
  *
  * Its standard input has the octets of the first key, for each of two rounds, those of the next one for each change of
  * keys, and an octet for each step. The octets of a key are in no variable when a step is announced. The endpoints of
@@ -84,6 +85,13 @@ static void install(macsec_endpoint *e, const macsec_sak *key) {
 static void make(macsec_endpoint *e, const uint8_t sci[8], const macsec_sak *key) {
     macsec_config config = { { 0 }, suite, MACSEC_FORM_SCI, 1546 };
     memcpy(config.sci, sci, sizeof config.sci);
+    if (is_way("journal")) {
+        const uint8_t salt[24] = { 9 };
+        macsec_record header;
+        must("header", macsec_journal_header(salt, &header));
+        must("open", macsec_reserve_open(e, &config, header.octets, sizeof header.octets));
+        return;
+    }
     if (!is_way("config")) {
         must("new", macsec_new(e, &config));
         return;
@@ -128,16 +136,32 @@ static void take_others(macsec_endpoint *e, const uint8_t sci[8], unsigned count
 }
 
 static void associate(macsec_endpoint *a, macsec_endpoint *b, uint8_t an, uint16_t number) {
+    macsec_record record;
     must("add", macsec_add_tx_sa(a, an, number, 1, true));
+    must("wanted", macsec_reserve_wanted(a, an, 1000, &record));
+    must("granted", macsec_reserve_granted(a, &record));
     must("enable", macsec_enable_tx_sa(a, an));
-    must("rxsa", macsec_add_rx_sa(b, own, an, number, is_xpn() ? 1 : 0, 1));
+    must("rxsa", macsec_add_rx_sa(b, own, an, number, 1, is_xpn() ? 1 : 0));
     must("rxon", macsec_enable_rx_sa(b, own, an));
 }
 
-static void give_up(macsec_endpoint *a, uint8_t an, uint16_t number) {
+static void retire(macsec_endpoint *e, uint16_t number) {
+    char line[20];
+    if (is_way("line")) {
+        size_t length = (size_t)sprintf(line, "A retire %u", number);
+        must("retire line", macsec_command_line(e, (const uint8_t *)line, length));
+    } else if (!is_way("kept")) {
+        must("retire", macsec_retire_key(e, number));
+    }
+}
+
+/* The key is no longer used, and is retired at both ends. */
+static void give_up(macsec_endpoint *a, macsec_endpoint *b, uint8_t an, uint16_t number) {
     must("disable", macsec_disable_tx_sa(a, an));
     must("delete", macsec_delete_tx_sa(a, an));
-    must("retire", macsec_retire_key(a, number));
+    must("rxdel", macsec_delete_rx_sa(b, own, an));
+    retire(a, number);
+    retire(b, number);
 }
 
 static void pass_frames(macsec_endpoint *a, macsec_endpoint *b) {
@@ -153,6 +177,75 @@ static void pass_frames(macsec_endpoint *a, macsec_endpoint *b) {
     }
 }
 
+/* ---- Frames in slots ---- */
+
+static macsec_slot slots[2] = { MACSEC_SLOT_INIT, MACSEC_SLOT_INIT };
+static macsec_key taken[2] = { MACSEC_KEY_INIT, MACSEC_KEY_INIT };
+
+/* The calls with slots can leave octets of keys on the stack, as the header says. */
+__attribute__((noinline)) static void clear_stack(void) {
+    uint8_t area[1 << 16];
+    explicit_bzero(area, sizeof area);
+}
+
+static void take_keys(macsec_endpoint *a, macsec_endpoint *b) {
+    must("take", macsec_key_take(&taken[0], a, 0));
+    must("take", macsec_key_take(&taken[1], b, 0));
+}
+
+static void free_keys(void) {
+    macsec_key_free(&taken[0]);
+    macsec_key_free(&taken[1]);
+}
+
+/* A frame that was planned is sealed, and one that was received is opened. */
+static void pass_in_slots(macsec_endpoint *a, macsec_endpoint *b, const uint8_t *frame, size_t length) {
+    static uint8_t link[MACSEC_FRAME_MAX], out[MACSEC_FRAME_MAX];
+    macsec_planned planned;
+    macsec_finished finished;
+    size_t written = 0;
+    must("plan", macsec_plan_send(a, &slots[0], frame, length, &planned));
+    must("seal", macsec_seal_job(&slots[0], &taken[0], link, sizeof link, &written));
+    must("plan", macsec_plan_receive(b, &slots[1], link, written, &planned));
+    must("open", macsec_open_job(&slots[1], &taken[1]));
+    must("finish", macsec_finish_receive(b, &slots[1], out, sizeof out, &finished));
+    if (!finished.delivered)
+        exit(4);
+}
+
+/* Frames in slots, whose jobs are all done. */
+static void pass_all_in_slots(macsec_endpoint *a, macsec_endpoint *b) {
+    const uint8_t frame[1400] = { 2 };
+    must("slot", macsec_slot_new(&slots[0]));
+    must("slot", macsec_slot_new(&slots[1]));
+    take_keys(a, b);
+    for (size_t i = 0; i < 100; i++)
+        pass_in_slots(a, b, frame, 14 + i * 13);
+    free_keys();
+    clear_stack();
+}
+
+/* A frame in each slot whose job is not done, and keys that are taken. */
+static void leave_in_slots(macsec_endpoint *a, macsec_endpoint *b) {
+    const uint8_t frame[1400] = { 2 };
+    macsec_sent sent;
+    macsec_planned planned;
+    must("send", macsec_send(a, frame, sizeof frame, &sent));
+    must("plan", macsec_plan_receive(b, &slots[1], sent.frame, sent.length, &planned));
+    must("plan", macsec_plan_send(a, &slots[0], frame, sizeof frame, &planned));
+    take_keys(a, b);
+    clear_stack();
+}
+
+static void release(void) {
+    free_keys();
+    macsec_slot_free(&slots[0]);
+    macsec_slot_free(&slots[1]);
+    step("released");
+}
+
+/* ---- Changes of keys ---- */
+
 /* Each key is used, and given up at both ends when the next one is there. */
 static void change_keys(macsec_endpoint *a, macsec_endpoint *b, uint16_t changes) {
     for (uint16_t number = 1; number <= changes; number++) {
@@ -167,9 +260,7 @@ static void change_keys(macsec_endpoint *a, macsec_endpoint *b, uint16_t changes
         explicit_bzero(octets, sizeof octets);
         associate(a, b, an, number);
         pass_frames(a, b);
-        give_up(a, old, (uint16_t)(number - 1));
-        must("rxdel", macsec_delete_rx_sa(b, own, old));
-        must("retire", macsec_retire_key(b, (uint16_t)(number - 1)));
+        give_up(a, b, old, (uint16_t)(number - 1));
         if (number % 10 == 0)
             step("rekeyed");
     }
@@ -214,11 +305,17 @@ static void round_of(unsigned count) {
     associate(&a, &b, 0, 0);
     step("associated");
     pass_frames(&a, &b);
+    if (is_way("jobs"))
+        pass_all_in_slots(&a, &b);
     send_beside();
     step("used");
     change_keys(&a, &b, changes);
-    give_up(&a, changes % 4, changes);
+    if (is_way("jobs"))
+        leave_in_slots(&a, &b);
+    give_up(&a, &b, changes % 4, changes);
     step("retired");
+    if (is_way("jobs"))
+        release();
     macsec_free(&a);
     macsec_free(&b);
     send_beside();
