@@ -18,6 +18,7 @@ MACHINE = [*(f"macsec_secy/{it}" for it in ("Step", "Answers", "Rests")), "macse
 PROMISES = [f"macsec_link/{it}" for it in ("Step", "Beginnings", "UniqueIvs", "Origin", "Window", "Acceptance")]
 RESTARTS = [f"macsec_reserve/{it}" for it in ("Unique", "TwoEnds", "Replay", "Crashes")]
 RESTARTS += [f"macsec_restarts/{it}" for it in ("Sent", "Delivered", "Origin", "Order", "Acceptance")]
+RESTARTS += [f"macsec_restarts/{it}" for it in ("AheadSteps", "AheadRuns", "AheadOrder")]
 TEXTS = ["macsec_script/Printed", "macsec_script/Promised", "macsec_script_parser/Scripts", "macsec_capture/Captured"]
 TEXTS += ["macsec_pcapng/Captures", "macsec_cli_runs/Failures"]
 IN_C = [f"macsec_c/{it}" for it in ("Answers", "Found", "Texts")]
