@@ -10,3 +10,11 @@ pub mod Octets
 pub mod ConstantKept
 pub mod Rounds
 pub mod RoundKeysAt
+pub mod WordSets
+pub mod WordLanes
+pub mod Halves
+pub mod Places
+pub mod LookUps
+pub mod Represented
+pub mod NibbleRounds
+pub mod NibbleKeys

@@ -12,11 +12,18 @@ ghost use Rattle.std.specs.Prelude.{◌≡◌, ℕ, ◌<◌, [], length, map, sl
 ghost use Rattle.macsec_aes.specs.Aes.{aes};
 
 mod lanes;
+mod nibble_state;
+mod nibbles;
 mod planes;
 mod schedule;
 mod state;
 mod tower;
+mod wide_lanes;
+mod wide_planes;
+mod wide_state;
+mod words;
 
+use nibble_state::{both, first_round, last_round};
 pub use schedule::LaneSchedule;
 use state::{add_round_key, blocks_of, mix_columns, shift_rows, states_of, sub_bytes_but_constant};
 
@@ -34,9 +41,44 @@ pub fn encrypt8(schedule: &LaneSchedule, blocks: &mut [[u8; 16]; 8])
     *blocks = blocks_of(add_round_key(last, schedule.round_key(rounds)));
 }
 
+/// Encrypts six blocks of 16 bytes under the key of a schedule: Cipher (FIPS 197, 5.1).
+#[inline(never)]
+pub fn encrypt6(schedule: &LaneSchedule, blocks: &mut [[u8; 16]; 6])
+    ensures { blocks.new ≡ map (aes schedule.now) blocks.old }
+{
+    let rounds = schedule.rounds();
+    let first = schedule.nibble_key(0);
+    let mut a = first_round(both(blocks[0], blocks[1]), first);
+    let mut b = first_round(both(blocks[2], blocks[3]), first);
+    let mut c = first_round(both(blocks[4], blocks[5]), first);
+    for round in 1..rounds {
+        let key = schedule.nibble_key(round);
+        a = nibble_state::round(a, key);
+        b = nibble_state::round(b, key);
+        c = nibble_state::round(c, key);
+    }
+    let last = schedule.last_nibble_key();
+    let [b0, b1] = nibble_state::blocks_of(last_round(a, last));
+    let [b2, b3] = nibble_state::blocks_of(last_round(b, last));
+    let [b4, b5] = nibble_state::blocks_of(last_round(c, last));
+    *blocks = [b0, b1, b2, b3, b4, b5];
+}
+
 /// Encrypts 16 blocks of 16 bytes under the key of a schedule: Cipher (FIPS 197, 5.1).
 #[inline(never)]
 pub fn encrypt16(schedule: &LaneSchedule, blocks: &mut [[u8; 16]; 16])
+    ensures { blocks.new ≡ map (aes schedule.now) blocks.old }
+{
+    if schedule.is_wide() {
+        encrypt16_at_once(schedule, blocks);
+    } else {
+        encrypt16_in_halves(schedule, blocks);
+    }
+}
+
+/// The same in planes of 128 bits, eight blocks after the other eight.
+#[inline(always)]
+fn encrypt16_in_halves(schedule: &LaneSchedule, blocks: &mut [[u8; 16]; 16])
     ensures { blocks.new ≡ map (aes schedule.now) blocks.old }
 {
     let mut first = [[0; 16]; 8];
@@ -47,4 +89,21 @@ pub fn encrypt16(schedule: &LaneSchedule, blocks: &mut [[u8; 16]; 16])
     encrypt8(schedule, &mut second);
     blocks[..8].copy_from_slice(&first);
     blocks[8..].copy_from_slice(&second);
+}
+
+/// The same in planes of 256 bits.
+#[inline(always)]
+fn encrypt16_at_once(schedule: &LaneSchedule, blocks: &mut [[u8; 16]; 16])
+    ensures { blocks.new ≡ map (aes schedule.now) blocks.old }
+{
+    let rounds = schedule.rounds();
+    let first = wide_state::states_of(blocks);
+    let mut states = wide_state::add_round_key(first, schedule.round_key(0));
+    for round in 1..rounds {
+        let shifted = wide_state::shift_rows(wide_state::sub_bytes_but_constant(states));
+        let mixed = wide_state::mix_columns(shifted);
+        states = wide_state::add_round_key(mixed, schedule.round_key(round));
+    }
+    let last = wide_state::shift_rows(wide_state::sub_bytes_but_constant(states));
+    *blocks = wide_state::blocks_of(wide_state::add_round_key(last, schedule.round_key(rounds)));
 }

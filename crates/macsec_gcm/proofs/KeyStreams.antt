@@ -24,11 +24,11 @@ key_stream-later key icb n k =
 
 -- ---- sums with a stream, and with the key stream
 
-length-sum_with_stream : (xs stream : List ℕ) → length (sum_with_stream xs stream) ≡ length xs
+pub length-sum_with_stream : (xs stream : List ℕ) → length (sum_with_stream xs stream) ≡ length xs
 unfolding sum_with_stream
 length-sum_with_stream xs stream = length-map-range_with_len (λ k. bit_xor (get_or xs k 0) (get_or stream k 0)) 0 (length xs)
 
-get_or-sum_with_stream : (xs stream : List ℕ) (k : ℕ) → k < length xs → get_or (sum_with_stream xs stream) k 0 ≡ bit_xor (get_or xs k 0) (get_or stream k 0)
+pub get_or-sum_with_stream : (xs stream : List ℕ) (k : ℕ) → k < length xs → get_or (sum_with_stream xs stream) k 0 ≡ bit_xor (get_or xs k 0) (get_or stream k 0)
 unfolding sum_with_stream
 get_or-sum_with_stream xs stream k lt =
     get_or-map-range_with_len (λ k. bit_xor (get_or xs k 0) (get_or stream k 0)) 0 (length xs) k k 0 lt (omega arith)

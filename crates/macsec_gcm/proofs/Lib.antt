@@ -3,3 +3,4 @@ pub mod KeyStreams
 pub mod Opening
 pub mod States
 pub mod Tags
+pub mod Vectors

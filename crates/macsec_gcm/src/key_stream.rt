@@ -4,10 +4,11 @@ ghost use Rattle.std.specs.Prelude.{◌≡◌, ℕ, ◌+◌, ◌*◌, ◌<◌, �
 ghost use Rattle.std.specs.Fn.{iterate};
 ghost use Rattle.macsec_gcm.specs.Gcm.{inc32};
 ghost use Rattle.macsec_gcm.specs.Octets.{sum_with_stream};
-ghost use Rattle.macsec_gcm.specs.Streams.{key_stream};
+ghost use Rattle.macsec_gcm.specs.Streams.{IsSumBelow, key_stream};
 
 use crate::counter_blocks::{blocks_from, inc32};
-use macsec_aes_lanes::{LaneSchedule, encrypt8, encrypt16};
+use macsec_aes_lanes::{LaneSchedule, encrypt6, encrypt8, encrypt16};
+use std::simd::{u8x16, u8x32};
 
 /// Writes the key stream of 16 counter blocks, starting with `first`. Returns the counter block after them.
 fn write_sixteen(schedule: &LaneSchedule, first: [u8; 16], octets: &mut [u8]) -> [u8; 16]
@@ -36,14 +37,78 @@ fn write_eight(schedule: &LaneSchedule, first: [u8; 16], octets: &mut [u8]) -> [
     next
 }
 
-/// Adds the first octets of `stream` to `text`.
-pub fn add_octets(text: &mut [u8], stream: &[u8])
+/// Writes the key stream of six counter blocks, starting with `first`. Returns the counter block after them.
+#[inline(always)]
+fn write_six(schedule: &LaneSchedule, first: [u8; 16], octets: &mut [u8]) -> [u8; 16]
+    requires { length octets.old ≡ 96 }
+    ensures stream { (k : ℕ) → k < 96 → slice_index octets.new k ≡ key_stream schedule.now first k }
+    ensures next { result ≡ iterate inc32 6 first }
+{
+    let mut blocks = blocks_from::<6>(first);
+    let next = inc32(blocks[5]);
+    encrypt6(schedule, &mut blocks);
+    octets.copy_from_slice(blocks.as_flattened());
+    next
+}
+
+/// Adds the first 32 octets of `stream` to those of `text`.
+#[inline(always)]
+fn add_32(text: &mut [u8], stream: &[u8])
+    requires text_length { 32 ≤ length text.old }
+    requires stream_length { 32 ≤ length stream.now }
+    ensures { IsSumBelow (slice_index stream.now) text.old text.new 32 }
+{
+    let sum = u8x32::from_slice(text) ^ u8x32::from_slice(stream);
+    sum.copy_to_slice(text);
+}
+
+/// Adds the first 16 octets of `stream` to those of `text`.
+#[inline(always)]
+fn add_16(text: &mut [u8], stream: &[u8])
+    requires text_length { 16 ≤ length text.old }
+    requires stream_length { 16 ≤ length stream.now }
+    ensures { IsSumBelow (slice_index stream.now) text.old text.new 16 }
+{
+    let sum = u8x16::from_slice(text) ^ u8x16::from_slice(stream);
+    sum.copy_to_slice(text);
+}
+
+/// Adds the first octets of `stream` to `text`, one after another.
+#[inline(always)]
+fn add_one_by_one(text: &mut [u8], stream: &[u8])
     requires { length text.old ≤ length stream.now }
     ensures { text.new ≡ sum_with_stream text.old stream.now }
 {
     for (k, octet) in text.iter_mut().enumerate() {
         *octet ^= stream[k];
     }
+}
+
+/// Adds the first octets of `stream` to `text`, 16 at a time as far as they go.
+#[inline(always)]
+fn add_by_16(text: &mut [u8], stream: &[u8])
+    requires { length text.old ≤ length stream.now }
+    ensures { text.new ≡ sum_with_stream text.old stream.now }
+{
+    let mut done = 0;
+    while text.len() - done >= 16 {
+        add_16(&mut text[done..], &stream[done..]);
+        done += 16;
+    }
+    add_one_by_one(&mut text[done..], &stream[done..]);
+}
+
+/// Adds the first octets of `stream` to `text`, by whole vectors as far as they go.
+pub fn add_octets(text: &mut [u8], stream: &[u8])
+    requires { length text.old ≤ length stream.now }
+    ensures { text.new ≡ sum_with_stream text.old stream.now }
+{
+    let mut done = 0;
+    while text.len() - done >= 32 {
+        add_32(&mut text[done..], &stream[done..]);
+        done += 32;
+    }
+    add_by_16(&mut text[done..], &stream[done..]);
 }
 
 /// A partly used key stream, from an initial counter block on. Octets of a batch that one piece of a text does not use
@@ -64,26 +129,33 @@ impl<'k> KeyStream<'k> {
     ghost use Rattle.std.specs.Prelude.{◌++◌, replicate};
     ghost use Rattle.macsec_gcm.specs.Gcm.{gctr};
     ghost use Rattle.macsec_gcm.specs.Pieces.{IsStreamAt};
-    ghost use Rattle.macsec_gcm.specs.Streams.{IsSumBelow};
 
-    /// Returns the key stream that starts at the counter block after `first`, and the key stream of `first` itself.
-    /// Both are from one batch.
+    /// The key stream of the counter blocks from `first` on, before the first batch.
     #[inline(always)]
-    pub fn after(schedule: &'k LaneSchedule, first: [u8; 16]) -> (KeyStream<'k>, [u8; 16])
-        ensures stream { IsStreamAt result.0 schedule.now (inc32 first) 0 }
-        ensures block { result.1 ≡ gctr schedule.now first (replicate 16 0) }
+    pub fn before(schedule: &'k LaneSchedule, first: [u8; 16]) -> KeyStream<'k>
+        ensures key { result.schedule.now ≡ schedule.now }
+        ensures counter { result.counter ≡ first }
     {
-        let mut octets = [0; 256];
-        let counter = write_eight(schedule, first, &mut octets[128..]);
-        let mut block = [0; 16];
-        add_octets(&mut block, &octets[128..]);
-        let stream = KeyStream {
+        KeyStream {
             schedule,
-            counter,
-            octets,
-            used: 144,
-        };
-        (stream, block)
+            counter: first,
+            octets: [0; 256],
+            used: 256,
+        }
+    }
+
+    /// Computes the first batch, in place. Returns the key stream of its first counter block; the next octets are those of
+    /// the counter block after it.
+    #[inline(always)]
+    pub fn begin(&mut self) -> [u8; 16]
+        ensures stream { IsStreamAt self.new self.old.schedule.now (inc32 self.old.counter) 0 }
+        ensures block { result ≡ gctr self.old.schedule.now self.old.counter (replicate 16 0) }
+    {
+        self.counter = write_six(self.schedule, self.counter, &mut self.octets[160..]);
+        self.used = 176;
+        let mut block = [0; 16];
+        add_octets(&mut block, &self.octets[160..]);
+        block
     }
 
     /// Adds the next octets of the key stream to the next piece of a text.
@@ -116,8 +188,8 @@ impl<'k> KeyStream<'k> {
         count
     }
 
-    /// If all octets are used, computes the next batch: 16 blocks if more than 128 octets are `wanted`, otherwise
-    /// eight.
+    /// If all octets are used, computes the next batch: 16 blocks if more than 128 octets are `wanted`, eight if more
+    /// than 96, otherwise six.
     fn refill(&mut self, wanted: usize)
         ensures some { self.new.used < 256 }
         ensures same { (key icb : List ℕ) (n : ℕ) → IsStreamAt self.old key icb n → IsStreamAt self.new key icb n }
@@ -128,9 +200,12 @@ impl<'k> KeyStream<'k> {
         if wanted > 128 {
             self.counter = write_sixteen(self.schedule, self.counter, &mut self.octets);
             self.used = 0;
-        } else {
+        } else if wanted > 96 {
             self.counter = write_eight(self.schedule, self.counter, &mut self.octets[128..]);
             self.used = 128;
+        } else {
+            self.counter = write_six(self.schedule, self.counter, &mut self.octets[160..]);
+            self.used = 160;
         }
     }
 }

@@ -23,7 +23,7 @@ ghost use Rattle.macsec_aes.specs.Keys.{key_bytes};
 ghost use Rattle.macsec_gcm.specs.Gcm.{max_aad_len, max_plaintext_len, open_of, seal_of};
 
 use macsec_aes::Key;
-use macsec_aes_lanes::{LaneSchedule, encrypt8};
+use macsec_aes_lanes::{LaneSchedule, encrypt6};
 use macsec_field128::Block;
 use macsec_ghash::KeyPowers;
 use std::marker::Model;
@@ -63,12 +63,25 @@ impl GcmKey {
         ensures { result ≡ key_bytes key }
     {
         let schedule = LaneSchedule::expand(&key);
-        // The subkey is the first of eight equal blocks: encrypting eight uses lanes, which look up no table.
-        let mut blocks = [[0; 16]; 8];
-        encrypt8(&schedule, &mut blocks);
+        // The subkey is the first of six equal blocks: encrypting six uses vectors, which look up no table in memory.
+        let mut blocks = [[0; 16]; 6];
+        encrypt6(&schedule, &mut blocks);
         let subkey = Block(u128::from_be_bytes(blocks[0]));
         let powers = KeyPowers::of(subkey);
         GcmKey { schedule, powers }
+    }
+
+    /// Says whether key streams are to be made 16 blocks at once, for processors with vectors of 256 bits, or eight after
+    /// eight. This changes no result.
+    pub fn prefer_wide(&mut self, wide: bool)
+        ensures { self.new ≡ self.old }
+    {
+        self.schedule.prefer_wide(wide);
+    }
+
+    /// Whether key streams are made 16 blocks at once.
+    pub fn is_wide(&self) -> bool {
+        self.schedule.is_wide()
     }
 
     /// Encrypts the plaintext `text` in place, at most 2^36 - 32 octets. Returns the authentication tag of the

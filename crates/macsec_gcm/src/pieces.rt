@@ -10,16 +10,6 @@ use crate::authenticator::Authenticator;
 use crate::counter_blocks::pre_counter_block;
 use crate::key_stream::KeyStream;
 
-/// The key stream of a text and its authentication, before any piece.
-#[inline(always)]
-fn started<'k>(key: &'k GcmKey, iv: &[u8; 12]) -> (KeyStream<'k>, Authenticator<'k>)
-    ensures stream { IsStreamAt result.0 key.now (inc32 (pre_counter_block iv.now)) 0 }
-    ensures authenticator { HasAuthenticated result.1 key.now (pre_counter_block iv.now) [] [] }
-{
-    let (stream, mask) = KeyStream::after(&key.schedule, pre_counter_block(iv));
-    (stream, Authenticator::start(&key.powers, mask))
-}
-
 /// Seals a text in pieces (SP 800-38D, 7.1): first the additional authenticated data, at most 2^61 - 1 octets, then the
 /// plaintext, at most 2^36 - 32 octets. No clause says what the tag is beyond these lengths, or if additional
 /// authenticated data come after an octet of the plaintext.
@@ -35,7 +25,9 @@ impl<'k> Sealer<'k> {
     pub fn start(key: &'k GcmKey, iv: &[u8; 12]) -> Sealer<'k>
         ensures { HasSealed result key.now iv.now [] [] }
     {
-        let (stream, authenticator) = started(key, iv);
+        let mut stream = KeyStream::before(&key.schedule, pre_counter_block(iv));
+        let mask = stream.begin();
+        let authenticator = Authenticator::start(&key.powers, mask);
         Sealer {
             stream,
             authenticator,
@@ -94,7 +86,9 @@ impl<'k> Opener<'k> {
     pub fn start(key: &'k GcmKey, iv: &[u8; 12]) -> Opener<'k>
         ensures { HasChecked result key.now iv.now [] [] }
     {
-        let (stream, authenticator) = started(key, iv);
+        let mut stream = KeyStream::before(&key.schedule, pre_counter_block(iv));
+        let mask = stream.begin();
+        let authenticator = Authenticator::start(&key.powers, mask);
         Opener {
             stream,
             authenticator,

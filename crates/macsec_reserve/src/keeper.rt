@@ -174,6 +174,13 @@ impl Keeper {
         })
     }
 
+    /// Says whether key streams are to be made 16 blocks at once, as `Secy::prefer_wide`.
+    pub fn prefer_wide(&mut self, wide: bool)
+        ensures { self.new ≡ self.old }
+    {
+        self.secy.prefer_wide(wide);
+    }
+
     /// The reservation that the transmit association of this number needs next, if fewer than half of `amount` packet
     /// numbers are left to it.
     pub fn wanted(&self, an: An, amount: u64) -> Option<Reservation>

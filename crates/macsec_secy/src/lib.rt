@@ -159,6 +159,14 @@ impl Secy {
         })
     }
 
+    /// Says whether key streams are to be made 16 blocks at once, for processors with vectors of 256 bits. This changes no
+    /// result.
+    pub fn prefer_wide(&mut self, wide: bool)
+        ensures { self.new ≡ self.old }
+    {
+        self.keys.prefer_wide(wide);
+    }
+
     /// Carries out a management command (10.7), or refuses it and changes nothing.
     pub fn command(&mut self, command: &Command) -> Result<(), Refusal>
         ensures output { output_of_command result ≡ (step self.old (operator_command command.now)).0 }

@@ -211,3 +211,10 @@ IsPlace-with_key change same number rows place is =
       there = subst IsSome (sym found) (some-map f (key_row rows place.number) is.there);
       finds = found ∙ ap (option_map f) is.finds ∙ sym (slice_get-map f rows place.index);
     }
+
+-- a key is replaced by one with the same row
+pub same_rows : (keys : List StoredKey) (i : ℕ) (d new : StoredKey) → i < length keys → stored_row new ≡ stored_row (get_or keys i d)
+    → map stored_row (set keys i new) ≡ map stored_row keys
+same_rows [] i d new within same = refl
+same_rows (key ∷ keys) zero d new within same = ap (λ (row : InstalledKey). row ∷ map stored_row keys) same
+same_rows (key ∷ keys) (suc i) d new within same = ap (λ (rows : List InstalledKey). stored_row key ∷ rows) (same_rows keys i d new (omega arith) same)

@@ -1,8 +1,8 @@
 //! The table of an endpoint's keys (IEEE 802.1AE, 10.7).
 
-ghost use Rattle.std.specs.Prelude.{◌≡◌, ◌≤◌, ◌+◌, [], ◌∷◌, ◌++◌, length, slice_get, IfOk, OnOk, OnErr, IfSome, MatchOption, is_some, option_map, Some, None};
+ghost use Rattle.std.specs.Prelude.{◌≡◌, ◌≤◌, ◌+◌, [], ◌∷◌, ◌++◌, length, map, slice_get, IfOk, OnOk, OnErr, IfSome, MatchOption, is_some, option_map, Some, None};
 ghost use Rattle.std.specs.Bool.{OnTrue, OnFalse};
-ghost use Rattle.std.specs.List.{list_any};
+ghost use Rattle.std.specs.List.{All, list_any};
 ghost use Rattle.macsec_aes.specs.Keys.{key_bytes};
 ghost use Rattle.macsec_gcm.specs.Octets.{same_octets};
 ghost use Rattle.macsec_suite.specs.KeyRows.{AreKeyRows, is_extended, key_row, keys_noting, keys_replacing, keys_retiring, keys_with, max_key_count, suite_of, the_key, widest_beside, with_bytes};
@@ -56,6 +56,8 @@ pub struct KeyTable {
     places: Vec<u16>,
     /// How many keys have extended packet numbers and are not retired.
     extended: u16,
+    /// Whether key streams of keys that are installed are made 16 blocks at once.
+    wide: bool,
 }
 
 impl Model for KeyTable {
@@ -85,7 +87,17 @@ impl KeyTable {
             rows: Vec::with_capacity(alloc, PLACE_COUNT)?,
             places: vec![in alloc; NO_PLACE; PLACE_COUNT]?,
             extended: 0,
+            wide: false,
         })
+    }
+
+    /// Says whether key streams are to be made 16 blocks at once, for processors with vectors of 256 bits: those of these
+    /// keys, and of the ones that are installed later. This changes no result.
+    pub fn prefer_wide(&mut self, wide: bool)
+        ensures { self.new ≡ self.old }
+    {
+        prefer_wide_all(self.rows.as_mut_slice(), wide);
+        self.wide = wide;
     }
 
     /// Installs a key. A key that names no suite gets the default one. Its first unused packet number is 1. `window` is
@@ -100,7 +112,7 @@ impl KeyTable {
         ensures rows { OnOk result (AreKeyRows self.new) }
     {
         let suite = key.suite.unwrap_or(default);
-        let suite_key = match SuiteKey::new(suite, key.bytes, key.salt, key.offset) {
+        let mut suite_key = match SuiteKey::new(suite, key.bytes, key.salt, key.offset) {
             Ok(suite_key) => suite_key,
             Err(SuiteFault::KeyLength) => return Err(Refusal::KeyLength),
             Err(SuiteFault::Offset) => return Err(Refusal::Offset),
@@ -114,6 +126,7 @@ impl KeyTable {
         if suite.is_too_wide(window) {
             return Err(Refusal::Window);
         }
+        suite_key.prefer_wide(self.wide);
         self.append(KeyRow {
             key: NewKey {
                 suite: Some(suite),
@@ -309,7 +322,26 @@ impl KeyTable {
     }
 }
 
+/// Says it to each of these keys.
+fn prefer_wide_all(keys: &mut [StoredKey], wide: bool)
+    ensures rows { map stored_row keys.new ≡ map stored_row keys.old }
+    ensures prepared { All (λ s. HasOwnKey s.row) keys.old → All (λ s. HasOwnKey s.row) keys.new }
+{
+    for i in 0..keys.len() {
+        let stored = &mut keys[i];
+        stored.prefer_wide(wide);
+    }
+}
+
 impl StoredKey {
+    /// Says whether the key's key streams are to be made 16 blocks at once.
+    fn prefer_wide(&mut self, wide: bool)
+        ensures row { stored_row self.new ≡ stored_row self.old }
+        ensures prepared { HasOwnKey self.old.row → HasOwnKey self.new.row }
+    {
+        self.row.suite_key.prefer_wide(wide);
+    }
+
     /// Whether the key has extended packet numbers and is not retired.
     fn is_extended(&self) -> bool
         ensures { result ≡ is_extended (stored_row self.now) }

@@ -17,13 +17,15 @@ impl KeyRow {
         requires { HasOwnKey self.now }
         ensures { result ≡ self.now }
     {
+        let mut suite_key = SuiteKey {
+            suite: self.suite_key.suite(),
+            key: GcmKey::new(self.key.bytes),
+            offset: self.key.offset,
+        };
+        suite_key.prefer_wide(self.suite_key.key.is_wide());
         KeyRow {
             key: self.key,
-            suite_key: SuiteKey {
-                suite: self.suite_key.suite(),
-                key: GcmKey::new(self.key.bytes),
-                offset: self.key.offset,
-            },
+            suite_key,
             retired: self.retired,
         }
     }

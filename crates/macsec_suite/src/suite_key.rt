@@ -76,6 +76,13 @@ impl SuiteKey {
         self.key = GcmKey::new(key);
     }
 
+    /// Says whether the key's key streams are to be made 16 blocks at once, as `GcmKey::prefer_wide`.
+    pub(crate) fn prefer_wide(&mut self, wide: bool)
+        ensures { self.new ≡ self.old }
+    {
+        self.key.prefer_wide(wide);
+    }
+
     /// The suite that the key is prepared for.
     pub fn suite(&self) -> Suite
         ensures { result ≡ self.now.suite }

@@ -2,7 +2,7 @@
 //! specification: products of blocks, and hashes.
 
 use macsec_aes::{Key, Schedule, encrypt, sub};
-use macsec_aes_lanes::{LaneSchedule, encrypt8, encrypt16};
+use macsec_aes_lanes::{LaneSchedule, encrypt6, encrypt8, encrypt16};
 use macsec_field128::{Block, add, mul, residue, times_x};
 use macsec_ghash::{Hash128, LaneHash, PlainHash};
 
@@ -26,15 +26,25 @@ const EXAMPLES: [(Key, u128); 2] = [
     ),
 ];
 
-/// Whether the block is encrypted as `expected`, alone and at each of eight and of 16 positions.
+/// Whether the block is encrypted as `expected`, alone and at each of six, of eight and of 16 positions; 16 in halves and
+/// at once.
 fn is_encrypted_as(key: &Key, expected: [u8; 16]) -> bool {
-    let lanes = LaneSchedule::expand(key);
+    let mut lanes = LaneSchedule::expand(key);
+    let mut six = [BLOCK; 6];
+    encrypt6(&lanes, &mut six);
     let mut eight = [BLOCK; 8];
     encrypt8(&lanes, &mut eight);
-    let mut sixteen = [BLOCK; 16];
-    encrypt16(&lanes, &mut sixteen);
+    let mut halves = [BLOCK; 16];
+    encrypt16(&lanes, &mut halves);
+    lanes.prefer_wide(true);
+    let mut at_once = [BLOCK; 16];
+    encrypt16(&lanes, &mut at_once);
     let alone = encrypt(&Schedule::expand(key), BLOCK);
-    alone == expected && eight == [expected; 8] && sixteen == [expected; 16]
+    alone == expected
+        && six == [expected; 6]
+        && eight == [expected; 8]
+        && halves == [expected; 16]
+        && at_once == [expected; 16]
 }
 
 #[test]

@@ -7,5 +7,5 @@ pub invariant_of-result : goal.invariant_of-result
 unfolding hash_subkey
 invariant_of-result c =
     let subkey : c.from_be_bytes.result ≡ hash_subkey c.expand-schedule.result =
-    c.from_be_bytes.ensures ∙ ap (λ (blocks : List (List ℕ)). from_be_bytes w128 (slice_index_or blocks 0 [])) c.encrypt8.ensures in
+    c.from_be_bytes.ensures ∙ ap (λ (blocks : List (List ℕ)). from_be_bytes w128 (slice_index_or blocks 0 [])) c.encrypt6.ensures in
     c.of-powers.ensures ∙ subkey

@@ -1,0 +1,7 @@
+use Rattle.std.proofs.Common.{refl}
+use Rattle.macsec_aes_lanes.specs.Nibbles.{byte_shifted}
+use Rattle.macsec_aes_lanes.proofs.Picked.{picked_in_halves}
+use Rattle.macsec_aes_lanes.proofs.nibble_state.rows_shifted.Goals as goal
+
+pub returns : goal.returns
+returns c = picked_in_halves (byte_shifted 0) c.args.a _ c.fits-a.0 tt refl

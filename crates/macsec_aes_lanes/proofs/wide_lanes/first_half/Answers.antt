@@ -1,0 +1,6 @@
+use Rattle.std.proofs.Common.{◌+◌, ◌*◌, refl}
+use Rattle.macsec_aes_lanes.proofs.Picked.{picked}
+use Rattle.macsec_aes_lanes.proofs.wide_lanes.first_half.Goals as goal
+
+pub returns : goal.returns
+returns c = picked 32 16 (λ j. 16 * 0 + j) c.args.a _ c.fits-a.0 tt refl

@@ -1,0 +1,12 @@
+use Rattle.std.proofs.Common.{List, ℕ, refl, map, slice_index}
+use Rattle.std.specs.List.{range_with_len}
+use Rattle.macsec_aes_lanes.specs.Tower.{nibble_inverse}
+use Rattle.macsec_aes_lanes.proofs.Gates.{circuit}
+use Rattle.macsec_aes_lanes.proofs.TowerGates.{gates_of_inverse, computes_inverse}
+use Rattle.macsec_aes_lanes.proofs.words.inverse.Goals as goal
+
+abbrev planes : ℕ → List ℕ → List ℕ
+planes n xs = map (slice_index xs) (range_with_len 0 n)
+
+pub returns : goal.returns
+returns c k l = circuit 4 gates_of_inverse nibble_inverse computes_inverse (planes 4 c.args.n) refl k

@@ -1,0 +1,18 @@
+use Rattle.std.proofs.Common.{◌∙◌, ap, List, ℕ, map, slice_index}
+use Rattle.std.specs.List.{range_with_len}
+use Rattle.macsec_aes_lanes.specs.Planes.{number}
+use Rattle.macsec_aes_lanes.specs.Tower.{nibble_inverse}
+use Rattle.macsec_aes_lanes.proofs.Gates.{bits_at, number-lt}
+use Rattle.macsec_aes_lanes.proofs.words.s_box_but_constant.Goals as goal
+
+abbrev planes : ℕ → List ℕ → List ℕ
+planes n xs = map (slice_index xs) (range_with_len 0 n)
+
+pub returns : goal.returns
+returns c k l =
+    let x = number (bits_at k (planes 8 c.args.x)) in
+    let small = number-lt (planes 8 c.args.x) k in
+    let s = c.sums-sums.ensures k l in
+    let n = c.norm.ensures k l x small s in
+    let i = c.inverse-inverse_of_norm.ensures k l ∙ ap nibble_inverse n in
+    c.linear_of_products.ensures k l x small (c.products.ensures k l x small s i)
