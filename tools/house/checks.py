@@ -7,11 +7,13 @@ from typing import NamedTuple
 from house.processors import KINDS, WIDER, runs
 from house.written import table
 
-# What a check needs, in the order in which the gate makes it: nothing but sources; the compiler of `rt`, or its log;
-# the program, also as Rattle's own compiler builds it; the libraries for C; and all of these.
-NOTHING, TOOLCHAIN, LOG = "nothing", "rt", "the log of rt ci"
+# What a check needs, in the order in which the gate makes it: nothing but sources; the compiler of `rt`, its log, or the
+# crates that it has proved; the program, also as Rattle's own compiler builds it; the libraries for C; and all of these.
+NOTHING, TOOLCHAIN, LOG, PROVED = "nothing", "rt", "the log of rt ci", "proved crates"
 PROGRAM, PROGRAMS, LIBRARY, ROOT_USER, ALL = "program", "both programs", "library", "library, root", "all of these"
 GUEST = "root, qemu, Debian"
+# What `rt ci` and what is built beside it give, which the checks can use side by side.
+BUILT_NEEDS = (PROVED, PROGRAM, PROGRAMS, LIBRARY, ROOT_USER)
 
 # A check that takes less than this many seconds is made before the proofs, and not beside them.
 QUICK = 10
@@ -73,9 +75,9 @@ CHECKS: list[Check] = [
     Check("moves", "tries all lists of three moves over the rules in Python", "python3 fuzz/moves.py", NOTHING, 20,
           "wrong rules, each of which a list of moves has to show", test="", gate=""),
     Check("kept-frames", "sees that callers which keep a frame over the next call are refused",
-          "tools/refused kept-frames", TOOLCHAIN, 120, None, gate=""),
+          "tools/refused kept-frames", PROVED, 10, None, gate="--after-ci", hand=""),
     Check("lanes-used", "sees that the cipher is built of its lanes, powers and pieces", "tools/refused lanes-used",
-          TOOLCHAIN, 80, None, gate=""),
+          PROVED, 5, None, gate="--after-ci", hand=""),
     Check(PROOFS, "proves every crate and runs its tests, must-fail edits and programs", "rt ci", TOOLCHAIN, 2600,
           "the must-fail edits", gate=""),
     Check("edits-refused", "reads in the log of the proofs that each edit was tried and refused",

@@ -10,6 +10,7 @@ import shutil
 import subprocess
 import sys
 from pathlib import Path
+from typing import Callable
 
 from house import ROOT
 
@@ -67,6 +68,23 @@ def root_file(name: str) -> str:
 def has_tests(name: str) -> bool:
     texts = (Path(it).read_text(encoding="utf-8") for it in files(name, ("src",)))
     return any(re.search(r"^\s*#\[test\]", it, re.M) for it in texts)
+
+
+def prover_words(name: str, jobs: int, folder_of: Callable[[str], str]) -> list[str]:
+    """The prover's arguments for a crate, in the crate's folder. `folder_of` says where a library is."""
+    words = ["--crate-name", name, root_file(name), "-L", f"dependency={KIT}/rlibs"]
+    for each in ("std", *CRATES[name]):
+        folder = folder_of(each) if each in CRATES else f"{KIT}/rlibs"
+        words += ["--extern", f"{each}={folder}/{each}.rlib"]
+    for folder in dict.fromkeys(map(folder_of, below(name))):
+        words += ["-L", f"dependency={folder}"]
+    words += ["--antt-project", f"{KIT}/rattle/logic/antt-project.json"]
+    return [*words, "--logic-built", f"{KIT}/logic_built", "--jobs", str(jobs)]
+
+
+def folder_of_ci(library: str) -> str:
+    """Where `rt ci` keeps the library that it has proved."""
+    return f"{ROOT}/crates/{library}/out/rlib"
 
 
 def kit_id() -> str:
