@@ -20,7 +20,9 @@ static int64_t now(void) {
 
 bool waits_keep(struct device *d, int client, const char *answer, size_t length) {
     struct waiting *w = &d->waits.clients[client];
-    uint64_t ticket = numbers_ticket(d->numbers);
+    uint64_t ticket;
+    numbers_go_on(d->numbers, d->endpoint); /* else the mark of a key that was given up waits for the clock */
+    ticket = numbers_ticket(d->numbers);
     if (numbers_is_written(d->numbers, ticket) || length > sizeof w->answer)
         return false;
     memcpy(w->answer, answer, length);

@@ -1,5 +1,6 @@
 #define _GNU_SOURCE
 #include "fuzz.h"
+#include <errno.h>
 #include <fcntl.h>
 #include <sanitizer/asan_interface.h>
 #include <stdio.h>
@@ -42,11 +43,15 @@ void fuzz_require(bool holds, const char *what) {
 }
 
 void fuzz_write(const char *variable, const char *file, const uint8_t *octets, size_t length) {
-    char path[256];
+    char path[256], what[512];
     int descriptor;
+    errno = 0;
     snprintf(path, sizeof path, "%s/%s", getenv(variable), file);
     descriptor = open(path, O_WRONLY | O_CREAT | O_TRUNC | O_CLOEXEC, 0600);
-    fuzz_require(descriptor >= 0 && write(descriptor, octets, length) == (ssize_t)length, path);
+    if (descriptor < 0 || write(descriptor, octets, length) != (ssize_t)length) {
+        snprintf(what, sizeof what, "an input can't be written: %s: %s", path, strerror(errno));
+        fuzz_require(false, what);
+    }
     (void)close(descriptor);
 }
 
