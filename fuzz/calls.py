@@ -403,56 +403,77 @@ class Calls:
     def rarely_forgotten(self):
         """Retired keys, of which fingerprints stay: their floors are gone, and their octets are refused. A job that was
         planned before is done. A key that is the fingerprint of another one lets that one stay."""
-        own, other, octets = self.SCIS[2], self.SCIS[0], self.keys[0][:16]
+        octets = self.keys[0][:16]
         name = journals.sending_name(self.JOURNAL_SALT, octets)
-        saved = (name, 9), (journals.receiving_name(name, other, 1), 7)
-        key = lambda number, its: (2, its + bytes(16), self.SALT, 1, 1, number, 16, 0)
+        saved = (name, 9), (journals.receiving_name(name, self.SCIS[0], 1), 7)
         for journal in (self.JOURNAL + b"".join(map(journals.record, saved)), None):
-            yield "free", (2,)
-            yield ("new", (2, own, 1, 1, 1518)) if journal is None else ("reserve_open", (2, own, 1, 1, 1518, journal))
+            yield from self.begun(journal)
             mark = self.model.ends[2].fingerprint(octets)
-            for number, its in ((0, octets), (1, self.keys[1][:16])):
-                yield "install_key", key(number, its)
-            yield "add_rx_sc", (2, other)
-            yield "add_tx_sa", (2, 0, 0, 9, 1)
-            yield "add_tx_sa", (2, 0, 0, 10, 1)
-            if journal is not None:
-                yield "reserve_granted", (2, journals.record(self.model.ends[2].wanted(0, 4)))
-            yield "enable_tx_sa", (2, 0)
-            for made in (("slot_free", 2), ("slot_new", 2), ("key_free", 2)):
-                yield made[0], (0, made[1])
-            yield "key_take", (2, 2, 0)
-            yield "plan_send", (2, 2, bytes(60))
-            yield "delete_tx_sa", (2, 0)
-            for retires in (False, True):
-                if retires:
-                    yield "delete_rx_sa", (2, other, 1)
-                    yield "retire_key", (2, 0)
-                yield "reserve_tx_floor", (2, 0)
-                yield "reserve_rx_floor", (2, other, 1, 0)
-                yield "add_rx_sa", (2, other, 1, 0, 7, 0)
-                yield "add_tx_sa", (2, 1, 0, 9, 1)
-            yield "seal_job", (0, 2, 2, 400)
-            for number, its in ((2, octets), (2, mark), (0, octets)):
-                yield "install_key", key(number, its)
-            for line in (f"A key 2 {octets.hex()} 0", f"A key 2 {octets.hex()} 0 {SUITES[2]}", "A txsa 1 0 9 conf"):
-                yield "command_line", (2, line.encode())
-                yield "answer", (2, 3, line.encode(), 64)
+            yield from self.retired(octets, journal is not None)
+            yield from self.refused_again(octets, mark)
             yield "add_tx_sa", (2, 0, 1, 1, 1)
-            if journal is not None:
-                yield "reserve_granted", (2, journals.record(self.model.ends[2].wanted(0, 4)))
-            yield "enable_tx_sa", (2, 0)
+            yield from self.enabled(journal is not None)
             for _ in range(6):
                 yield "send", (2, bytes(60))
-            yield "free", (2,)
-            yield ("new", (2, own, 1, 1, 1518)) if journal is None else ("reserve_open", (2, own, 1, 1, 1518, journal))
-            for number, its in ((0, octets), (1, mark)):
-                yield "install_key", key(number, its)
-            for number in (0, 1):
-                yield "retire_key", (2, number)
-                yield "reserve_tx_floor", (2, 0)
-            for number, its in ((2, octets), (3, mark)):
-                yield "install_key", key(number, its)
+            yield from self.begun(journal)
+            yield from self.retired_with_mark(octets, mark)
+
+    def begun(self, journal):
+        """An endpoint with this journal, or with none."""
+        own = self.SCIS[2]
+        yield "free", (2,)
+        yield ("new", (2, own, 1, 1, 1518)) if journal is None else ("reserve_open", (2, own, 1, 1, 1518, journal))
+
+    def short_key(self, number, octets):
+        return "install_key", (2, octets + bytes(16), self.SALT, 1, 1, number, 16, 0)
+
+    def enabled(self, reserves):
+        """The transmit association, with a reservation if it needs one."""
+        if reserves:
+            yield "reserve_granted", (2, journals.record(self.model.ends[2].wanted(0, 4)))
+        yield "enable_tx_sa", (2, 0)
+
+    def retired(self, octets, reserves):
+        """Key 0, of these octets, is retired while its job is planned; what names it then, before and after that."""
+        other = self.SCIS[0]
+        for number, its in ((0, octets), (1, self.keys[1][:16])):
+            yield self.short_key(number, its)
+        yield "add_rx_sc", (2, other)
+        yield "add_tx_sa", (2, 0, 0, 9, 1)
+        yield "add_tx_sa", (2, 0, 0, 10, 1)
+        yield from self.enabled(reserves)
+        for made in (("slot_free", 2), ("slot_new", 2), ("key_free", 2)):
+            yield made[0], (0, made[1])
+        yield "key_take", (2, 2, 0)
+        yield "plan_send", (2, 2, bytes(60))
+        yield "delete_tx_sa", (2, 0)
+        for retires in (False, True):
+            if retires:
+                yield "delete_rx_sa", (2, other, 1)
+                yield "retire_key", (2, 0)
+            yield "reserve_tx_floor", (2, 0)
+            yield "reserve_rx_floor", (2, other, 1, 0)
+            yield "add_rx_sa", (2, other, 1, 0, 7, 0)
+            yield "add_tx_sa", (2, 1, 0, 9, 1)
+
+    def refused_again(self, octets, mark):
+        """The planned job, and the octets of the retired key and its fingerprint, as keys and in lines."""
+        yield "seal_job", (0, 2, 2, 400)
+        for number, its in ((2, octets), (2, mark), (0, octets)):
+            yield self.short_key(number, its)
+        for line in (f"A key 2 {octets.hex()} 0", f"A key 2 {octets.hex()} 0 {SUITES[2]}", "A txsa 1 0 9 conf"):
+            yield "command_line", (2, line.encode())
+            yield "answer", (2, 3, line.encode(), 64)
+
+    def retired_with_mark(self, octets, mark):
+        """A key and one that is its fingerprint, both retired and installed again."""
+        for number, its in ((0, octets), (1, mark)):
+            yield self.short_key(number, its)
+        for number in (0, 1):
+            yield "retire_key", (2, number)
+            yield "reserve_tx_floor", (2, 0)
+        for number, its in ((2, octets), (3, mark)):
+            yield self.short_key(number, its)
 
     def crowded(self):
         yield "free", (2,)
@@ -539,17 +560,23 @@ class Calls:
 
     def rarely_made(self):
         """Calls, modes and verdicts that some seeds would not come to."""
+        yield "free", (2,)
+        yield "new", (2, self.SCIS[2], 5, CONSTANTS["FORM_AUTO"], 1518)
+        yield "new", (2, self.SCIS[2], 1, CONSTANTS["FORM_AUTO"], 1518)
+        yield from self.rarely_received()
+        yield from self.rarely_sent()
+        for line in (b"A rxsc 0g", b"A rxsc", b"A rxon 0000000000000001 4", b"A frob", b"B txon 0", b"#" * 20_001):
+            yield "command_line", (2, line)
+
+    def rarely_received(self):
+        """Keys and receive associations, and frames in each mode of validation."""
         own, other = self.SCIS[2], self.SCIS[0]
         # A tagged frame of integrity alone with this TCI, packet number 9 or another, and an ICV of zeros.
         tagged = lambda tci, pn=9: bytes(12) + b"\x88\xe5" + bytes([tci, 0]) + struct.pack(">I", pn) + other + bytes(64)
-        key = lambda number, length, offset: (2, self.keys[5 - number], self.SALT, 1, 1, number, length, offset)
-        yield "free", (2,)
-        yield "new", (2, own, 5, CONSTANTS["FORM_AUTO"], 1518)
-        yield "new", (2, own, 1, CONSTANTS["FORM_AUTO"], 1518)
         yield "set_validation", (2, CONSTANTS["MODE_DISABLED"])
         yield "get_options", (2,)
         for length, offset in ((16, 31), (17, 0), (32, 0), (16, 0), (16, 0)):
-            yield "install_key", key(0, length, offset)
+            yield "install_key", (2, self.keys[5], self.SALT, 1, 1, 0, length, offset)
         for sci in (own, other, other):
             yield "add_rx_sc", (2, sci)
         for number in (1, 0):
@@ -571,6 +598,9 @@ class Calls:
         yield "delete_rx_sa", (2, other, 0)
         yield "delete_rx_sc", (2, other)
         yield "delete_rx_sc", (2, other)
+
+    def rarely_sent(self):
+        """Options of sending, transmit associations, and frames of the shortest length and below."""
         yield "set_tag_form", (2, CONSTANTS["FORM_SCB"] + 1)
         yield "set_tag_form", (2, CONSTANTS["FORM_ES"])
         yield "set_replay", (2, 1, 2**32)
@@ -584,8 +614,6 @@ class Calls:
         yield "set_protect", (2, 0)
         yield "send", (2, bytes(60))
         yield "get_rx_sc", (2, 0)
-        for line in (b"A rxsc 0g", b"A rxsc", b"A rxon 0000000000000001 4", b"A frob", b"B txon 0", b"#" * 20_001):
-            yield "command_line", (2, line)
 
     def all(self, count):
         """So many calls: the lines, and their answers."""
