@@ -1,6 +1,7 @@
 /* NAME.conf: the lines of docs/SCRIPT.md for one end, and lines of the device, which begin with the word `device`. */
 #define _GNU_SOURCE
 #include "device.h"
+#include "workers.h"
 #include <ctype.h>
 #include <errno.h>
 #include <fcntl.h>

@@ -1,5 +1,6 @@
 /* The endpoint, by the lines of requests and of the configuration. The library judges each line. */
 #include "device.h"
+#include "workers.h"
 #include <stdio.h>
 #include <stdlib.h>
 #include <string.h>

@@ -8,6 +8,7 @@
  * nothing more once the copy has taken over, and the copy sends nothing before. The copy does not know the retired
  * keys. An association that has no packet number left is not in it either: it can send and receive nothing. */
 #include "device.h"
+#include "workers.h"
 #include <inttypes.h>
 #include <stdio.h>
 #include <string.h>

@@ -1,6 +1,7 @@
 /* Waiting: for frames, requests, reports, signals and the clock. */
 #define _GNU_SOURCE
 #include "device.h"
+#include "workers.h"
 #include <errno.h>
 #include <signal.h>
 #include <string.h>

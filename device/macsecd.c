@@ -7,6 +7,7 @@
  *
  * man/macsecd.8 has the manual. The library of macsec.h judges every frame; this program moves octets. */
 #include "device.h"
+#include "workers.h"
 #include <stdio.h>
 #include <string.h>
 

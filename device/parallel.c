@@ -4,7 +4,7 @@
  * The endpoint's thread waits for the jobs under way before each request, each report and each tick of the clock. So
  * these find what they would find without workers: a frame that was read before is counted, and was judged by what the
  * endpoint was then. */
-#include "device.h"
+#include "workers.h"
 #include <string.h>
 
 /* ---- Sending ---- */

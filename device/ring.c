@@ -7,7 +7,7 @@
  *     PLANNED to TAKEN    the thread that does the job, by an exchange that one thread alone wins (acquire)
  *     TAKEN to FINISHED   this thread, when the job is done (release)
  *     FINISHED to FREE    the endpoint's thread (acquire), if the place is the first */
-#include "device.h"
+#include "workers.h"
 
 uint32_t ring_open(struct ring *r) {
     uint32_t status = MACSEC_OK;

@@ -6,7 +6,7 @@
  * and when a ring is too full. It leaves no job behind when it waits, so each job is done although no worker may have
  * been woken for it. While it waits in its loop, an eventfd reports that the first frame is finished. */
 #define _GNU_SOURCE
-#include "device.h"
+#include "workers.h"
 #include <errno.h>
 #include <limits.h>
 #include <linux/futex.h>

@@ -6,7 +6,7 @@
  * A device has to be woken within SECONDS when a frame is finished. The program prints what is wrong, and else how many
  * frames were sent, lost and delivered, how many keys there were, and how often a device waited. */
 #define _GNU_SOURCE
-#include "device.h"
+#include "workers.h"
 #include <inttypes.h>
 #include <poll.h>
 #include <stdarg.h>
