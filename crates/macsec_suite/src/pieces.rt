@@ -9,7 +9,7 @@ use macsec_gcm::laws::sealed_lengths;
 use macsec_gcm::{GcmKey, Opener, Sealer, Unlocked};
 
 /// The length of a piece in octets; the last one can be shorter.
-const PIECE_LENGTH: usize = 256;
+const PIECE_LENGTH: usize = 2_048;
 
 /// Encrypts the plaintext `text` in place, piece by piece. Returns the authentication tag of the ciphertext and the
 /// additional authenticated data. The limits on lengths are as for `GcmKey::seal`.
