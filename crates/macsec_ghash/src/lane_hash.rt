@@ -1,7 +1,7 @@
 //! GHASH of eight blocks at a time, with powers of the key.
 
-ghost use Rattle.std.specs.Prelude.{◌≡◌, ◌≤◌, ℕ, List, [], ◌++◌, ◌^◌, ◌<◌, length, take};
-ghost use Rattle.macsec_ghash.specs.Ghash.{ghash, hash_after, hash_next, pad};
+ghost use Rattle.std.specs.Prelude.{◌≡◌, ◌≤◌, ◌+◌, ℕ, List, [], ◌∷◌, ◌++◌, ◌^◌, ◌<◌, length, take, drop};
+ghost use Rattle.macsec_ghash.specs.Ghash.{block_of, blocks_of, ghash, hash_after, hash_next, pad};
 ghost use Rattle.macsec_ghash.specs.Powers.{weighted};
 
 use crate::lanes::sum_of_products;
@@ -15,6 +15,33 @@ fn weighted(powers: &KeyPowers, blocks: &[u128; 8]) -> Block
     ensures { result.0 ≡ weighted powers.now blocks.now }
 {
     sum_of_products(blocks, powers)
+}
+
+/// The first eight blocks of a text.
+#[inline(always)]
+fn first_eight(text: &[u8]) -> [u128; 8]
+    requires { 128 ≤ length text.now }
+    ensures { result ≡ blocks_of 8 text.now }
+{
+    [
+        block_at(text, 0),
+        block_at(text, 16),
+        block_at(text, 32),
+        block_at(text, 48),
+        block_at(text, 64),
+        block_at(text, 80),
+        block_at(text, 96),
+        block_at(text, 112),
+    ]
+}
+
+/// The block of 16 octets of a text.
+#[inline(always)]
+fn block_at(text: &[u8], start: usize) -> u128
+    requires { start + 16 ≤ length text.now }
+    ensures { result ≡ block_of (take 16 (drop start text.now)) }
+{
+    block_of(&text[start..start + 16]).0
 }
 
 /// A hash that uses eight powers of a key, which the caller keeps. Eight blocks take one sum of eight products.
@@ -49,9 +76,65 @@ impl RunningHash {
         ensures { (blocks : List ℕ) → HasRun self.old powers.now blocks
             → HasRun self.new powers.now (blocks ++ pad bytes.now) }
     {
+        let mut done = 0;
+        while bytes.len() - done >= 128 {
+            done += self.absorb_first(powers, &bytes[done..]);
+        }
+        self.absorb_rest(powers, &bytes[done..]);
+    }
+
+    /// Hashes one block.
+    #[inline(always)]
+    pub fn absorb_block(&mut self, powers: &KeyPowers, block: Block)
+        ensures { (blocks : List ℕ) → HasRun self.old powers.now blocks
+            → HasRun self.new powers.now (blocks ++ block.0 ∷ []) }
+    {
+        self.push(powers, block);
+    }
+
+    /// Hashes the blocks of `bytes` one by one. The last block is padded with zeros.
+    #[inline(always)]
+    fn absorb_rest(&mut self, powers: &KeyPowers, bytes: &[u8])
+        ensures { hash_after powers.now self.new.sum.0 (take self.new.waiting_count self.new.waiting)
+            ≡ hash_after powers.now (hash_after powers.now self.old.sum.0 (take self.old.waiting_count self.old.waiting)) (pad bytes.now) }
+    {
         for chunk in bytes.chunks(16) {
             self.push(powers, block_of(chunk));
         }
+    }
+
+    /// Hashes the first eight blocks of `bytes` if none are waiting, else the first. Returns the number of their octets.
+    #[inline(always)]
+    fn absorb_first(&mut self, powers: &KeyPowers, bytes: &[u8]) -> usize
+        requires { 128 ≤ length bytes.now }
+        ensures some { 0 < result }
+        ensures within { result ≤ length bytes.now }
+        ensures hash { hash_after powers.now (hash_after powers.now self.new.sum.0 (take self.new.waiting_count self.new.waiting)) (pad (drop result bytes.now))
+            ≡ hash_after powers.now (hash_after powers.now self.old.sum.0 (take self.old.waiting_count self.old.waiting)) (pad bytes.now) }
+    {
+        if self.waiting_count == 0 {
+            self.absorb_eight(powers, bytes);
+            return 128;
+        }
+        self.push(powers, block_of(&bytes[..16]));
+        16
+    }
+
+    /// Hashes the first eight blocks of `bytes` while none are waiting.
+    #[inline(always)]
+    fn absorb_eight(&mut self, powers: &KeyPowers, bytes: &[u8])
+        requires none { self.old.waiting_count ≡ 0 }
+        requires whole { 128 ≤ length bytes.now }
+        ensures none { self.new.waiting_count ≡ 0 }
+        ensures hash { self.new.sum.0 ≡ hash_after powers.now self.old.sum.0 (blocks_of 8 bytes.now) }
+    {
+        product_adds();
+        product_associates();
+        product_is_block();
+        let _powers = &powers.tables;
+        let mut blocks = first_eight(bytes);
+        blocks[0] ^= self.sum.0;
+        self.sum = weighted(powers, &blocks);
     }
 
     /// The hash of all blocks so far.

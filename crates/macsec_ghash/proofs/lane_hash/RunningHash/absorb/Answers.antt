@@ -1,34 +1,31 @@
--- Each chunk adds its block to the hash, and at the end all blocks are hashed. Proved from the loop's invariant and the
--- lemmas on the blocks of a text in `Blocks`.
-use Rattle.std.proofs.Common.{rules, ◌≡◌, ℕ, length, take, ap, ◌∙◌, sym, min}
-use Rattle.macsec_ghash.specs.Ghash.{hash_after, hash_next, pad}
-use Rattle.macsec_ghash.proofs.Blocks.{pad_chunk, pad_none, ghash-append}
+-- The first blocks that are left add to the hash, and at the end the rest is hashed. Proved from the loop's invariant.
+use Rattle.std.proofs.Common.{◌≡◌, ◌-◌, ◌∙◌, ℕ, List, ap, arith, drop, length, length-drop, sym, take}
+use Rattle.std.proofs.lemmas.List.{drop-drop, take_all}
+use Rattle.macsec_ghash.specs.Ghash.{hash_after, pad}
+use Rattle.macsec_ghash.proofs.Blocks.{ghash-append}
 use Rattle.macsec_ghash.proofs.lane_hash.RunningHash.absorb.Goals as goal
 
--- For speed: on a wrong body the prover would otherwise try more.
-pub loop-chunk-init : goal.loop-chunk-init
-loop-chunk-init c = search rules
-
-pub loop-chunk-preserved : goal.loop-chunk-preserved
-loop-chunk-preserved c =
-    let step = c.in-Some.ensures.steps in
-    let inv = c.loop-chunk.invariant in
-    let size : length c.in-Some.chunk.now ≡ min 16 (length c.loop-chunk.chunk-iterator.rest.now) = rw inv.size at step.1.1 in
-    let blocks = pad_chunk c.loop-chunk.chunk-iterator.rest.now c.in-Some.chunk.now c.next.new.self.rest.now step.1.0 size step.1.2 in
-    let so_far = c.loop-chunk.self in
-    let left = pad c.next.new.self.rest.now in
-    let h : ℕ = c.args.powers.now in
-    let hash : ℕ = hash_after h so_far.sum.0 (take so_far.waiting_count so_far.waiting) in
+pub loop-done-preserved : goal.loop-done-preserved
+loop-done-preserved c =
+    let done : ℕ = c.loop-done.done in
+    let bytes : List ℕ = c.args.bytes.now in
+    let part = c.absorb_first-done in
+    let inv = c.loop-done.invariant in
+    let whole : take (length bytes - done) (drop done bytes) ≡ drop done bytes = take_all (length bytes - done) (drop done bytes) (omega (arith, length-drop done bytes)) in
+    let left : length (take (length bytes - done) (drop done bytes)) ≡ length bytes - done = ap length whole ∙ length-drop done bytes in
     record {
-      size = step.0 ∙ inv.size;
-      rest = ap (λ (y : ℕ). hash_after h y left) (c.push.ensures ∙ ap (hash_next h hash) c.block_of.ensures) ∙ (rw blocks at inv.rest);
+      within = omega (arith, left, part.ensures.within);
+      rest =
+          ap (λ (ys : List ℕ). hash_after c.args.powers.now (hash_after c.args.powers.now part.new.self.sum.0 (take part.new.self.waiting_count part.new.self.waiting)) (pad ys)) (sym (drop-drop part.result done bytes))
+          ∙ rw whole at part.ensures.hash
+          ∙ inv.rest;
     }
 
 pub returns : goal.returns
 returns c = λ blocks held.
-    let end = c.in-None.ensures.steps in
-    let inv = c.loop-chunk.invariant in
-    let none = pad_none c.loop-chunk.chunk-iterator.rest.now end.1.0 in
+    let done : ℕ = c.loop-done.done in
+    let bytes : List ℕ = c.args.bytes.now in
+    let whole : take (length bytes - done) (drop done bytes) ≡ drop done bytes = take_all (length bytes - done) (drop done bytes) (omega (arith, length-drop done bytes)) in
     let h : ℕ = c.args.powers.now in
-    let all = pad c.args.bytes.now in
-    record { hash = ghash-append h blocks all ∙ ap (λ (y : ℕ). hash_after h y all) held.hash ∙ sym (rw none at inv.rest) }
+    let all = pad bytes in
+    record { hash = ghash-append h blocks all ∙ ap (λ (y : ℕ). hash_after h y all) held.hash ∙ sym ((rw whole at c.absorb_rest.ensures) ∙ c.loop-done.invariant.rest) }
