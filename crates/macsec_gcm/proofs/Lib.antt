@@ -4,3 +4,4 @@ pub mod Opening
 pub mod States
 pub mod Tags
 pub mod Vectors
+pub mod Words

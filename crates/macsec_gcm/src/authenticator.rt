@@ -1,10 +1,12 @@
 //! The tag of additional authenticated data and a ciphertext, both in pieces (SP 800-38D, 7.1, steps 4 to 6).
 
-ghost use Rattle.std.specs.Prelude.{◌≡◌, ◌*◌, ◌^◌, ◌<◌, ◌≤◌, ◌++◌, [], ℕ, List, length, replicate};
+ghost use Rattle.std.specs.Prelude.{◌≡◌, ◌*◌, ◌^◌, ◌<◌, ◌≤◌, ◌∷◌, ◌++◌, [], ℕ, List, length, replicate};
+ghost use Rattle.macsec_ghash.specs.Ghash.{pad};
 ghost use Rattle.macsec_gcm.specs.Gcm.{authentication_tag, gctr, hash_subkey, length_block, max_aad_len, max_plaintext_len};
 
 use crate::hash::PaddedHash;
 use crate::key_stream::add_octets;
+use macsec_field128::Block;
 use macsec_ghash::KeyPowers;
 
 /// Authenticates additional authenticated data and a ciphertext in pieces.
@@ -67,9 +69,8 @@ impl<'k> Authenticator<'k> {
             → result ≡ authentication_tag key j0 aad text }
     {
         self.hash.end_text();
-        self.hash
-            .absorb(&length_block(self.aad_len, self.ciphertext_len));
-        let mut tag = self.hash.value().0.to_be_bytes();
+        let lengths = length_block(self.aad_len, self.ciphertext_len);
+        let mut tag = self.hash.value_after(lengths).0.to_be_bytes();
         add_octets(&mut tag, &self.mask);
         tag
     }
@@ -89,12 +90,10 @@ impl<'k> Authenticator<'k> {
 }
 
 /// The block of the bit lengths, given the lengths in octets.
-fn length_block(aad: u64, ciphertext: u64) -> [u8; 16]
+fn length_block(aad: u64, ciphertext: u64) -> Block
     ensures { (a c : List ℕ) → length a ≡ aad → length c ≡ ciphertext → 8 * aad < 2 ^ 64 → 8 * ciphertext < 2 ^ 64
-        → result ≡ length_block a c }
+        → pad (length_block a c) ≡ result.0 ∷ [] }
 {
-    let mut block = [0; 16];
-    block[..8].copy_from_slice(&aad.wrapping_mul(8).to_be_bytes());
-    block[8..].copy_from_slice(&ciphertext.wrapping_mul(8).to_be_bytes());
-    block
+    let left = aad.wrapping_mul(8) as u128 * 0x1_0000_0000_0000_0000;
+    Block(left + ciphertext.wrapping_mul(8) as u128)
 }

@@ -1,6 +1,6 @@
 //! Hashes texts in pieces. Each text is padded with zeros to whole blocks (SP 800-38D, 7.1, step 5).
 
-ghost use Rattle.std.specs.Prelude.{◌≡◌, ◌+◌, ◌%◌, ◌<◌, ◌++◌, [], ℕ, List, length};
+ghost use Rattle.std.specs.Prelude.{◌≡◌, ◌+◌, ◌%◌, ◌<◌, ◌∷◌, ◌++◌, [], ℕ, List, length};
 
 use macsec_field128::Block;
 use macsec_ghash::{KeyPowers, RunningHash};
@@ -78,14 +78,13 @@ impl<'k> PaddedHash<'k> {
         self.waiting_count = 0;
     }
 
-    /// Returns the hash of all texts. The last text ends here.
-    pub fn value(&mut self) -> Block
-        ensures { (h : ℕ) (blocks text : List ℕ) → IsHashing self.old h blocks text
-            → result.0 ≡ ghash h (blocks ++ pad text) }
+    /// Hashes one more block after texts that have ended. Returns the hash of all blocks.
+    #[inline(always)]
+    pub fn value_after(&mut self, last: Block) -> Block
+        ensures { (h : ℕ) (blocks : List ℕ) → IsHashing self.old h blocks []
+            → result.0 ≡ ghash h (blocks ++ last.0 ∷ []) }
     {
-        let waiting = self.waiting;
-        self.hash
-            .absorb(self.powers, &waiting[..self.waiting_count]);
+        self.hash.absorb_block(self.powers, last);
         self.hash.value(self.powers)
     }
 
@@ -95,6 +94,9 @@ impl<'k> PaddedHash<'k> {
         ensures { (h : ℕ) (blocks text : List ℕ) → IsHashing self.old h blocks text
             → IsHashing self.new h blocks (text ++ octets.now) }
     {
+        if octets.is_empty() {
+            return;
+        }
         let end = self.waiting_count + octets.len();
         self.waiting[self.waiting_count..end].copy_from_slice(octets);
         self.waiting_count = end;

@@ -111,6 +111,12 @@ pub fn add_octets(text: &mut [u8], stream: &[u8])
     add_by_16(&mut text[done..], &stream[done..]);
 }
 
+/// Whether so many octets take seven or eight blocks.
+#[inline(always)]
+fn is_for_eight(wanted: usize) -> bool {
+    wanted > 96 && wanted <= 128
+}
+
 /// A partly used key stream, from an initial counter block on. Octets of a batch that one piece of a text does not use
 /// are kept for the next piece.
 #[derive(Drop)]
@@ -188,8 +194,8 @@ impl<'k> KeyStream<'k> {
         count
     }
 
-    /// If all octets are used, computes the next batch: 16 blocks if more than 128 octets are `wanted`, eight if more
-    /// than 96, otherwise six.
+    /// If all octets are used, computes the next batch: 16 blocks if more than 192 octets are `wanted`, eight for seven or
+    /// eight blocks, otherwise six. Twice six take less than 16.
     fn refill(&mut self, wanted: usize)
         ensures some { self.new.used < 256 }
         ensures same { (key icb : List ℕ) (n : ℕ) → IsStreamAt self.old key icb n → IsStreamAt self.new key icb n }
@@ -197,10 +203,10 @@ impl<'k> KeyStream<'k> {
         if self.used < 256 {
             return;
         }
-        if wanted > 128 {
+        if wanted > 192 {
             self.counter = write_sixteen(self.schedule, self.counter, &mut self.octets);
             self.used = 0;
-        } else if wanted > 96 {
+        } else if is_for_eight(wanted) {
             self.counter = write_eight(self.schedule, self.counter, &mut self.octets[128..]);
             self.used = 128;
         } else {

@@ -54,12 +54,14 @@ impl<'k> Sealer<'k> {
 
     /// Returns the authentication tag of all pieces.
     #[inline(always)]
-    pub fn finish(mut self) -> [u8; 16]
+    pub fn finish(self) -> [u8; 16]
         ensures { (key iv aad plaintext : List ℕ) → HasSealed self.entry key iv aad plaintext
             → length aad ≤ max_aad_len → length plaintext ≤ max_plaintext_len
             → result ≡ (seal_of key iv aad plaintext).1 }
     {
-        self.authenticator.tag()
+        // Moved out alone, so that the key stream is not copied.
+        let mut authenticator = self.authenticator;
+        authenticator.tag()
     }
 }
 
@@ -114,7 +116,7 @@ impl<'k> Opener<'k> {
     /// If this is the tag of all pieces, returns what decrypts the ciphertext. Otherwise returns `None`: no plaintext
     /// seals to the ciphertext and this tag.
     #[inline(always)]
-    pub fn finish(mut self, tag: &[u8; 16]) -> Option<Unlocked<'k>>
+    pub fn finish(self, tag: &[u8; 16]) -> Option<Unlocked<'k>>
         ensures opened { (key iv aad ciphertext : List ℕ) → HasChecked self.entry key iv aad ciphertext
             → length aad ≤ max_aad_len → length ciphertext ≤ max_plaintext_len
             → IfSome result (λ unlocked. HasOpened unlocked key iv []
@@ -123,11 +125,13 @@ impl<'k> Opener<'k> {
             → length aad ≤ max_aad_len → length ciphertext ≤ max_plaintext_len
             → IfNone result (open_of key iv aad ciphertext tag.now ≡ None) }
     {
-        if are_same(self.authenticator.tag(), *tag) {
-            Some(Unlocked { rest: self.stream })
-        } else {
-            None
+        // Moved out first, so that the key stream is copied less often.
+        let rest = self.stream;
+        let mut authenticator = self.authenticator;
+        if are_same(authenticator.tag(), *tag) {
+            return Some(Unlocked { rest });
         }
+        None
     }
 }
 
