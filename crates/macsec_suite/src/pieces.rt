@@ -38,8 +38,7 @@ pub fn open(key: &GcmKey, iv: &[u8; 12], aad: &[u8], text: &mut [u8], tag: &[u8;
     check_aad(&mut opener, aad);
     check_text(&mut opener, text);
     // Match on a reference: moving the key stream out would copy a batch of key stream.
-    let mut finished = opener.finish(tag);
-    match &mut finished {
+    match &mut opener.finish(tag) {
         Some(unlocked) => {
             decrypt(unlocked, text);
             true

@@ -11,11 +11,11 @@ returns-in-Some-clause-gives c =
     let opens = λ (text : List ℕ). open_of c.args.key.now c.args.iv.now c.args.aad.now c.args.text.now c.args.tag.now ≡ Some text in
     let opened = subst (λ o. IfSome o (λ unlocked. HasOpened unlocked c.args.key.now c.args.iv.now []
     × opens (decrypted c.args.key.now c.args.iv.now c.args.text.now))) c.in-Some.is
-    (c.finish-finished.ensures.opened _ _ _ _ checked c.requires.aad_length c.requires.text_length) in
+    (c.finish.ensures.opened _ _ _ _ checked c.requires.aad_length c.requires.text_length) in
     opened.1 ∙ ap Some (sym (c.decrypt.ensures _ _ opened.0))
 
 pub returns-in-None-clause-gives : goal.returns-in-None-clause-gives
 returns-in-None-clause-gives c =
     let checked = c.check_text.ensures _ _ _ (c.check_aad.ensures _ _ c.start-opener.ensures) in
     subst (λ o. IfNone o (open_of c.args.key.now c.args.iv.now c.args.aad.now c.args.text.now c.args.tag.now ≡ None)) c.in-None.is
-    (c.finish-finished.ensures.refused _ _ _ _ checked c.requires.aad_length c.requires.text_length)
+    (c.finish.ensures.refused _ _ _ _ checked c.requires.aad_length c.requires.text_length)
