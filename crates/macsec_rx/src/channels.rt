@@ -1,9 +1,10 @@
 //! The receive SCs and their SAs, and the commands on them.
 
-ghost use Rattle.std.specs.Prelude.{◌≡◌, [], ◌∷◌, ◌++◌, length, true, map, slice_get, slice_set, false, IfOk, IfSome, IsSomeAnd, MatchOption, None, OnErr, OnOk, Some, option_map};
+ghost use Rattle.std.specs.Prelude.{◌≡◌, ◌≤◌, [], ◌∷◌, ◌++◌, length, true, map, slice_get, slice_set, false, IfOk, IfSome, IsSomeAnd, MatchOption, None, OnErr, OnOk, Some, option_map};
 ghost use Rattle.macsec_suite.specs.Refusals.{first_refusal, refusal_of};
 ghost use Rattle.macsec_rx.specs.Channels.{is_at, no_channels, rx_row, with_rx};
 ghost use Rattle.macsec_rx.specs.Index.{row_of_found};
+ghost use Rattle.macsec_rx.specs.Limits.{max_row_count};
 ghost use Rattle.macsec_rx.specs.Rows.{AreChannels, IsRxRow};
 ghost use Rattle.macsec_commands.specs.Scis.{IsSci};
 ghost use Rattle.macsec_rx.specs.Judge.{in_use, only_channel, port_of, row_accepting, rows_accepting, sci_of};
@@ -77,6 +78,14 @@ impl RxChannels {
         ensures { result ≡ slice_get self.now.scis place }
     {
         self.scis.as_slice().get(place).copied()
+    }
+
+    /// The SAs, in the order of creation.
+    pub fn rows(&self) -> &[RxRow]
+        ensures rows { result.now ≡ self.now.rows }
+        ensures count { length self.now.rows ≤ max_row_count }
+    {
+        self.rows.as_slice()
     }
 
     /// Returns the SA with this SCI and association number.

@@ -19,6 +19,9 @@
 //! frame needs now, if it needs one: the number of a key, and the IV. `OpenJob::open` does the job with the prepared
 //! key, and needs no SA. `judge` compares the key and the IV of what was opened with its own, and opens the frame
 //! itself if they differ. So it judges and delivers the same, whether a frame was opened before or not.
+//!
+//! Proved: `row_and_number` returns the SA and the packet number of a frame, without the cipher, and `number_to_accept` the
+//! packet number that `judge` would accept. Both change nothing. `rows` returns the SAs, at most 256.
 #![tactic(auto)]
 
 ghost use Rattle.std.specs.Prelude.{◌≡◌, Some};

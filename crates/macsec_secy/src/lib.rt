@@ -18,6 +18,9 @@
 //! between a plan and its job are, the result of the job is the same. `send_by` and `plan_send_by` are `send` and
 //! `plan_send` for a caller that has found the enabled SA already (`enabled_sa`).
 //!
+//! Proved: `row_and_number` returns the receive SA and the packet number of a link frame, without the cipher, and
+//! `number_to_accept` the packet number that `receive` would accept. Both change nothing.
+//!
 //! Laws of the machine (`laws`). `uses_no_number_twice`: for every list of inputs, the packet numbers of the frames
 //! sent protected under one key number rise in the order of sending. `accepts_sent`: a frame that another endpoint
 //! protected gets the verdict `OK` and gives the client frame if the conditions of `specs/Accepts.antt` hold; if its SL
@@ -41,6 +44,7 @@ ghost use Rattle.macsec_secy.specs.Rests.{RestsAs};
 ghost use Rattle.macsec_secy.specs.Sound.{IsSound};
 ghost use Rattle.macsec_secy.specs.Sums.{AddsFrames};
 
+mod accepting;
 mod answers;
 mod associations;
 mod counters;
@@ -427,7 +431,7 @@ impl Secy {
 
     /// The fault of a frame, if it has one. It depends only on the frame's length, not on the endpoint. This is a
     /// method so that its callers learn from `sound` that the endpoint is sound.
-    fn frame_fault(&self, frame: &[u8]) -> Option<FrameFault>
+    pub(crate) fn frame_fault(&self, frame: &[u8]) -> Option<FrameFault>
         ensures fault { result ≡ frame_fault frame.now }
         ensures sound { IsSound self.now }
     {

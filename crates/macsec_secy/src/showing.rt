@@ -5,7 +5,7 @@ ghost use Rattle.macsec_suite.specs.KeyNumbers.{max_key_count};
 ghost use Rattle.macsec_tx.specs.Transmit.{row_on, tx_row};
 ghost use Rattle.macsec_tx.specs.Rows.{IsEnabled};
 ghost use Rattle.macsec_rx.specs.Channels.{rx_row};
-ghost use Rattle.macsec_rx.specs.Limits.{max_channel_count};
+ghost use Rattle.macsec_rx.specs.Limits.{max_channel_count, max_row_count};
 ghost use Rattle.macsec_rx.specs.Commands.{has_rx};
 ghost use Rattle.macsec_secy.specs.Answers.{channel_counters_of, rx_counters_of, rx_removed_of, rx_sa_counters_of};
 ghost use Rattle.macsec_secy.specs.AssociationSums.{rx_sums_of};
@@ -121,5 +121,13 @@ impl Secy {
         ensures { result ≡ rx_row self.now.rx.rows sci an }
     {
         self.rx.row(sci, an)
+    }
+
+    /// The receive SAs (secure associations), in the order of creation. There are at most 256.
+    pub fn rx_rows(&self) -> &[RxRow]
+        ensures rows { result.now ≡ self.now.rx.rows }
+        ensures count { length self.now.rx.rows ≤ max_row_count }
+    {
+        self.rx.rows()
     }
 }
