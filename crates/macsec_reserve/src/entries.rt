@@ -33,7 +33,7 @@ fn has_entry(entries: &[Reservation], name: &[u8; 32]) -> bool
 }
 
 /// Raises the entries of a reservation's name to its number.
-pub(crate) fn raise(entries: &mut [Reservation], by: &Reservation)
+pub fn raise(entries: &mut [Reservation], by: &Reservation)
     ensures { entries.new ≡ map (raised_by by.now) entries.old }
 {
     for reserved in entries.iter_mut() {

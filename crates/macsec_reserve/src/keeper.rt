@@ -19,7 +19,7 @@ ghost use Rattle.macsec_reserve.specs.Forgetting.{as_taken, can_forget, fingerpr
 ghost use Rattle.macsec_reserve.specs.Journal.{highest, sending_name};
 ghost use Rattle.macsec_reserve.specs.Keeping.{begins_at, endpoint_input, endpoint_output, is_below_floor, keeping_step, may_go, now_durable, rx_floor, tx_floor, uses_reserved, wanted_for, wanted_last, was_reserved};
 ghost use Rattle.macsec_reserve.specs.Names.{IsAtHand, entry_of, name_or_none, name_row, names_after};
-ghost use Rattle.macsec_reserve.specs.Replay.{saved_for};
+ghost use Rattle.macsec_reserve.specs.Replay.{row_name, saved_for};
 ghost use Rattle.macsec_reserve.specs.Rests.{RestsAs};
 
 use crate::entries::raise;
@@ -223,6 +223,28 @@ impl Keeper {
         let name = receiving_name(&key, row.sci, row.an);
         let last = up_to(row.lowest);
         Some(Reservation { name, last })
+    }
+
+    /// The name under which the packet numbers of a receive association are reserved.
+    pub fn name_of_row(&self, row: &RxRow) -> [u8; 32]
+        ensures { result ≡ row_name self.now.salt self.now.secy row.now }
+    {
+        let key = name_of(&self.salt, self.names.as_slice(), row.key);
+        receiving_name(&key, row.sci, row.an)
+    }
+
+    /// The last packet number that the journal reserved under a name when the run began, 0 if it reserved none.
+    pub fn reserved_before(&self, name: &[u8; 32]) -> u64
+        ensures { result ≡ highest self.now.before name.now }
+    {
+        highest(self.before.as_slice(), name)
+    }
+
+    /// Has it a journal?
+    pub fn has_journal(&self) -> bool
+        ensures { result ≡ self.now.keeps }
+    {
+        self.keeps
     }
 
     /// The highest packet number that an earlier run may have used to send under the key of this number, if there is
@@ -629,7 +651,7 @@ fn append_entries(granted: &mut Vec<Reservation>, names: &[NamedKey])
 }
 
 /// The last packet number to reserve, if fewer than half of `amount` are left.
-fn wanted_last(reserved: u64, next: u128, amount: u64) -> Option<u64>
+pub fn wanted_last(reserved: u64, next: u128, amount: u64) -> Option<u64>
     ensures { result ≡ wanted_last reserved next amount }
 {
     let Ok(next) = u64::try_from(next) else {
