@@ -188,7 +188,7 @@ class Guest:
         with open(self.folder / "qemu.log", "ab") as log:
             self.machine = Machine(self.namespace, self.words, self.folder / "console", log)
         self.line, self.kept = self.connected("line"), b""
-        if not self.answer(600).get("ready"):
+        if not self.answer(300 * SLOWER).get("ready"):
             raise Failed("the machine does not start")
         self.run("mount -o ro /dev/vdb /packages")
 
