@@ -36,7 +36,7 @@
  *            (MACSEC_E_EMPTY, MACSEC_E_TAKEN), then the arguments (MACSEC_E_NO_SUCH_..), then the rest. If several
  *            statuses of arguments apply, or several refusals of a command, the call returns the lowest; but
  *            MACSEC_E_PN_FLOOR comes first where a journal is the reason.
- * MEMORY     macsec_new allocates seven blocks by malloc, 17.9 MB in all: four for 4,096 keys, one for a frame, two for
+ * MEMORY     macsec_new allocates seven blocks by malloc, 19.0 MB in all: four for 4,096 keys, one for a frame, two for
  *            the rest. macsec_free frees them. macsec_configure allocates the same, and so do macsec_reserve_open and
  *            macsec_reserve_configure, with one more for a journal that has records. macsec_key_take allocates one
  *            block, and macsec_slot_new three. macsec_configure, macsec_reserve_configure, macsec_command_line and
@@ -451,7 +451,7 @@ static inline uint32_t macsec_receive(macsec_endpoint *e, const uint8_t *frame, 
  *
  *     macsec_slot slot = MACSEC_SLOT_INIT;  // for each frame that is under way: 18.7 KB in three blocks
  *     macsec_slot_new(&slot);
- *     macsec_key key = MACSEC_KEY_INIT;     // for each key and thread: 4.3 KB in one block
+ *     macsec_key key = MACSEC_KEY_INIT;     // for each key and thread: 4.5 KB in one block
  *     macsec_key_take(&key, &a, sak.number);
  *
  *     macsec_planned planned; // a client frame, in the endpoint's thread

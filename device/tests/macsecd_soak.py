@@ -14,7 +14,7 @@ from macsecd_world import IN, OUT, RX, End, Packets, Stream, World, protected
 REKEYS = 60
 
 # By how many kB the heap may grow after ten changes of keys: the journal is longer after each one, and two rows of keys
-# of 4.3 kB are used.
+# of 4.5 kB are used.
 GROWS = 64 + (REKEYS - 10) * 2 * 5
 
 # Words of control lines. None of them forms a line that the endpoint carries out.
