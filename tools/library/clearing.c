@@ -1,5 +1,6 @@
-/* The calls that take keys, or that retire one: when the library returns, what it left on the stack is overwritten.
- * tools/merged-library gives the library's own calls the prefix uncleared_ and links this above them. */
+/* The calls that take keys, or that retire one: when the library returns, what it left on the stack is overwritten. And
+ * the calls that make an endpoint: in the library for vectors of 256 bits, AES takes sixteen blocks at once with its
+ * keys. tools/merged-library gives the library's own calls the prefix uncleared_ and links this above them. */
 #include "../../include/macsec.h"
 #include <string.h>
 
@@ -13,13 +14,30 @@
 CLEARS(32768)
 CLEARS(65536)
 
-#define CALL(depth, name, parameters, arguments)                                                                       \
+#define CALL_ALSO(depth, name, parameters, arguments, also)                                                            \
     uint32_t uncleared_##name parameters;                                                                              \
     uint32_t name parameters {                                                                                         \
         uint32_t status = uncleared_##name arguments;                                                                  \
+        also;                                                                                                          \
         clear_##depth();                                                                                               \
         return status;                                                                                                 \
     }
+#define CALL(depth, name, parameters, arguments) CALL_ALSO(depth, name, parameters, arguments, (void)0)
+
+/* A call that makes an endpoint. macsec_prefer_wide is a call of the crate that no header has. */
+#ifdef __AVX2__
+enum { WIDE = 1 };
+void macsec_prefer_wide(macsec_endpoint *e, bool wide);
+#define MAKES(depth, name, parameters, arguments)                                                                      \
+    CALL_ALSO(depth, name, parameters, arguments, status == MACSEC_OK ? macsec_prefer_wide(e, WIDE) : (void)0)
+/* These two take no key. */
+MAKES(32768, macsec_new, (macsec_endpoint * e, const macsec_config *config), (e, config))
+MAKES(32768, macsec_reserve_open_raw,
+      (macsec_endpoint * e, const macsec_config *config, const uint8_t *journal, size_t length),
+      (e, config, journal, length))
+#else
+#define MAKES CALL
+#endif
 
 CALL(32768, macsec_install_key, (macsec_endpoint * e, const macsec_sak *key), (e, key))
 CALL(32768, macsec_retire_key, (macsec_endpoint * e, uint16_t key), (e, key))
@@ -37,9 +55,9 @@ CALL(32768, macsec_add_tx_sa, (macsec_endpoint * e, uint8_t an, uint16_t key, ui
 CALL(32768, macsec_add_rx_sa,
      (macsec_endpoint * e, const uint8_t sci[8], uint8_t an, uint16_t key, uint64_t lowest, uint32_t ssci),
      (e, sci, an, key, lowest, ssci))
-CALL(65536, macsec_configure_raw, (macsec_endpoint * e, const uint8_t *text, size_t length, uint32_t *line),
-     (e, text, length, line))
-CALL(65536, macsec_reserve_configure_raw,
-     (macsec_endpoint * e, const uint8_t *text, size_t text_length, const uint8_t *journal, size_t journal_length,
-      uint32_t *line),
-     (e, text, text_length, journal, journal_length, line))
+MAKES(65536, macsec_configure_raw, (macsec_endpoint * e, const uint8_t *text, size_t length, uint32_t *line),
+      (e, text, length, line))
+MAKES(65536, macsec_reserve_configure_raw,
+      (macsec_endpoint * e, const uint8_t *text, size_t text_length, const uint8_t *journal, size_t journal_length,
+       uint32_t *line),
+      (e, text, text_length, journal, journal_length, line))

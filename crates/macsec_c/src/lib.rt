@@ -20,6 +20,9 @@
 //! `macsec_seal_raw` has no handle: it seals a frame for a test as `protect_in_place` would, whatever its SecTAG is
 //! (`specs/Sealing.antt` of `macsec_c_calls`).
 //!
+//! `macsec_prefer_wide` is not in the header: the library's own part in C calls it. It changes no state, and says how
+//! many blocks the cipher takes at once.
+//!
 //! No export has a `requires`. The caller in C has to ensure what references and handles mean. Each pointer leads to a
 //! value of its type, or to as many octets as the length beside it says, and nothing else points there. A handle begins
 //! as zeros, and only these calls write to it.
@@ -40,3 +43,4 @@ mod sending;
 mod showing;
 mod slot;
 mod version;
+mod wide;
