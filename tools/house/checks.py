@@ -51,6 +51,8 @@ BOTH = "--program {program} --program {rattle}"
 # The builds that this processor runs.
 LIBRARIES = "build/libmacsec.a" + (f" build/glibc-hwcaps/{WIDER}/libmacsec.a" if runs(WIDER) else "")
 BUILDS = " ".join(f"--program build/macsec-{it}" for it in KINDS if runs(it))
+# The archives for libraries that the check `instructions` must find too slow for vectors of 256 bits.
+NARROWER = f"--mistakes build/libmacsec_c.a build/libmacsec_c-{WIDER}.a " if runs(WIDER) else ""
 
 # fmt: off
 CHECKS: list[Check] = [
@@ -110,7 +112,9 @@ CHECKS: list[Check] = [
           "tests/library/keys-in-memory", LIBRARY, 20, "libraries that overwrite no blocks, or no stack",
           test="{library}", gate=f"--mistakes build/libmacsec_c.a {LIBRARIES}"),
     Check("instructions", "counts the instructions of a frame and of a key through the library for C, against limits",
-          "tests/library/instructions", LIBRARY, 15, "a limit below what is counted, one far above it", gate=LIBRARIES),
+          "tests/library/instructions", LIBRARY, 20,
+          "a limit below what is counted, one far above it; libraries without wide planes, or without vectors for them",
+          gate=f"{NARROWER}{LIBRARIES}"),
     Check("pages", "runs the examples of the pages, and checks their links", "tools/pages", LIBRARY, 10,
           "another output, links that lead nowhere", test=f"{BUILT} --library {{shared}}", gate=""),
     Check("packages", "makes the packages and tries them", "tools/dist --check", LIBRARY, 30,
