@@ -3,13 +3,15 @@
 from __future__ import annotations
 
 import re
-from collections.abc import Iterable
+from collections.abc import Collection, Iterable
 from typing import NamedTuple
 
 PAGE = 4096
 # A key's row has 4,288 octets and begins with the key; what is beside it is something else. A part of it has PART octets,
 # so many of them different that it is nothing else.
 ROW, PART, DIFFERENT = 4288 - 64, 32, 10
+# Zeros between which most of a large memory is. A part has fewer one after another.
+ZEROS = re.compile(rb"\0{%d,}" % (PART + 1))
 # The first line of a mapping in smaps.
 MAPPING = re.compile(r"([0-9a-f]+)-([0-9a-f]+) (\S+) \S+ \S+ \S+ *(.*)\n")
 
@@ -89,12 +91,13 @@ def parts_of(memory: Iterable[Region], key: bytes) -> set[bytes]:
     return parts
 
 
-def hits(memory: Iterable[Region], key: bytes, parts: Iterable[bytes] = ()) -> Hits:
+def hits(memory: Iterable[Region], key: bytes, parts: Collection[bytes] = ()) -> Hits:
     """How often a key and these parts are in memory."""
     digits = key.hex().encode()
     whole = [it.octets for it in memory]
+    dense = ZEROS.sub(bytes(PART), bytes(PART).join(whole)) if parts else b""
     return Hits(
         sum(it.count(key) for it in whole),
         sum(it.count(digits) + it.count(digits.upper()) for it in whole),
-        sum(1 for part in parts if any(part in it for it in whole)),
+        sum(1 for part in parts if part in dense),
     )
