@@ -32,6 +32,7 @@ static size_t waiting_length[BATCH];
 static unsigned waiting_count;
 static int patience;   /* in milliseconds */
 static uint64_t state; /* of random numbers */
+static uint8_t rising[256 + LONGEST];
 
 /* ---- Random numbers and faults ---- */
 
@@ -53,14 +54,13 @@ __attribute__((format(printf, 1, 2), noreturn)) static void wrong(const char *fo
 
 /* ---- TAP ---- */
 
-/* What a client frame has: its number, and octets that follow from it. */
+/* What a client frame has: its number, and octets that follow from it, each one greater than the one before. */
 static size_t make_frame(uint64_t number, uint8_t *frame) {
     static const uint8_t header[HEADER] = { 2, 0, 0, 0, 0, 2, 2, 0, 0, 0, 0, 1, 0x88, 0xb5 };
     size_t length = SHORTEST + number * 37 % (LONGEST - SHORTEST);
     memcpy(frame, header, HEADER);
     memcpy(frame + HEADER, &number, sizeof number);
-    for (size_t i = SHORTEST; i < length; i++)
-        frame[i] = (uint8_t)(number + i);
+    memcpy(frame + SHORTEST, rising + number % 256, length - SHORTEST);
     return length;
 }
 
@@ -319,6 +319,8 @@ int main(int count, char **words) {
     if (count != 5)
         wrong("usage: workers FRAMES WORKERS SEED SECONDS");
     to_send = strtoull(words[1], NULL, 10);
+    for (unsigned i = 0; i < sizeof rising; i++)
+        rising[i] = (uint8_t)i;
     keys_last = 20 + (unsigned)(to_send / 100000); /* an endpoint takes 4,096 keys */
     state = strtoull(words[3], NULL, 10);
     patience = 1000 * (int)strtol(words[4], NULL, 10);
