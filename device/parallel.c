@@ -88,17 +88,21 @@ static void note_fate(struct device *d, struct client_batch *b, uint32_t fate) {
     b->lacked += fate == MACSEC_FATE_NO_RESERVATION;
 }
 
-/* Reads a batch. Without other frames, and if a key can't be copied, frames are sealed at once. */
+/* Reads a batch. Without other frames, and if a key can't be copied, frames are sealed at once. A frame alone needs no
+ * copies, so if none is under way they are looked for when the second frame is there. */
 static enum outcome read_client_frames(struct device *d, struct client_batch *b) {
     struct frame frame, following;
-    bool plans = can_plan(d);
-    enum outcome outcome = plans ? DONE : leave_at_most(d, 0);
+    bool is_empty = ring_count(workers_ring(d->workers, SENDING)) == 0;
+    bool plans = !is_empty && can_plan(d);
+    enum outcome outcome = plans || is_empty ? DONE : leave_at_most(d, 0);
     if (outcome == DONE)
         outcome = tap_read(&d->tap, &frame);
     while (outcome == DONE) {
         bool is_last = b->frames + 1 == BATCH;
         outcome = is_last ? BUSY : tap_read(&d->tap, &following);
-        if (!plans || (b->frames == 0 && outcome == BUSY && ring_count(workers_ring(d->workers, SENDING)) == 0))
+        if (b->frames == 0 && is_empty)
+            plans = outcome != BUSY && can_plan(d);
+        if (!plans)
             note_fate(d, b, frames_send(d, &frame));
         else
             note_fate(d, b, plan_client_frame(d, &frame));
