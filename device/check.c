@@ -5,6 +5,7 @@
  * `macsec-config --lint` says the same of the lines for the endpoint, in the same words. */
 #define _GNU_SOURCE
 #include "device.h"
+#include "workers.h"
 #include <errno.h>
 #include <limits.h>
 #include <stdarg.h>
@@ -303,6 +304,9 @@ static void check_device_line(struct check *c, unsigned line, const struct words
         hint(c, line, "there is no network device %s: macsecd ends with status 1 until there is", c->config.link);
     else if (words_is(w, 1, "link") && !c->is_ethernet)
         fault(c, line, "LINK %s is not an Ethernet device; name one", c->config.link);
+    else if (words_is(w, 1, "workers") && c->config.workers > workers_fitting())
+        hint(c, line, "there are too few processors for so many workers, so frames wait for them: write at most %u",
+             workers_fitting());
 }
 
 /* ---- The lines ---- */

@@ -153,6 +153,7 @@ static bool take_workers(struct config *c, const struct words *w) {
     if (!words_number(w, 2, &count) || count > WORKERS_MAX)
         return false;
     c->workers = (unsigned)count;
+    c->has_workers = true;
     return true;
 }
 

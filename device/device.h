@@ -95,7 +95,8 @@ struct config {
     bool unconfined;  /* does macsecd go on without Landlock? */
     bool shared;      /* is LINK in the host's network namespace? */
     bool begins_off;  /* is the controlled port off at the start? */
-    unsigned workers; /* threads for the work of the cipher; 0: the thread that has the endpoint does it */
+    bool has_workers; /* does a line say how many threads do the work of the cipher? */
+    unsigned workers; /* how many; 0: the thread that has the endpoint does it */
     struct limits limits;
     uint32_t max_frame; /* MAX of the `end` line */
     uint8_t *text;      /* the lines for the endpoint; those for the device are comments in it */

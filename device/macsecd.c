@@ -59,7 +59,7 @@ static int start(struct device *d) {
     if (result == 0)
         result = life_open(d);
     if (result == 0)
-        result = workers_open(&d->workers, d->config.workers);
+        result = workers_open(&d->workers, d->config.has_workers ? d->config.workers : workers_fitting());
     if (result == 0)
         result = loop_open(d);
     if (result == 0)

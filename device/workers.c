@@ -11,6 +11,7 @@
 #include <limits.h>
 #include <linux/futex.h>
 #include <pthread.h>
+#include <sched.h>
 #include <stdlib.h>
 #include <string.h>
 #include <sys/eventfd.h>
@@ -160,6 +161,17 @@ static void *work(void *argument) {
 }
 
 /* ---- Opening and closing ---- */
+
+/* The set has as many processors as Linux can have on x86-64. */
+unsigned workers_fitting(void) {
+    cpu_set_t processors[8];
+    int count = 0;
+    if (sched_getaffinity(0, sizeof processors, processors) == 0)
+        count = CPU_COUNT_S(sizeof processors, processors) - 1;
+    else
+        message_of_errno("the number of processors is unknown, so there are no workers");
+    return count < WORKERS_MAX ? (unsigned)count : WORKERS_MAX;
+}
 
 static int failed(int error) {
     errno = error;

@@ -61,6 +61,9 @@ bool ring_is_first(struct ring *r, const struct ring_place *p);
 
 enum direction { SENDING, RECEIVING };
 
+/* How many workers have a processor beside the endpoint's thread, at most WORKERS_MAX: one less than this process may
+ * run on. To be called before confine_calls. */
+unsigned workers_fitting(void);
 /* Makes the rings, and memory for so many workers; if it is 0, there are none (NULL). To be called after memory_lock.
  * Returns 0, or the exit status after a message. */
 int workers_open(struct workers **w, unsigned count);

@@ -8,7 +8,12 @@ import re
 
 from house import ROOT
 from house.reporting import report
+from macsecd_workers import MOST, fitting
 from macsecd_world import SALT, End, expect
+
+# What is said of as many workers as there can be, on a host with fewer processors.
+TOO_MANY = [f"line 2: hint: there are too few processors for so many workers, so frames wait for them: write at most {it}"
+            for it in [fitting()] if it < MOST]  # fmt: skip
 
 # What is planted: lines of the configuration by their numbers (10: after the last one of the endpoint), and what has to
 # be reported: the beginning of each finding, in their order. "hint: " is no fault, so macsecd starts with it.
@@ -19,6 +24,8 @@ PLANTED: list[tuple[dict[int, str], list[str]]] = [
     ({1: "device link averyveryverylongname0"}, ["line 1: no network device can have this name", "the file: there is no"]),
     ({1: "device link link0\ndevice tab x"}, ["line 2: the word after `device` is not link"]),
     ({1: "device link link0\ndevice workers 9"}, ["line 2: the number of workers is not 0 to 8"]),
+    ({1: f"device link link0\ndevice workers {fitting()}"}, []),
+    ({1: f"device link link0\ndevice workers {MOST}"}, TOO_MANY),
     ({1: "# none"}, ["the file: there is no line `device link NAME`"]),
     ({10: "device isolate"}, ["the file: `device shared` and `device isolate` exclude each other"]),
     ({2: "end A gcm12 0200000000010001 1514 sci"}, ["line 2: a keyword is unknown, or"]),
@@ -167,6 +174,7 @@ def check_words() -> None:
 
 def check_check(end: End) -> None:
     """All of it."""
+    end.workers = None
     end.ip("link", "set", "link0", "address", "02:00:00:00:00:01")
     check_planted(end)
     check_surroundings(end)

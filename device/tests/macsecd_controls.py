@@ -13,6 +13,7 @@ from house.reporting import Failed, report
 # fmt: off
 CONTROLS: dict[str, list[tuple[str, str, str]]] = {
     "traffic": [("frames.c", "d->counts.tap_in++;", "d->counts.tap_in += 2;"),
+                ("parallel.c", "d->counts.tap_in++;", "d->counts.tap_in += 2;"),
                  ("tap.c", "frame - HEADER - MACSEC_OVERHEAD_MAX;", "frame - HEADER;"),
                 ("show.c", "extended ? UINT64_MAX : UINT32_MAX", "UINT32_MAX")],
     "rekey": [("frames.c", "if (sent->length > 0)", "if (sent->length > 0 && sent->key != 2)")],
@@ -127,6 +128,10 @@ CONTROLS: dict[str, list[tuple[str, str, str]]] = {
                 "(void)restrict_files, result;"),
                ("confine.c", "&none) == 0 && prctl(PR_SET_DUMPABLE, 0, 0, 0, 0) == 0)", "&none) == 0)"),
                ("memory.c", "message_of_errno(\"memory can't be locked", "(void)(\"memory can't be locked")],
+    "workers": [("workers.c", "CPU_COUNT_S(sizeof processors, processors) - 1", "(int)sysconf(_SC_NPROCESSORS_CONF) - 1"),
+                ("macsecd.c", "d->config.has_workers ?", "d->config.workers != 0 ?"),
+                ("workers.c", "if (++w->jobs % WAKES == 0 && ring_untaken(r) >= WAKES)", "if (++w->jobs > 0)"),
+                ("workers.c", "if (++w->jobs % WAKES == 0 &&", "if (++w->jobs == 0 &&")],
     "secrets": [("memory.c", "!reserved || mlockall(MCL_CURRENT | MCL_ONFAULT) != 0", "!reserved"),
                 ("memory.c", "    bool reserved = reserve_heap();\n", "    bool reserved = true;\n    (void)reserve_heap;\n"),
                 ("control.c", "    explicit_bzero(request, (size_t)count); /* it may be a key */\n", ""),
@@ -147,6 +152,9 @@ CONTROLS: dict[str, list[tuple[str, str, str]]] = {
     "hostile": [("control.c", "static char request[REQUEST + 1]", "static char request[64]")],
 }
 # fmt: on
+
+# The files that matter with workers alone.
+OF_WORKERS = "workers.c", "parallel.c", "ring.c"
 
 
 def check_edits(edits: Iterable[tuple[str, str, str]]) -> None:

@@ -90,6 +90,7 @@ def run_tcp(folder: pathlib.Path, programs: pathlib.Path, octets: int) -> list[f
 def measure(folder: pathlib.Path, library: pathlib.Path, rounds: int = 5, octets: int = 200 << 20) -> None:
     """Rounds of each, one after the other, and the best of each."""
     device = ROOT / "device"
+    End.workers = 0  # each of the programs is one thread
     single = altered(folder / "single", SINGLE, device)
     programs = {
         "macsecd": build(folder / "full", library, [], device),

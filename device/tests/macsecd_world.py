@@ -198,7 +198,7 @@ class End(Namespace):
     """A namespace with a macsecd in it."""
 
     isolated = False  # is LINK in a separate namespace?
-    workers = 0  # how many threads do the work of the cipher
+    workers: int | None = None  # how many threads do the work of the cipher; None: what macsecd takes
 
     def __init__(self, world: World, number: int) -> None:
         super().__init__(f"macsecd-{os.getpid()}-{world.folder.name}-{number}", world.folder / str(number))
@@ -262,7 +262,7 @@ A rxsc 02000000000{peer}0001
 A rxsa 02000000000{peer}0001 0 1 1 0000000{peer}
 A rxon 02000000000{peer}0001 0
 {more}"""
-        if self.workers:
+        if self.workers is not None:
             text += f"device workers {self.workers}\n"
         if not self.isolated:
             text += "device shared\n" + ("" if "device persist" in device else "device transient\n")
