@@ -35,6 +35,7 @@ CONTROLS: dict[str, list[tuple[str, str, str]]] = {
              ("names.c", "name->given_up + KEPT_NAMES <=", "name->given_up + 1 <="),
              ("numbers.c", "    if (passes && n->passes[key])", "    if (passes)"),
              ("numbers.c", "FILLED = 50", "FILLED = 51"),
+             ("waits.c", "    numbers_go_on(d->numbers, d->endpoint);", "   "),
              ("endpoint.c", "numbers_note_retired(d->numbers, key, passes);",
               "numbers_note_retired(d->numbers, key, false);")],
     "threads": [("numbers.c", "saver_is_busy(n->saver) || (n->names", "(n->names")],

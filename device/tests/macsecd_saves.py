@@ -421,6 +421,23 @@ def check_given_up(world: World) -> None:
     report(number > 1000, f"given up: a key of the configuration begins again, at {number}: {said}")
 
 
+def check_refused(world: World) -> None:
+    """A refused request is answered at once, also after a key was given up: it does not wait for the clock."""
+    world.start()
+    client, took = Client(world.ends[0]), []
+    client.carry_out("own")
+    for number in range(10, 19):
+        key = f"A key {number} {secrets.token_hex(16)} 0"
+        client.carry_out(key, f"A txsa 2 {number} 1 conf", "A txdel 2", f"A retire {number}")
+        began = time.monotonic()
+        answer = client.ask("A txsa 9")
+        took.append(time.monotonic() - began)
+        report(answer == "fault Count\n", f"refused: {answer}")
+    median = sorted(took)[len(took) // 2]
+    report(median < 0.5, f"refused: after a key was given up, the answer takes {1000 * median:.0f} ms")
+    client.socket.close()
+
+
 # ---- Threads
 
 
