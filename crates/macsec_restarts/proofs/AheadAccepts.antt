@@ -12,7 +12,7 @@ use Rattle.macsec_rx.specs.declared.RxRow.{RxRow}
 use Rattle.macsec_rx.specs.Judge.{Judgement}
 use Rattle.macsec_secy.specs.declared.fault.FrameFault.{FrameFault}
 use Rattle.macsec_secy.specs.Reception.{judgement_of}
-use Rattle.macsec_secy.specs.Step.{client_frame, frame_fault, link_frame, operator_command, uncontrolled_frame}
+use Rattle.macsec_secy.specs.Step.{Input, client_frame, frame_fault, link_frame, operator_command, uncontrolled_frame}
 use Rattle.macsec_reserve.specs.declared.reservation.Reservation.{Reservation}
 use Rattle.macsec_reserve.specs.Entries.{raised_by, reduced}
 use Rattle.macsec_reserve.specs.Histories.{KeepsDurable, Run, SameSalt, reported_in}
@@ -22,45 +22,46 @@ use Rattle.macsec_reserve.specs.Replay.{row_name}
 use Rattle.macsec_reserve.proofs.HighestOf.{highest-append}
 use Rattle.macsec_reserve.proofs.Reduced.{reduced_reserves}
 use Rattle.macsec_reserve.proofs.Steps.{before_stays, salt_stays}
-use Rattle.macsec_restarts.specs.Ahead.{Ahead, RxPn, Standing, ahead_after, ahead_by, ahead_step, before_this_run, begins_again, for_each_row, is_through, lets_through, not_yet, opening_with, passes, standing, standing_by}
+use Rattle.macsec_ahead.specs.declared.answers.RxPn.{RxPn}
+use Rattle.macsec_ahead.specs.Ahead.{Ahead, Standing, ahead_after, ahead_by, ahead_step, before_this_run, begins_again, for_each_row, is_through, lets_through, not_yet, opening_with, passes, standing, standing_by}
 use Rattle.macsec_restarts.specs.AheadRuns.{AcceptsAbove, AcceptsAboveInAll, AcceptsReserved, accepted_from, accepted_in, delivery_name, newly_accepted}
 use Rattle.macsec_restarts.specs.Delivered.{Delivery, delivered_by, newly_delivered}
 
 -- ---- a step
 
-before_by : (again : Bool) (it : Standing) (a : Ahead) (answer : KeepingOutput × Keeping) → answer.1.before ≡ a.k.before → (ahead_by again it a answer).1.k.before ≡ a.k.before
-before_by true it a answer same = refl
-before_by false (not_yet at) a answer same = refl
-before_by false (before_this_run at) a answer same = refl
-before_by false passes a answer same = same
+before_by : (again : Bool) (it : Standing) (a : Ahead) (input : Input) (answer : KeepingOutput × Keeping) → answer.1.before ≡ a.k.before → (ahead_by again it a input answer).1.k.before ≡ a.k.before
+before_by true it a input answer same = refl
+before_by false (not_yet at) a input answer same = refl
+before_by false (before_this_run at) a input answer same = refl
+before_by false passes a input answer same = same
 
 before_stays_with : (a : Ahead) (input : KeepingInput) → (ahead_step a input).1.k.before ≡ a.k.before
 before_stays_with a (now_durable r) = refl
-before_stays_with a (endpoint_input input) = before_by (begins_again a input) (standing a input) a (keeping_step a.k (endpoint_input input)) (before_stays a.k (endpoint_input input))
+before_stays_with a (endpoint_input input) = before_by (begins_again a input) (standing a input) a input (keeping_step a.k (endpoint_input input)) (before_stays a.k (endpoint_input input))
 
-salt_by : (again : Bool) (it : Standing) (a : Ahead) (answer : KeepingOutput × Keeping) → answer.1.salt ≡ a.k.salt → (ahead_by again it a answer).1.k.salt ≡ a.k.salt
-salt_by true it a answer same = refl
-salt_by false (not_yet at) a answer same = refl
-salt_by false (before_this_run at) a answer same = refl
-salt_by false passes a answer same = same
+salt_by : (again : Bool) (it : Standing) (a : Ahead) (input : Input) (answer : KeepingOutput × Keeping) → answer.1.salt ≡ a.k.salt → (ahead_by again it a input answer).1.k.salt ≡ a.k.salt
+salt_by true it a input answer same = refl
+salt_by false (not_yet at) a input answer same = refl
+salt_by false (before_this_run at) a input answer same = refl
+salt_by false passes a input answer same = same
 
 salt_stays_with : (a : Ahead) (input : KeepingInput) → (ahead_step a input).1.k.salt ≡ a.k.salt
 salt_stays_with a (now_durable r) = refl
-salt_stays_with a (endpoint_input input) = salt_by (begins_again a input) (standing a input) a (keeping_step a.k (endpoint_input input)) (salt_stays a.k (endpoint_input input))
+salt_stays_with a (endpoint_input input) = salt_by (begins_again a input) (standing a input) a input (keeping_step a.k (endpoint_input input)) (salt_stays a.k (endpoint_input input))
 
 pub salt_after : (inputs : List KeepingInput) (a : Ahead) → (ahead_after a inputs).k.salt ≡ a.k.salt
 salt_after [] a = refl
 salt_after (input ∷ inputs) a = salt_after inputs (ahead_step a input).1 ∙ salt_stays_with a input
 
-option_by : (again : Bool) (it : Standing) (a : Ahead) (answer : KeepingOutput × Keeping) → ((ahead_by again it a answer).1.ahead ≡ a.ahead) × ((ahead_by again it a answer).1.taken ≡ a.taken)
-option_by true it a answer = (refl, refl)
-option_by false (not_yet at) a answer = (refl, refl)
-option_by false (before_this_run at) a answer = (refl, refl)
-option_by false passes a answer = (refl, refl)
+option_by : (again : Bool) (it : Standing) (a : Ahead) (input : Input) (answer : KeepingOutput × Keeping) → ((ahead_by again it a input answer).1.ahead ≡ a.ahead) × ((ahead_by again it a input answer).1.taken ≡ a.taken)
+option_by true it a input answer = (refl, refl)
+option_by false (not_yet at) a input answer = (refl, refl)
+option_by false (before_this_run at) a input answer = (refl, refl)
+option_by false passes a input answer = (refl, refl)
 
 option_stays : (a : Ahead) (input : KeepingInput) → (ahead_step a input).1.ahead ≡ a.ahead
 option_stays a (now_durable r) = refl
-option_stays a (endpoint_input input) = (option_by (begins_again a input) (standing a input) a (keeping_step a.k (endpoint_input input))).0
+option_stays a (endpoint_input input) = (option_by (begins_again a input) (standing a input) a input (keeping_step a.k (endpoint_input input))).0
 
 pub option_after : (inputs : List KeepingInput) (a : Ahead) → (ahead_after a inputs).ahead ≡ a.ahead
 option_after [] a = refl
@@ -121,7 +122,7 @@ taken_step a (now_durable r) inputs name =
     )
 taken_step a (endpoint_input input) inputs name =
     let same : highest (ahead_step a (endpoint_input input)).1.taken name ≡ highest a.taken name =
-    ap (λ rs. highest rs name) (option_by (begins_again a input) (standing a input) a (keeping_step a.k (endpoint_input input))).1 in
+    ap (λ rs. highest rs name) (option_by (begins_again a input) (standing a input) a input (keeping_step a.k (endpoint_input input))).1 in
     omega (arith, same)
 
 pub taken_after : (inputs : List KeepingInput) (a : Ahead) (name : List ℕ) → highest (ahead_after a inputs).taken name ≤ max (highest a.taken name) (highest (reported_in inputs) name)

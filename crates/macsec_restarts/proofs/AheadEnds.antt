@@ -1,111 +1,266 @@
 -- Where deleted SAs ended is remembered: what may have been accepted from an SA does not fall, whether the SA is there or not.
-use Rattle.std.proofs.Common.{◌≡◌, ◌⊎◌, ℕ, ◌<◌, ◌≤◌, Bool, true, false, List, [], ◌∷◌, ◌++◌, filter, inl, inr, refl, ap, sym, subst, ◌∙◌, arith}
-use Rattle.std.specs.Prelude.{◌-◌, ◌==◌, ◌&&◌, not, nat_le, nat_lt, max, if◌then◌else◌, is_some, Option, Some, None}
-use Rattle.std.proofs.lemmas.Bool.{and_cases, and_from, eq-eqb, eqb-true, le-leb, leb-false, lt-ltb, ltb-false}
+use Rattle.std.proofs.Common.{◌≡◌, ◌⊎◌, ℕ, ◌<◌, ◌≤◌, Bool, true, false, filter, inl, inr, refl, ap, sym, subst, ◌∙◌, arith}
+use Rattle.std.specs.Prelude.{List, [], ◌∷◌, ◌==◌, ◌&&◌, not, nat_le, nat_lt, max, if◌then◌else◌, is_some, Option, Some, None}
+use Rattle.std.proofs.lemmas.Bool.{and_cases, and_from, eqb-true, le-leb, leb-false, lt-ltb, ltb-false}
 use Rattle.macsec_tag.specs.declared.identifiers.Sci.{Sci}
-use Rattle.macsec_commands.specs.declared.command.Command.TheVariants.{RxSa}
+use Rattle.macsec_commands.specs.declared.command.Command.{Command}
+use Rattle.macsec_commands.specs.declared.command.Command.TheVariants.{Protect, Validate, Replay, Tag, Key, Retire, TxSa, TxOn, TxOff}
+use Rattle.macsec_commands.specs.declared.command.Command.TheVariants.{TxDel, RxSc, RxScDel, RxSa, RxOn, RxOff, RxLow, RxDel}
 use Rattle.macsec_rx.specs.declared.RxRow.{RxRow}
-use Rattle.macsec_rx.specs.Channels.{rx_row, same_sci}
-use Rattle.macsec_rx.specs.Commands.{has_rx}
+use Rattle.macsec_rx.specs.Channels.{rx_row}
+use Rattle.macsec_secy.specs.GivenUp.{IsGivenUp}
+use Rattle.macsec_secy.specs.Kept.{IsAbove}
 use Rattle.macsec_secy.specs.State.{State}
-use Rattle.macsec_secy.specs.Step.{Input, operator_command, step}
+use Rattle.macsec_secy.specs.Step.{Input, Output, client_frame, done, dropped_no_sa, dropped_too_long, fault, leaves, link_frame, operator_command, received, refused, step, uncontrolled_frame}
+use Rattle.macsec_secy.proofs.GivenUp.{gives_up, stays_given_up}
+use Rattle.macsec_secy.proofs.RxRowsStay.{rx_rows_stay}
 use Rattle.macsec_link.proofs.Members.{IsMember, left_member, member_of_map}
+use Rattle.macsec_reserve.specs.Forgetting.{is_done, is_done_output}
 use Rattle.macsec_reserve.specs.Keeping.{Keeping, KeepingInput, KeepingOutput, endpoint_input, is_below_floor, keeping_step, may_go, now_durable}
+use Rattle.macsec_reserve.specs.Replay.{KeepsAssociation}
 use Rattle.macsec_reserve.proofs.Steps.{by_tests}
-use Rattle.macsec_reserve.proofs.Written.{same_octets-refl}
-use Rattle.macsec_restarts.specs.Ahead.{Ahead, EndedSa, Standing, ahead_by, ahead_step, before_this_run, begins_again, ended_after, ended_by, ended_of, is_of, is_through, last_end, lets_through, not_yet, passes, standing}
+use Rattle.macsec_ahead.specs.Ahead.{Ahead, Standing, ahead_after, ahead_by, ahead_step, before_this_run, begins_again, ended_after, is_through, lets_through, not_yet, passes, standing}
+use Rattle.macsec_ahead.specs.Ends.{Ends, after_retiring, end_of, end_of_row, ended_by, ended_of, is_gone, with_ends, without_key}
 use Rattle.macsec_restarts.specs.AheadSteps.{KeepsEnds, RefusesBelowEnd, RemembersEnd}
+use Rattle.macsec_restarts.proofs.EndTables.{ends_cover, ends_more, without_other}
 use Rattle.macsec_restarts.proofs.NextNumbers.{same_place}
 use Rattle.macsec_restarts.proofs.RowSteps.{IsCreatedBy, RowStep, found_at, found_row, row_step, still}
 
--- ---- the list of ends
+-- an SA that was there, and is not there any more, is in the table
+gone : (s after : State) (t : Ends) (row : RxRow) → rx_row s.rx.rows row.sci row.an ≡ Some row → rx_row after.rx.rows row.sci row.an ≡ None →
+    end_of_row row ≤ end_of (with_ends (ended_by s after) t) row.key row.sci row.an
+gone s after t row there none =
+    let gone' : is_gone after row ≡ true = ap (λ (o : Option RxRow). not (is_some o)) none in
+    let left : IsMember (filter (is_gone after) s.rx.rows) row = left_member (is_gone after) s.rx.rows row (found_row row.sci row.an s.rx.rows row there) gone' in
+    ends_cover (ended_by s after) t (ended_of row) (member_of_map ended_of (filter (is_gone after) s.rx.rows) row left)
 
-last_end-append : (es fs : List EndedSa) (key : ℕ) (sci : Sci) (an : ℕ) → last_end (es ++ fs) key sci an ≡ max (last_end es key sci an) (last_end fs key sci an)
-last_end-append [] fs key sci an = omega arith
-last_end-append (e ∷ es) fs key sci an = by_test (is_of key sci an e) (last_end-append es fs key sci an)
+-- ---- a key that is given up
+
+-- a key that a step of the keeping endpoint retires is given up
+retires : (k : Keeping) (n : ℕ) → is_done (keeping_step k (endpoint_input (operator_command (Retire n)))).0 ≡ true →
+    IsGivenUp (keeping_step k (endpoint_input (operator_command (Retire n)))).1.secy n
+retires k n done' = by_both (is_below_floor k (operator_command (Retire n))) (may_go k (operator_command (Retire n))) done'
   where
-    by_test : (b : Bool) → last_end (es ++ fs) key sci an ≡ max (last_end es key sci an) (last_end fs key sci an) →
-        (if b then max e.last (last_end (es ++ fs) key sci an) else last_end (es ++ fs) key sci an) ≡
-        max (if b then max e.last (last_end es key sci an) else last_end es key sci an) (last_end fs key sci an)
-    by_test true rest = omega (arith, rest)
-    by_test false rest = rest
+    is_it_done : (output : Output) → is_done_output output ≡ true → output ≡ done
+    is_it_done done is = refl
+    is_it_done (refused r) is = cc
+    is_it_done (leaves frame under) is = cc
+    is_it_done dropped_no_sa is = cc
+    is_it_done dropped_too_long is = cc
+    is_it_done (received verdict row frame controlled) is = cc
+    is_it_done (fault f) is = cc
 
-is_of_itself : (e : EndedSa) → is_of e.key e.sci e.an e ≡ true
-is_of_itself e = and_from (e.key == e.key && same_sci e.sci e.sci) (e.an == e.an) (and_from (e.key == e.key) (same_sci e.sci e.sci) (eq-eqb e.key e.key refl) (same_octets-refl e.sci.0)) (eq-eqb e.an e.an refl)
+    by_both : (below go : Bool) → is_done (by_tests below go k (step k.secy (operator_command (Retire n)))).0 ≡ true →
+        IsGivenUp (by_tests below go k (step k.secy (operator_command (Retire n)))).1.secy n
+    by_both true go is = cc
+    by_both false false is = cc
+    by_both false true is = gives_up k.secy n (is_it_done (step k.secy (operator_command (Retire n))).0 is)
 
-member_ends : (es : List EndedSa) (e : EndedSa) → IsMember es e → e.last ≤ last_end es e.key e.sci e.an
-member_ends [] e there = absurd there
-member_ends (x ∷ es) e (inl here) = subst (λ (y : EndedSa). y.last ≤ last_end (x ∷ es) y.key y.sci y.an) here (by_test (is_of x.key x.sci x.an x) (is_of_itself x))
+keeps_given_up : (k : Keeping) (input : KeepingInput) (n : ℕ) → IsGivenUp k.secy n → IsGivenUp (keeping_step k input).1.secy n
+keeps_given_up k (now_durable r) n up = up
+keeps_given_up k (endpoint_input input) n up = by_both (is_below_floor k input) (may_go k input)
   where
-    by_test : (b : Bool) → b ≡ true → x.last ≤ (if b then max x.last (last_end es x.key x.sci x.an) else last_end es x.key x.sci x.an)
-    by_test true is = omega arith
-    by_test false is = cc
-member_ends (x ∷ es) e (inr later) = by_test (is_of e.key e.sci e.an x) (member_ends es e later)
-  where
-    by_test : (b : Bool) → e.last ≤ last_end es e.key e.sci e.an → e.last ≤ (if b then max x.last (last_end es e.key e.sci e.an) else last_end es e.key e.sci e.an)
-    by_test true rest = omega (arith, rest)
-    by_test false rest = rest
+    by_both : (below go : Bool) → IsGivenUp (by_tests below go k (step k.secy input)).1.secy n
+    by_both true go = up
+    by_both false true = stays_given_up k.secy n input up
+    by_both false false = up
 
--- an SA that was there, and is not there any more, is in the list
-gone : (s after : State) (row : RxRow) → rx_row s.rx.rows row.sci row.an ≡ Some row → rx_row after.rx.rows row.sci row.an ≡ None →
-    row.lowest - 1 ≤ last_end (ended_by s after) row.key row.sci row.an
-gone s after row there none =
-    let gone' : not (has_rx after.rx.rows row.sci row.an) ≡ true = ap (λ (o : Option RxRow). not (is_some o)) none in
-    let left : IsMember (filter (λ (r : RxRow). not (has_rx after.rx.rows r.sci r.an)) s.rx.rows) row =
-    left_member (λ (r : RxRow). not (has_rx after.rx.rows r.sci r.an)) s.rx.rows row (found_row row.sci row.an s.rx.rows row there) gone' in
-    member_ends (ended_by s after) (ended_of row) (member_of_map ended_of (filter (λ (r : RxRow). not (has_rx after.rx.rows r.sci r.an)) s.rx.rows) row left)
+-- it stays so
+pub given_up_stays : (a : Ahead) (input : KeepingInput) (n : ℕ) → IsGivenUp a.k.secy n → IsGivenUp (ahead_step a input).1.k.secy n
+given_up_stays a (now_durable r) n up = up
+given_up_stays a (endpoint_input input) n up = by_standing (begins_again a input) (standing a input)
+  where
+    by_standing : (again : Bool) (it : Standing) → IsGivenUp (ahead_by again it a input (keeping_step a.k (endpoint_input input))).1.k.secy n
+    by_standing true it = up
+    by_standing false (not_yet at) = up
+    by_standing false (before_this_run at) = up
+    by_standing false passes = keeps_given_up a.k (endpoint_input input) n up
 
 -- ---- a step
 
-ended_grows : (keeps : Bool) (more es : List EndedSa) (key : ℕ) (sci : Sci) (an : ℕ) → last_end es key sci an ≤ last_end (if keeps then more ++ es else es) key sci an
-ended_grows true more es key sci an = omega (arith, last_end-append more es key sci an)
-ended_grows false more es key sci an = omega arith
+-- what the table says of an SA stays, unless its key is given up
+abbrev pub StaysUnless : Ahead → Ahead → ℕ → Sci → ℕ → Type 0
+StaysUnless a after key sci an = IsGivenUp after.k.secy key ⊎ (end_of a.ended key sci an ≤ end_of after.ended key sci an)
 
-ends_by : (again : Bool) (it : Standing) (a : Ahead) (answer : KeepingOutput × Keeping) (key : ℕ) (sci : Sci) (an : ℕ) →
-    last_end a.ended key sci an ≤ last_end (ahead_by again it a answer).1.ended key sci an
-ends_by true it a answer key sci an = omega arith
-ends_by false (not_yet at) a answer key sci an = omega arith
-ends_by false (before_this_run at) a answer key sci an = omega arith
-ends_by false passes a answer key sci an = ended_grows a.k.keeps (ended_by a.k.secy answer.1.secy) a.ended key sci an
+-- the key that a command retires is given up
+abbrev GivesUpBy : Command → KeepingOutput × Keeping → Type 0
+GivesUpBy (Retire n) answer = is_done answer.0 ≡ true → IsGivenUp answer.1.secy n
+GivesUpBy c answer = Unit {0}
 
-ends_step : (a : Ahead) (input : KeepingInput) (key : ℕ) (sci : Sci) (an : ℕ) → last_end a.ended key sci an ≤ last_end (ahead_step a input).1.ended key sci an
-ends_step a (now_durable r) key sci an = omega arith
-ends_step a (endpoint_input input) key sci an = ends_by (begins_again a input) (standing a input) a (keeping_step a.k (endpoint_input input)) key sci an
+after_command : (c : Command) (again : Bool) (it : Standing) (a : Ahead) (key : ℕ) (sci : Sci) (an : ℕ) →
+    StaysUnless a (ahead_by again it a (operator_command c) (keeping_step a.k (endpoint_input (operator_command c)))).1 key sci an
+after_command c true it a key sci an = inr (omega arith)
+after_command c false (not_yet at) a key sci an = inr (omega arith)
+after_command c false (before_this_run at) a key sci an = inr (omega arith)
+after_command c false passes a key sci an = by_keeps a.k.keeps c (keeping_step a.k (endpoint_input (operator_command c))) (retires_by c)
+  where
+    grown : (answer : KeepingOutput × Keeping) → end_of a.ended key sci an ≤ end_of (with_ends (ended_by a.k.secy answer.1.secy) a.ended) key sci an
+    grown answer = ends_more (ended_by a.k.secy answer.1.secy) a.ended key sci an
+
+    by_key : (answer : KeepingOutput × Keeping) (n : ℕ) → IsGivenUp answer.1.secy n → (b : Bool) → (key == n) ≡ b →
+        IsGivenUp answer.1.secy key ⊎ (end_of a.ended key sci an ≤ end_of (without_key n (with_ends (ended_by a.k.secy answer.1.secy) a.ended)) key sci an)
+    by_key answer n up true same = inl (subst (IsGivenUp answer.1.secy) (sym (eqb-true key n same)) up)
+    by_key answer n up false other = inr (omega (arith, grown answer, without_other n (with_ends (ended_by a.k.secy answer.1.secy) a.ended) key sci an other))
+
+    by_done : (answer : KeepingOutput × Keeping) (n : ℕ) (done' : Bool) → (done' ≡ true → IsGivenUp answer.1.secy n) →
+        IsGivenUp answer.1.secy key ⊎ (end_of a.ended key sci an ≤ end_of (if done' then without_key n (with_ends (ended_by a.k.secy answer.1.secy) a.ended) else with_ends (ended_by a.k.secy answer.1.secy) a.ended) key sci an)
+    by_done answer n true up = by_key answer n (up refl) (key == n) refl
+    by_done answer n false up = inr (grown answer)
+
+    retires_by : (c' : Command) → GivesUpBy c' (keeping_step a.k (endpoint_input (operator_command c')))
+    retires_by (Retire n) = retires a.k n
+    retires_by (Protect on) = tt
+    retires_by (Validate mode) = tt
+    retires_by (Replay protect window) = tt
+    retires_by (Tag form) = tt
+    retires_by (Key key') = tt
+    retires_by (TxSa an' key' next conf) = tt
+    retires_by (TxOn an') = tt
+    retires_by (TxOff an') = tt
+    retires_by (TxDel an') = tt
+    retires_by (RxSc sci') = tt
+    retires_by (RxScDel sci') = tt
+    retires_by (RxSa sci' an' key' ssci lowest) = tt
+    retires_by (RxOn sci' an') = tt
+    retires_by (RxOff sci' an') = tt
+    retires_by (RxLow sci' an' pn) = tt
+    retires_by (RxDel sci' an') = tt
+
+    by_command : (c' : Command) (answer : KeepingOutput × Keeping) → GivesUpBy c' answer →
+        IsGivenUp answer.1.secy key ⊎ (end_of a.ended key sci an ≤ end_of (after_retiring c' (is_done answer.0) (with_ends (ended_by a.k.secy answer.1.secy) a.ended)) key sci an)
+    by_command (Retire n) answer up = by_done answer n (is_done answer.0) up
+    by_command (Protect on) answer up = inr (grown answer)
+    by_command (Validate mode) answer up = inr (grown answer)
+    by_command (Replay protect window) answer up = inr (grown answer)
+    by_command (Tag form) answer up = inr (grown answer)
+    by_command (Key key') answer up = inr (grown answer)
+    by_command (TxSa an' key' next conf) answer up = inr (grown answer)
+    by_command (TxOn an') answer up = inr (grown answer)
+    by_command (TxOff an') answer up = inr (grown answer)
+    by_command (TxDel an') answer up = inr (grown answer)
+    by_command (RxSc sci') answer up = inr (grown answer)
+    by_command (RxScDel sci') answer up = inr (grown answer)
+    by_command (RxSa sci' an' key' ssci lowest) answer up = inr (grown answer)
+    by_command (RxOn sci' an') answer up = inr (grown answer)
+    by_command (RxOff sci' an') answer up = inr (grown answer)
+    by_command (RxLow sci' an' pn) answer up = inr (grown answer)
+    by_command (RxDel sci' an') answer up = inr (grown answer)
+
+    by_keeps : (keeps : Bool) (c' : Command) (answer : KeepingOutput × Keeping) → GivesUpBy c' answer →
+        IsGivenUp answer.1.secy key ⊎ (end_of a.ended key sci an ≤ end_of (if keeps then after_retiring c' (is_done answer.0) (with_ends (ended_by a.k.secy answer.1.secy) a.ended) else a.ended) key sci an)
+    by_keeps true c' answer up = by_command c' answer up
+    by_keeps false c' answer up = inr (omega arith)
+
+after_frame : (again : Bool) (it : Standing) (a : Ahead) (input : Input) (answer : KeepingOutput × Keeping) → ended_after a input answer ≡ a.ended → (key : ℕ) (sci : Sci) (an : ℕ) →
+    StaysUnless a (ahead_by again it a input answer).1 key sci an
+after_frame true it a input answer same key sci an = inr (omega arith)
+after_frame false (not_yet at) a input answer same key sci an = inr (omega arith)
+after_frame false (before_this_run at) a input answer same key sci an = inr (omega arith)
+after_frame false passes a input answer same key sci an = inr (subst (λ (t : Ends). end_of a.ended key sci an ≤ end_of t key sci an) (sym same) (omega arith))
+
+ends_step : (a : Ahead) (input : KeepingInput) (key : ℕ) (sci : Sci) (an : ℕ) → StaysUnless a (ahead_step a input).1 key sci an
+ends_step a (now_durable r) key sci an = inr (omega arith)
+ends_step a (endpoint_input (operator_command c)) key sci an = after_command c (begins_again a (operator_command c)) (standing a (operator_command c)) a key sci an
+ends_step a (endpoint_input (client_frame frame)) key sci an = after_frame false passes a (client_frame frame) (keeping_step a.k (endpoint_input (client_frame frame))) refl key sci an
+ends_step a (endpoint_input (uncontrolled_frame frame)) key sci an = after_frame false passes a (uncontrolled_frame frame) (keeping_step a.k (endpoint_input (uncontrolled_frame frame))) refl key sci an
+ends_step a (endpoint_input (link_frame frame)) key sci an =
+    after_frame false (standing a (link_frame frame)) a (link_frame frame) (keeping_step a.k (endpoint_input (link_frame frame))) refl key sci an
+
+given_up_later : (inputs : List KeepingInput) (a : Ahead) (n : ℕ) → IsGivenUp a.k.secy n → IsGivenUp (ahead_after a inputs).k.secy n
+given_up_later [] a n up = up
+given_up_later (input ∷ inputs) a n up = given_up_later inputs (ahead_step a input).1 n (given_up_stays a input n up)
 
 pub keeps_ends : (inputs : List KeepingInput) (a : Ahead) (key : ℕ) (sci : Sci) (an : ℕ) → KeepsEnds a inputs key sci an
-keeps_ends [] a key sci an = omega arith
-keeps_ends (input ∷ inputs) a key sci an = omega (arith, ends_step a input key sci an, keeps_ends inputs (ahead_step a input).1 key sci an)
+keeps_ends [] a key sci an = inr (omega arith)
+keeps_ends (input ∷ inputs) a key sci an = by_step (ends_step a input key sci an) (keeps_ends inputs (ahead_step a input).1 key sci an)
+  where
+    by_step : StaysUnless a (ahead_step a input).1 key sci an → KeepsEnds (ahead_step a input).1 inputs key sci an → KeepsEnds a (input ∷ inputs) key sci an
+    by_step (inl up) later = inl (given_up_later inputs (ahead_step a input).1 key up)
+    by_step (inr grows) (inl up) = inl up
+    by_step (inr grows) (inr later) = inr (omega (arith, grows, later))
 
-remembers_by : (again : Bool) (it : Standing) (a : Ahead) (answer : KeepingOutput × Keeping) (row : RxRow) → a.k.keeps ≡ true → rx_row a.k.secy.rx.rows row.sci row.an ≡ Some row →
-    rx_row (ahead_by again it a answer).1.k.secy.rx.rows row.sci row.an ≡ None → row.lowest - 1 ≤ last_end (ahead_by again it a answer).1.ended row.key row.sci row.an
-remembers_by true it a answer row keeps there none = let no = sym there ∙ none in cc
-remembers_by false (not_yet at) a answer row keeps there none = let no = sym there ∙ none in cc
-remembers_by false (before_this_run at) a answer row keeps there none = let no = sym there ∙ none in cc
-remembers_by false passes a answer row keeps there none =
-    let more = ended_by a.k.secy answer.1.secy in
-    let all : ended_after a answer.1.secy ≡ more ++ a.ended = ap (λ (b : Bool). if b then more ++ a.ended else a.ended) keeps in
-    subst (λ (es : List EndedSa). row.lowest - 1 ≤ last_end es row.key row.sci row.an) (sym all)
-    (omega (arith, gone a.k.secy answer.1.secy row there none, last_end-append more a.ended row.key row.sci row.an))
+-- ---- an SA that a step deletes
+
+-- a step of the endpoint keeps each SA, unless it is a command
+row_kept : (k : Keeping) (input : KeepingInput) (sci : Sci) (an n : ℕ) → KeepsAssociation sci an input → IsAbove k.secy.rx.rows sci an n → IsAbove (keeping_step k input).1.secy.rx.rows sci an n
+row_kept k (now_durable r) sci an n stays above = above
+row_kept k (endpoint_input input) sci an n stays above = by_both (is_below_floor k input) (may_go k input)
+  where
+    by_both : (below go : Bool) → IsAbove (by_tests below go k (step k.secy input)).1.secy.rx.rows sci an n
+    by_both true go = above
+    by_both false true = rx_rows_stay k.secy input sci an n stays above
+    by_both false false = above
+
+not_gone : (k : Keeping) (input : KeepingInput) (row : RxRow) → KeepsAssociation row.sci row.an input → rx_row k.secy.rx.rows row.sci row.an ≡ Some row →
+    rx_row (keeping_step k input).1.secy.rx.rows row.sci row.an ≡ None → ⊥
+not_gone k input row stays there none =
+    let above = row_kept k input row.sci row.an 0 stays (record { row = row; there = there; above = omega arith }) in
+    let no = sym above.there ∙ none in cc
+
+remembers_command : (a : Ahead) (row : RxRow) → rx_row a.k.secy.rx.rows row.sci row.an ≡ Some row → (c : Command) →
+    rx_row (keeping_step a.k (endpoint_input (operator_command c))).1.secy.rx.rows row.sci row.an ≡ None →
+    let answer = keeping_step a.k (endpoint_input (operator_command c)) in
+    end_of_row row ≤ end_of (after_retiring c (is_done answer.0) (with_ends (ended_by a.k.secy answer.1.secy) a.ended)) row.key row.sci row.an
+remembers_command a row there (Retire n) none = absurd (not_gone a.k (endpoint_input (operator_command (Retire n))) row refl there none)
+remembers_command a row there (Protect on) none = gone a.k.secy (keeping_step a.k (endpoint_input (operator_command (Protect on)))).1.secy a.ended row there none
+remembers_command a row there (Validate mode) none = gone a.k.secy (keeping_step a.k (endpoint_input (operator_command (Validate mode)))).1.secy a.ended row there none
+remembers_command a row there (Replay protect window) none = gone a.k.secy (keeping_step a.k (endpoint_input (operator_command (Replay protect window)))).1.secy a.ended row there none
+remembers_command a row there (Tag form) none = gone a.k.secy (keeping_step a.k (endpoint_input (operator_command (Tag form)))).1.secy a.ended row there none
+remembers_command a row there (Key key') none = gone a.k.secy (keeping_step a.k (endpoint_input (operator_command (Key key')))).1.secy a.ended row there none
+remembers_command a row there (TxSa an' key' next conf) none = gone a.k.secy (keeping_step a.k (endpoint_input (operator_command (TxSa an' key' next conf)))).1.secy a.ended row there none
+remembers_command a row there (TxOn an') none = gone a.k.secy (keeping_step a.k (endpoint_input (operator_command (TxOn an')))).1.secy a.ended row there none
+remembers_command a row there (TxOff an') none = gone a.k.secy (keeping_step a.k (endpoint_input (operator_command (TxOff an')))).1.secy a.ended row there none
+remembers_command a row there (TxDel an') none = gone a.k.secy (keeping_step a.k (endpoint_input (operator_command (TxDel an')))).1.secy a.ended row there none
+remembers_command a row there (RxSc sci') none = gone a.k.secy (keeping_step a.k (endpoint_input (operator_command (RxSc sci')))).1.secy a.ended row there none
+remembers_command a row there (RxScDel sci') none = gone a.k.secy (keeping_step a.k (endpoint_input (operator_command (RxScDel sci')))).1.secy a.ended row there none
+remembers_command a row there (RxSa sci' an' key' ssci lowest) none = gone a.k.secy (keeping_step a.k (endpoint_input (operator_command (RxSa sci' an' key' ssci lowest)))).1.secy a.ended row there none
+remembers_command a row there (RxOn sci' an') none = gone a.k.secy (keeping_step a.k (endpoint_input (operator_command (RxOn sci' an')))).1.secy a.ended row there none
+remembers_command a row there (RxOff sci' an') none = gone a.k.secy (keeping_step a.k (endpoint_input (operator_command (RxOff sci' an')))).1.secy a.ended row there none
+remembers_command a row there (RxLow sci' an' pn) none = gone a.k.secy (keeping_step a.k (endpoint_input (operator_command (RxLow sci' an' pn)))).1.secy a.ended row there none
+remembers_command a row there (RxDel sci' an') none = gone a.k.secy (keeping_step a.k (endpoint_input (operator_command (RxDel sci' an')))).1.secy a.ended row there none
+
+remembers_by : (c : Command) (again : Bool) (it : Standing) (a : Ahead) (row : RxRow) → a.k.keeps ≡ true → rx_row a.k.secy.rx.rows row.sci row.an ≡ Some row →
+    let after = (ahead_by again it a (operator_command c) (keeping_step a.k (endpoint_input (operator_command c)))).1 in
+    rx_row after.k.secy.rx.rows row.sci row.an ≡ None → end_of_row row ≤ end_of after.ended row.key row.sci row.an
+remembers_by c true it a row keeps there none = let no = sym there ∙ none in cc
+remembers_by c false (not_yet at) a row keeps there none = let no = sym there ∙ none in cc
+remembers_by c false (before_this_run at) a row keeps there none = let no = sym there ∙ none in cc
+remembers_by c false passes a row keeps there none =
+    let answer = keeping_step a.k (endpoint_input (operator_command c)) in
+    let more = after_retiring c (is_done answer.0) (with_ends (ended_by a.k.secy answer.1.secy) a.ended) in
+    let all : ended_after a (operator_command c) answer ≡ more = ap (λ (b : Bool). if b then more else a.ended) keeps in
+    subst (λ (t : Ends). end_of_row row ≤ end_of t row.key row.sci row.an) (sym all) (remembers_command a row there c none)
+
+-- a step that is no command deletes none
+remembers_frame : (again : Bool) (it : Standing) (a : Ahead) (input : Input) (row : RxRow) → KeepsAssociation row.sci row.an (endpoint_input input) → rx_row a.k.secy.rx.rows row.sci row.an ≡ Some row →
+    rx_row (ahead_by again it a input (keeping_step a.k (endpoint_input input))).1.k.secy.rx.rows row.sci row.an ≡ None → ⊥
+remembers_frame true it a input row stays there none = let no = sym there ∙ none in cc
+remembers_frame false (not_yet at) a input row stays there none = let no = sym there ∙ none in cc
+remembers_frame false (before_this_run at) a input row stays there none = let no = sym there ∙ none in cc
+remembers_frame false passes a input row stays there none = not_gone a.k (endpoint_input input) row stays there none
 
 pub remembers_end : (a : Ahead) (input : KeepingInput) (row : RxRow) → RemembersEnd a input row
 remembers_end a (now_durable r) row keeps there none = let no = sym there ∙ none in cc
-remembers_end a (endpoint_input input) row keeps there none =
-    remembers_by (begins_again a input) (standing a input) a (keeping_step a.k (endpoint_input input)) row keeps there none
+remembers_end a (endpoint_input (operator_command c)) row keeps there none =
+    remembers_by c (begins_again a (operator_command c)) (standing a (operator_command c)) a row keeps there none
+remembers_end a (endpoint_input (client_frame frame)) row keeps there none = absurd (remembers_frame false passes a (client_frame frame) row refl there none)
+remembers_end a (endpoint_input (uncontrolled_frame frame)) row keeps there none = absurd (remembers_frame false passes a (uncontrolled_frame frame) row refl there none)
+remembers_end a (endpoint_input (link_frame frame)) row keeps there none = absurd (remembers_frame false (standing a (link_frame frame)) a (link_frame frame) row refl there none)
 
 pub refuses_below_end : (a : Ahead) (sci : Sci) (an key ssci lowest : ℕ) → RefusesBelowEnd a sci an key ssci lowest
 refuses_below_end a sci an key ssci lowest least below =
     let input = operator_command (RxSa sci an key ssci lowest) in
-    ap (λ (b : Bool). ahead_by b (standing a input) a (keeping_step a.k (endpoint_input input)))
-    (and_from (nat_lt 0 lowest) (nat_le lowest (last_end a.ended key sci an)) (lt-ltb 0 lowest least) (le-leb lowest (last_end a.ended key sci an) below))
+    ap (λ (b : Bool). ahead_by b (standing a input) a input (keeping_step a.k (endpoint_input input)))
+    (and_from (nat_lt 0 lowest) (nat_le lowest (end_of a.ended key sci an)) (lt-ltb 0 lowest least) (le-leb lowest (end_of a.ended key sci an) below))
 
 -- ---- what may have been accepted from an SA: below its lowest acceptable PN, and up to where it ended
 
 abbrev pub row_end : Option RxRow → ℕ → ℕ
 row_end None key = 0
-row_end (Some row) key = if row.key == key then row.lowest - 1 else 0
+row_end (Some row) key = if row.key == key then end_of_row row else 0
 
 abbrev pub past_of : Ahead → ℕ → Sci → ℕ → ℕ
-past_of a key sci an = max (row_end (rx_row a.k.secy.rx.rows sci an) key) (last_end a.ended key sci an)
+past_of a key sci an = max (row_end (rx_row a.k.secy.rx.rows sci an) key) (end_of a.ended key sci an)
 
 -- the same step of a keeping endpoint
 keeping_row_step : (k : Keeping) (input : Input) (sci : Sci) (an : ℕ) → RowStep input (rx_row k.secy.rx.rows sci an) (rx_row (keeping_step k (endpoint_input input)).1.secy.rx.rows sci an)
@@ -119,44 +274,49 @@ keeping_row_step k input sci an = by_both (is_below_floor k input) (may_go k inp
 pub ahead_row_step : (a : Ahead) (input : Input) (sci : Sci) (an : ℕ) → RowStep input (rx_row a.k.secy.rx.rows sci an) (rx_row (ahead_step a (endpoint_input input)).1.k.secy.rx.rows sci an)
 ahead_row_step a input sci an = by_standing (begins_again a input) (standing a input)
   where
-    by_standing : (again : Bool) (it : Standing) → RowStep input (rx_row a.k.secy.rx.rows sci an) (rx_row (ahead_by again it a (keeping_step a.k (endpoint_input input))).1.k.secy.rx.rows sci an)
+    by_standing : (again : Bool) (it : Standing) → RowStep input (rx_row a.k.secy.rx.rows sci an) (rx_row (ahead_by again it a input (keeping_step a.k (endpoint_input input))).1.k.secy.rx.rows sci an)
     by_standing true it = still input (rx_row a.k.secy.rx.rows sci an)
     by_standing false (not_yet at) = still input (rx_row a.k.secy.rx.rows sci an)
     by_standing false (before_this_run at) = still input (rx_row a.k.secy.rx.rows sci an)
     by_standing false passes = keeping_row_step a.k input sci an
 
-past_by : (input : Input) (o o' : Option RxRow) (key : ℕ) (old new : ℕ) → RowStep input o o' → old ≤ new → ((row : RxRow) → o ≡ Some row → o' ≡ None → row.key ≡ key → row.lowest - 1 ≤ new) →
+past_by : (input : Input) (o o' : Option RxRow) (key : ℕ) (old new : ℕ) → RowStep input o o' → old ≤ new → ((row : RxRow) → o ≡ Some row → o' ≡ None → row.key ≡ key → end_of_row row ≤ new) →
     max (row_end o key) old ≤ max (row_end o' key) new
 past_by input None o' key old new stepped grows ended = omega (arith, grows)
 past_by input (Some row) None key old new stepped grows ended = by_key (row.key == key) refl
   where
-    by_key : (b : Bool) → (row.key == key) ≡ b → max (if b then row.lowest - 1 else 0) old ≤ max 0 new
+    by_key : (b : Bool) → (row.key == key) ≡ b → max (if b then end_of_row row else 0) old ≤ max 0 new
     by_key false other = omega (arith, grows)
     by_key true same = omega (arith, grows, ended row refl refl (eqb-true row.key key same))
 past_by input (Some row) (Some later) key old new stepped grows ended =
-    subst (λ (n : ℕ). max (if row.key == key then row.lowest - 1 else 0) old ≤ max (if n == key then later.lowest - 1 else 0) new) (sym stepped.key) (by_key (row.key == key))
+    subst (λ (n : ℕ). max (if row.key == key then end_of_row row else 0) old ≤ max (if n == key then end_of_row later else 0) new) (sym stepped.key) (by_key (row.key == key))
   where
-    by_key : (b : Bool) → max (if b then row.lowest - 1 else 0) old ≤ max (if b then later.lowest - 1 else 0) new
+    by_key : (b : Bool) → max (if b then end_of_row row else 0) old ≤ max (if b then end_of_row later else 0) new
     by_key false = omega (arith, grows)
     by_key true = omega (arith, grows, stepped.lowest)
 
--- it does not fall
-pub past_step : (a : Ahead) (input : KeepingInput) (key : ℕ) (sci : Sci) (an : ℕ) → a.k.keeps ≡ true → past_of a key sci an ≤ past_of (ahead_step a input).1 key sci an
-past_step a (now_durable r) key sci an keeps = omega arith
-past_step a (endpoint_input input) key sci an keeps =
-    past_by input (rx_row a.k.secy.rx.rows sci an) (rx_row after.k.secy.rx.rows sci an) key (last_end a.ended key sci an) (last_end after.ended key sci an)
-    (ahead_row_step a input sci an) (ends_step a (endpoint_input input) key sci an) ended
+-- it does not fall, unless the key is given up
+pub past_step : (a : Ahead) (input : KeepingInput) (key : ℕ) (sci : Sci) (an : ℕ) → a.k.keeps ≡ true →
+    IsGivenUp (ahead_step a input).1.k.secy key ⊎ (past_of a key sci an ≤ past_of (ahead_step a input).1 key sci an)
+past_step a (now_durable r) key sci an keeps = inr (omega arith)
+past_step a (endpoint_input input) key sci an keeps = by_ends (ends_step a (endpoint_input input) key sci an)
   where
     after : Ahead
     after = (ahead_step a (endpoint_input input)).1
 
-    ended : (row : RxRow) → rx_row a.k.secy.rx.rows sci an ≡ Some row → rx_row after.k.secy.rx.rows sci an ≡ None → row.key ≡ key → row.lowest - 1 ≤ last_end after.ended key sci an
+    ended : (row : RxRow) → rx_row a.k.secy.rx.rows sci an ≡ Some row → rx_row after.k.secy.rx.rows sci an ≡ None → row.key ≡ key → end_of_row row ≤ end_of after.ended key sci an
     ended row there none of_key =
         let own = same_place row.sci sci row.an an (found_at a.k.secy.rx.rows sci an row there) in
-        let P : Sci → ℕ → Type 0 = λ x n. rx_row a.k.secy.rx.rows x n ≡ Some row → rx_row after.k.secy.rx.rows x n ≡ None → row.lowest - 1 ≤ last_end after.ended row.key x n in
+        let P : Sci → ℕ → Type 0 = λ x n. rx_row a.k.secy.rx.rows x n ≡ Some row → rx_row after.k.secy.rx.rows x n ≡ None → end_of_row row ≤ end_of after.ended row.key x n in
         let first : P row.sci row.an = λ there' none'. remembers_end a (endpoint_input input) row keeps there' none' in
         let second : P sci an = subst (P sci) own.1 (subst (λ (x : Sci). P x row.an) own.0 first) in
-        subst (λ (n : ℕ). row.lowest - 1 ≤ last_end after.ended n sci an) of_key (second there none)
+        subst (λ (n : ℕ). end_of_row row ≤ end_of after.ended n sci an) of_key (second there none)
+
+    by_ends : StaysUnless a after key sci an → IsGivenUp after.k.secy key ⊎ (past_of a key sci an ≤ past_of after key sci an)
+    by_ends (inl up) = inl up
+    by_ends (inr grows) =
+        inr (past_by input (rx_row a.k.secy.rx.rows sci an) (rx_row after.k.secy.rx.rows sci an) key (end_of a.ended key sci an) (end_of after.ended key sci an)
+        (ahead_row_step a input sci an) grows ended)
 
 -- an SA that a step creates begins above what may have been accepted from it under its key
 pub created_above : (a : Ahead) (input : KeepingInput) (sci : Sci) (an : ℕ) (row : RxRow) → rx_row a.k.secy.rx.rows sci an ≡ None →
@@ -168,10 +328,10 @@ created_above a (endpoint_input input) sci an row none there lets =
     let new : begins_again a (operator_command (RxSa row.sci row.an row.key created.ssci row.lowest)) ≡ false =
     ap (begins_again a) (sym created.is) ∙ not_again (begins_again a input) (standing a input) lets in
     let own = same_place row.sci sci row.an an (found_at (ahead_step a (endpoint_input input)).1.k.secy.rx.rows sci an row there) in
-    let above : last_end a.ended row.key row.sci row.an < row.lowest = first_new row.lowest (last_end a.ended row.key row.sci row.an) created.least new in
-    let here : last_end a.ended row.key sci an < row.lowest =
-    subst (λ (n : ℕ). last_end a.ended row.key sci n < row.lowest) own.1 (subst (λ (x : Sci). last_end a.ended row.key x row.an < row.lowest) own.0 above) in
-    subst (λ (o : Option RxRow). max (row_end o row.key) (last_end a.ended row.key sci an) < row.next) (sym none) (omega (arith, here, created.next))
+    let above : end_of a.ended row.key row.sci row.an < row.lowest = first_new row.lowest (end_of a.ended row.key row.sci row.an) created.least new in
+    let here : end_of a.ended row.key sci an < row.lowest =
+    subst (λ (n : ℕ). end_of a.ended row.key sci n < row.lowest) own.1 (subst (λ (x : Sci). end_of a.ended row.key x row.an < row.lowest) own.0 above) in
+    subst (λ (o : Option RxRow). max (row_end o row.key) (end_of a.ended row.key sci an) < row.next) (sym none) (omega (arith, here, created.next))
   where
     not_again : (again : Bool) (it : Standing) → is_through again it ≡ true → again ≡ false
     not_again true it is = cc

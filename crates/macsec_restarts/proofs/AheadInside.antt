@@ -8,7 +8,7 @@ use Rattle.macsec_secy.specs.Reception.{judgement_of}
 use Rattle.macsec_secy.specs.Step.{Input, client_frame, done, dropped_no_sa, dropped_too_long, fault, frame_fault, leaves, link_frame, operator_command, received, refused, uncontrolled_frame}
 use Rattle.macsec_reserve.specs.Histories.{Run, opening, reported_in}
 use Rattle.macsec_reserve.specs.Keeping.{Keeping, KeepingInput, KeepingOutput, dropped_no_reservation, endpoint_input, endpoint_output, keeping_after, keeping_step, noted, now_durable}
-use Rattle.macsec_restarts.specs.Ahead.{Ahead, Standing, ahead_after, ahead_by, ahead_step, before_this_run, begins_again, is_through, kept, lets_through, not_yet, opening_with, passes, run_inside, standing, standing_by, standing_of, through}
+use Rattle.macsec_ahead.specs.Ahead.{Ahead, Standing, ahead_after, ahead_by, ahead_step, before_this_run, begins_again, is_through, kept, lets_through, not_yet, opening_with, passes, run_inside, standing, standing_by, standing_of, through}
 use Rattle.macsec_restarts.specs.AheadRuns.{DeliversEachListedWith, MatchesDeliveriesWith, delivered_from_with, delivered_in_all_with, newly_delivered_with, sent_from_with, sent_in_all_with}
 use Rattle.macsec_restarts.specs.AheadSteps.{IsAsBefore, IsKeepingInside, StepsInside, TakesTheStep}
 use Rattle.macsec_restarts.specs.Delivered.{MatchesDeliveries, delivered_from, delivered_in_all, newly_delivered}
@@ -17,28 +17,28 @@ use Rattle.macsec_restarts.proofs.Listed.{delivers_each_listed}
 
 -- ---- a step
 
-takes_by : (again : Bool) (it : Standing) (a : Ahead) (answer : KeepingOutput × Keeping) → is_through again it ≡ true →
-    ((ahead_by again it a answer).0 ≡ kept answer.0) × ((ahead_by again it a answer).1.k ≡ answer.1)
-takes_by true it a answer is = cc
-takes_by false passes a answer is = (refl, refl)
-takes_by false (not_yet at) a answer is = cc
-takes_by false (before_this_run at) a answer is = cc
+takes_by : (again : Bool) (it : Standing) (a : Ahead) (input : Input) (answer : KeepingOutput × Keeping) → is_through again it ≡ true →
+    ((ahead_by again it a input answer).0 ≡ kept answer.0) × ((ahead_by again it a input answer).1.k ≡ answer.1)
+takes_by true it a input answer is = cc
+takes_by false passes a input answer is = (refl, refl)
+takes_by false (not_yet at) a input answer is = cc
+takes_by false (before_this_run at) a input answer is = cc
 
-stays_by : (again : Bool) (it : Standing) (a : Ahead) (answer : KeepingOutput × Keeping) → is_through again it ≡ false → (ahead_by again it a answer).1 ≡ a
-stays_by true it a answer is = refl
-stays_by false passes a answer is = cc
-stays_by false (not_yet at) a answer is = refl
-stays_by false (before_this_run at) a answer is = refl
+stays_by : (again : Bool) (it : Standing) (a : Ahead) (input : Input) (answer : KeepingOutput × Keeping) → is_through again it ≡ false → (ahead_by again it a input answer).1 ≡ a
+stays_by true it a input answer is = refl
+stays_by false passes a input answer is = cc
+stays_by false (not_yet at) a input answer is = refl
+stays_by false (before_this_run at) a input answer is = refl
 
 takes : (a : Ahead) (input : KeepingInput) → lets_through a input ≡ true → TakesTheStep a input
 takes a (now_durable r) is = record { output = refl; after = refl }
 takes a (endpoint_input input) is =
-    let it = takes_by (begins_again a input) (standing a input) a (keeping_step a.k (endpoint_input input)) is in
+    let it = takes_by (begins_again a input) (standing a input) a input (keeping_step a.k (endpoint_input input)) is in
     record { output = it.0; after = it.1 }
 
 pub stays : (a : Ahead) (input : KeepingInput) → lets_through a input ≡ false → (ahead_step a input).1 ≡ a
 stays a (now_durable r) is = cc
-stays a (endpoint_input input) is = stays_by (begins_again a input) (standing a input) a (keeping_step a.k (endpoint_input input)) is
+stays a (endpoint_input input) is = stays_by (begins_again a input) (standing a input) a input (keeping_step a.k (endpoint_input input)) is
 
 pub steps_inside : (a : Ahead) (input : KeepingInput) → StepsInside a input
 steps_inside a input = record { takes = takes a input; stays = stays a input; reports = λ r. refl; frames = λ frame. refl }
@@ -167,14 +167,14 @@ carried a input same (endpoint_output (received verdict (Some place) shown None)
 carried a input same (endpoint_output (received verdict (Some place) shown (Some delivered))) it =
     record { delivery = it.delivery; one = same ∙ it.one; of_sci = it.of_sci; of_an = it.of_an; of_frame = it.of_frame }
 
-matches_by : (a : Ahead) (input : KeepingInput) (again : Bool) (it : Standing) (answer : KeepingOutput × Keeping) → lets_through a input ≡ is_through again it →
-    MatchesDeliveries a.k input answer.0 → MatchesDeliveriesWith a input (ahead_by again it a answer).0
-matches_by a input true it answer same matches = ap (λ (b : Bool). if b then newly_delivered a.k input else []) same
-matches_by a input false (not_yet at) answer same matches = ap (λ (b : Bool). if b then newly_delivered a.k input else []) same
-matches_by a input false (before_this_run at) answer same matches = ap (λ (b : Bool). if b then newly_delivered a.k input else []) same
-matches_by a input false passes answer same matches = carried a input (ap (λ (b : Bool). if b then newly_delivered a.k input else []) same) answer.0 matches
+matches_by : (a : Ahead) (input : KeepingInput) (given : Input) (again : Bool) (it : Standing) (answer : KeepingOutput × Keeping) → lets_through a input ≡ is_through again it →
+    MatchesDeliveries a.k input answer.0 → MatchesDeliveriesWith a input (ahead_by again it a given answer).0
+matches_by a input given true it answer same matches = ap (λ (b : Bool). if b then newly_delivered a.k input else []) same
+matches_by a input given false (not_yet at) answer same matches = ap (λ (b : Bool). if b then newly_delivered a.k input else []) same
+matches_by a input given false (before_this_run at) answer same matches = ap (λ (b : Bool). if b then newly_delivered a.k input else []) same
+matches_by a input given false passes answer same matches = carried a input (ap (λ (b : Bool). if b then newly_delivered a.k input else []) same) answer.0 matches
 
 pub delivers_each_listed_with : (a : Ahead) (input : KeepingInput) → DeliversEachListedWith a input
 delivers_each_listed_with a (now_durable r) = refl
 delivers_each_listed_with a (endpoint_input input) =
-    matches_by a (endpoint_input input) (begins_again a input) (standing a input) (keeping_step a.k (endpoint_input input)) refl (delivers_each_listed a.k (endpoint_input input))
+    matches_by a (endpoint_input input) input (begins_again a input) (standing a input) (keeping_step a.k (endpoint_input input)) refl (delivers_each_listed a.k (endpoint_input input))

@@ -19,11 +19,12 @@ use Rattle.macsec_link.proofs.Members.{IsMember, contained, member_of_map}
 use Rattle.macsec_reserve.specs.declared.reservation.Reservation.{Reservation}
 use Rattle.macsec_reserve.specs.Histories.{IsHistory, KeepsDurable, Run, SameSalt, closing, reported, reported_in}
 use Rattle.macsec_reserve.specs.Journal.{highest, receiving_name, reservations, salt_of, sending_name}
+use Rattle.macsec_secy.specs.Step.{Input}
 use Rattle.macsec_reserve.specs.Keeping.{Keeping, KeepingInput, KeepingOutput, endpoint_input, keeping_step, now_durable}
 use Rattle.macsec_reserve.proofs.HighestOf.{highest-append}
 use Rattle.macsec_reserve.proofs.Pairs.{pairs-head, pairs-tail}
 use Rattle.macsec_reserve.proofs.Steps.{keeps_stays}
-use Rattle.macsec_restarts.specs.Ahead.{Ahead, Standing, ahead_after, ahead_by, ahead_step, before_this_run, begins_again, closing_with, lets_through, not_yet, opening_with, passes, run_inside, standing, through}
+use Rattle.macsec_ahead.specs.Ahead.{Ahead, Standing, ahead_after, ahead_by, ahead_step, before_this_run, begins_again, closing_with, lets_through, not_yet, opening_with, passes, run_inside, standing, through}
 use Rattle.macsec_restarts.specs.AheadOrder.{ComesInOrderOnceWith, ComesInOrderWith, IsOrderlyInside, IsStrictInput, delivered_so_far_with, inside, inside_from, is_inside, reaches_inside}
 use Rattle.macsec_restarts.specs.AheadRuns.{delivered_from_with, delivered_in_all_with, newly_delivered_with, sent_in_all_with}
 use Rattle.macsec_restarts.specs.Delivered.{Delivery, delivered_at, delivered_in_all, newly_delivered}
@@ -71,15 +72,15 @@ delivered_from_with-push (i ∷ inputs) a input =
     ap (λ ds. newly_delivered_with a i ++ ds) (delivered_from_with-push inputs (ahead_step a i).1 input)
     ∙ sym (append_assoc (newly_delivered_with a i) (delivered_from_with (ahead_step a i).1 inputs) (newly_delivered_with (ahead_after (ahead_step a i).1 inputs) input))
 
-keeps_by : (again : Bool) (it : Standing) (a : Ahead) (answer : KeepingOutput × Keeping) → answer.1.keeps ≡ a.k.keeps → (ahead_by again it a answer).1.k.keeps ≡ a.k.keeps
-keeps_by true it a answer same = refl
-keeps_by false (not_yet at) a answer same = refl
-keeps_by false (before_this_run at) a answer same = refl
-keeps_by false passes a answer same = same
+keeps_by : (again : Bool) (it : Standing) (a : Ahead) (input : Input) (answer : KeepingOutput × Keeping) → answer.1.keeps ≡ a.k.keeps → (ahead_by again it a input answer).1.k.keeps ≡ a.k.keeps
+keeps_by true it a input answer same = refl
+keeps_by false (not_yet at) a input answer same = refl
+keeps_by false (before_this_run at) a input answer same = refl
+keeps_by false passes a input answer same = same
 
 keeps_step : (a : Ahead) (input : KeepingInput) → (ahead_step a input).1.k.keeps ≡ a.k.keeps
 keeps_step a (now_durable r) = refl
-keeps_step a (endpoint_input input) = keeps_by (begins_again a input) (standing a input) a (keeping_step a.k (endpoint_input input)) (keeps_stays a.k (endpoint_input input))
+keeps_step a (endpoint_input input) = keeps_by (begins_again a input) (standing a input) a input (keeping_step a.k (endpoint_input input)) (keeps_stays a.k (endpoint_input input))
 
 keeps_after : (inputs : List KeepingInput) (a : Ahead) → (ahead_after a inputs).k.keeps ≡ a.k.keeps
 keeps_after [] a = refl

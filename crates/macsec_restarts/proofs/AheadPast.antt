@@ -1,8 +1,8 @@
 -- What a run delivers in strict order is at or below what may have been accepted from the SA, and reserved: so no SA is
 -- created again at or below it.
-use Rattle.std.proofs.Common.{◌≡◌, ℕ, ◌+◌, ◌<◌, ◌≤◌, Bool, true, false, cond, List, [], ◌∷◌, inl, get_or, refl, ap, sym, subst, ◌∙◌, arith, All}
-use Rattle.std.specs.Prelude.{◌-◌, ◌&&◌, ◌==◌, if◌then◌else◌, unwrap_or, Option, Some, None, IsSome}
-use Rattle.std.proofs.lemmas.Bool.{and_parts, eq-eqb}
+use Rattle.std.proofs.Common.{◌≡◌, ◌⊎◌, ℕ, ◌+◌, ◌<◌, ◌≤◌, Bool, true, false, cond, List, [], ◌∷◌, inl, inr, get_or, refl, ap, sym, subst, ◌∙◌, arith, All}
+use Rattle.std.specs.Prelude.{◌^◌, ◌&&◌, ◌||◌, ◌==◌, if◌then◌else◌, unwrap_or, Option, Some, None, IsSome}
+use Rattle.std.proofs.lemmas.Bool.{and_parts, eq-eqb, or_parts}
 use Rattle.std.proofs.lemmas.List.Elements.{All-cons, All-contains, All-nil}
 use Rattle.std.proofs.lemmas.Slice.Eq.{bytes_eq-Decides}
 use Rattle.macsec_gcm.specs.Octets.{same_octets}
@@ -10,9 +10,13 @@ use Rattle.macsec_tag.specs.declared.identifiers.Sci.{Sci}
 use Rattle.macsec_suite.specs.KeyRows.{InstalledKey, key_row, no_key, the_key}
 use Rattle.macsec_rx.specs.declared.RxRow.{RxRow}
 use Rattle.macsec_rx.specs.Channels.{rx_row, same_sci}
+use Rattle.macsec_rx.specs.Commands.{rx_uses}
 use Rattle.macsec_rx.specs.Judge.{Judgement}
+use Rattle.macsec_rx.specs.Rows.{AreRxRows}
+use Rattle.macsec_tx.specs.Commands.{tx_uses}
 use Rattle.macsec_secy.specs.declared.fault.FrameFault.{FrameFault}
 use Rattle.macsec_secy.specs.Delivers.{IsDeliveredFrom}
+use Rattle.macsec_secy.specs.GivenUp.{IsGivenUp}
 use Rattle.macsec_secy.specs.Kept.{IsAbove, KeysStay}
 use Rattle.macsec_secy.specs.Reception.{judgement_of, state_after_receiving}
 use Rattle.macsec_secy.specs.Sound.{IsSound}
@@ -24,12 +28,13 @@ use Rattle.macsec_reserve.specs.Journal.{highest, receiving_name, sending_name}
 use Rattle.macsec_reserve.specs.Keeping.{Keeping, KeepingInput, KeepingOutput, endpoint_input, now_durable}
 use Rattle.macsec_reserve.specs.Replay.{row_name}
 use Rattle.macsec_reserve.proofs.Steps.{received_step}
-use Rattle.macsec_restarts.specs.Ahead.{Ahead, ahead_step, is_through, lets_through, standing_by}
+use Rattle.macsec_ahead.specs.Ahead.{Ahead, ahead_step, is_through, lets_through, standing_by}
+use Rattle.macsec_ahead.specs.Ends.{end_of_row}
 use Rattle.macsec_restarts.specs.AheadOrder.{IsStrictInput}
 use Rattle.macsec_restarts.specs.Delivered.{Delivery, delivered_at, delivered_by, newly_delivered}
 use Rattle.macsec_restarts.specs.Order.{CreatesAbove, HasStrictOrder}
 use Rattle.macsec_restarts.proofs.AheadAccepts.{reserved_now}
-use Rattle.macsec_restarts.proofs.AheadEnds.{ahead_row_step, created_above, past_of, past_step, row_end}
+use Rattle.macsec_restarts.proofs.AheadEnds.{ahead_row_step, created_above, given_up_stays, past_of, past_step, row_end}
 use Rattle.macsec_restarts.proofs.AheadInside.{step_inside}
 use Rattle.macsec_restarts.proofs.NextNumbers.{same_place}
 use Rattle.macsec_restarts.proofs.RowSteps.{IsLaterRow, RowStep, found_row}
@@ -41,6 +46,25 @@ use Rattle.macsec_restarts.proofs.SoundRuns.{keys_stay}
 record HasOctetsOf (keys after : List InstalledKey) (n : ℕ) : Type 0 where
   there : IsSome (key_row after n)
   octets : (the_key after n).bytes ≡ (the_key keys n).bytes
+
+-- no SA uses a key that is given up
+uses_it : (rows : List RxRow) (row : RxRow) (key : ℕ) → IsMember rows row → row.key ≡ key → rx_uses rows key ≡ true
+uses_it [] row key there same = absurd there
+uses_it (r ∷ rows) row key (inl here) same = ap (λ (b : Bool). b || rx_uses rows key) (eq-eqb r.key key (ap (λ (x : RxRow). x.key) here ∙ same))
+uses_it (r ∷ rows) row key (inr later) same = or_true (r.key == key) (rx_uses rows key) (uses_it rows row key later same)
+  where
+    or_true : (b c : Bool) → c ≡ true → (b || c) ≡ true
+    or_true true c is = refl
+    or_true false c is = is
+
+not_used : (s : State) (key : ℕ) → IsGivenUp s key → (row : RxRow) → IsMember s.rx.rows row → row.key ≡ key → ⊥
+not_used s key up row there same = let no = sym (uses_it s.rx.rows row key there same) ∙ (or_parts (tx_uses s.tx key) (rx_uses s.rx.rows key) up.unused).1 in cc
+
+-- a lowest acceptable PN is at most 2^64
+lowest_fits : (scis : List Sci) (rows : List RxRow) (row : RxRow) → AreRxRows scis rows → IsMember rows row → row.lowest ≤ 2 ^ 64
+lowest_fits scis [] row are there = absurd there
+lowest_fits scis (r ∷ rows) row are (inr later) = lowest_fits scis rows row are.2 later
+lowest_fits scis (r ∷ rows) row are (inl here) = subst (λ (x : RxRow). x.lowest ≤ 2 ^ 64) here (omega (arith, are.0.lowest, are.0.next))
 
 of_some : (o : Option InstalledKey) (key : InstalledKey) → o ≡ Some key → IsSome o
 of_some o key is = subst IsSome (sym is) refl
@@ -73,19 +97,26 @@ module _ (laws : EndpointLaws) where
   -- ---- what was delivered
 
   module _ (bytes : List ℕ) (sci : Sci) (an : ℕ) where
-    -- the SA's key is in the table, and the PN is at most what may have been accepted from the SA under it
+    -- the SA's key is in the table, and it is given up, or the PN is at most what may have been accepted from the SA under it
     pub record IsPast (a : Ahead) (d : Delivery) : Type 0 where
       pub key : ℕ
       pub there : IsSome (key_row a.k.secy.keys key)
       pub octets : (the_key a.k.secy.keys key).bytes ≡ bytes
-      pub past : d.number ≤ past_of a key sci an
+      pub past : IsGivenUp a.k.secy key ⊎ (d.number ≤ past_of a key sci an)
 
     pub past_stays : (a : Ahead) (input : KeepingInput) → IsSound a.k.secy → IsSound (ahead_step a input).1.k.secy → a.k.keeps ≡ true → lets_through a input ≡ true →
         (d : Delivery) → IsPast a d → IsPast (ahead_step a input).1 d
     past_stays a input sound sound' keeps lets d it =
         let after = (ahead_step a input).1 in
         let later = octets_stay a.k.secy after.k.secy sound sound' (keys_stay_with a input sound lets) it.key it.there in
-        record { key = it.key; there = later.there; octets = later.octets ∙ it.octets; past = omega (arith, it.past, past_step a input it.key sci an keeps) }
+        record { key = it.key; there = later.there; octets = later.octets ∙ it.octets; past = by_past it.past (past_step a input it.key sci an keeps) }
+      where
+        by_past : IsGivenUp a.k.secy it.key ⊎ (d.number ≤ past_of a it.key sci an) →
+            IsGivenUp (ahead_step a input).1.k.secy it.key ⊎ (past_of a it.key sci an ≤ past_of (ahead_step a input).1 it.key sci an) →
+            IsGivenUp (ahead_step a input).1.k.secy it.key ⊎ (d.number ≤ past_of (ahead_step a input).1 it.key sci an)
+        by_past (inl up) stepped = inl (given_up_stays a input it.key up)
+        by_past (inr past) (inl up) = inl up
+        by_past (inr past) (inr grows) = inr (omega (arith, past, grows))
 
     -- so an SA that is created again begins above it
     pub creates_above : (a : Ahead) (input : KeepingInput) → IsSound a.k.secy → IsSound (ahead_step a input).1.k.secy → lets_through a input ≡ true →
@@ -110,6 +141,12 @@ module _ (laws : EndpointLaws) where
             subst (λ (o : Option RxRow). RowStep input' o (Some later)) here (subst (RowStep input' (rx_row s.rx.rows sci an)) there' (ahead_row_step a input' sci an)) in
             it.key
 
+        -- no SA has a key that is given up
+        by_past : (key : ℕ) → key ≡ row.key → past_of a key sci an < row.next → IsGivenUp s key ⊎ ((get_or ds i d).number ≤ past_of a key sci an) → (get_or ds i d).number < row.next
+        by_past key one above (inr past) = omega (arith, past, above)
+        by_past key one above (inl up) =
+            absurd (not_used after key (given_up_stays a input key up) row (found_row sci an after.rx.rows row there) (sym one))
+
         by_row : (o : Option RxRow) → rx_row s.rx.rows sci an ≡ o → (get_or ds i d).number < row.next
         by_row None none =
             let it = all i d within in
@@ -117,7 +154,7 @@ module _ (laws : EndpointLaws) where
             let one : it.key ≡ row.key =
             one_number after sound' it.key row.key later.there (row_key after sound' sci an row there) (later.octets ∙ it.octets ∙ sym under) in
             let above : past_of a it.key sci an < row.next = subst (λ (n : ℕ). past_of a n sci an < row.next) (sym one) (created_above a input sci an row none there lets) in
-            omega (arith, it.past, above)
+            by_past it.key one above it.past
         by_row (Some earlier) here = absurd (fresh earlier here (sym kept_octets.octets ∙ ap (λ (n : ℕ). (the_key after.keys n).bytes) (sym same_key) ∙ under))
           where
             kept_octets : HasOctetsOf s.keys after.keys earlier.key
@@ -162,6 +199,7 @@ module _ (laws : EndpointLaws) where
         there : rx_row after.k.secy.rx.rows sci an ≡ Some later
         key : later.key ≡ row.key
         above : j.number + 1 ≤ later.lowest
+        fits : later.lowest ≤ 2 ^ 64
 
       sa_after : (row : RxRow) (delivered : List ℕ) → frame_fault frame ≡ None → IsDeliveredFrom s frame row delivered → HasStrictOrder s → row.sci ≡ sci → row.an ≡ an → IsAfter row
       sa_after row delivered fits tells order is_sci is_an =
@@ -178,13 +216,13 @@ module _ (laws : EndpointLaws) where
           let window : after.k.secy.options.window ≡ 0 = ap (λ (t : State). t.options.window) same ∙ order.window in
           let within = All-contains (λ (r : RxRow). r.next ≤ r.lowest + after.k.secy.options.window) after.k.secy.rx.rows ours.row sound'.agrees.within_window
           (contained after.k.secy.rx.rows ours.row (found_row sci an after.k.secy.rx.rows ours.row ours.there)) in
-          record { later = ours.row; there = ours.there; key = stepped.key; above = omega (arith, ours.above, within, window) }
+          record { later = ours.row; there = ours.there; key = stepped.key; above = omega (arith, ours.above, within, window); fits = lowest_fits after.k.secy.rx.scis after.k.secy.rx.rows ours.row sound'.rx.rows (found_row sci an after.k.secy.rx.rows ours.row ours.there) }
 
       past_by : (row : RxRow) → IsAfter row → j.number ≤ past_of after row.key sci an
       past_by row it =
-          let own : row_end (rx_row after.k.secy.rx.rows sci an) row.key ≡ it.later.lowest - 1 =
-          ap (λ (o : Option RxRow). row_end o row.key) it.there ∙ ap (λ (b : Bool). if b then it.later.lowest - 1 else 0) (eq-eqb it.later.key row.key it.key) in
-          omega (arith, own, it.above)
+          let own : row_end (rx_row after.k.secy.rx.rows sci an) row.key ≡ end_of_row it.later =
+          ap (λ (o : Option RxRow). row_end o row.key) it.there ∙ ap (λ (b : Bool). if b then end_of_row it.later else 0) (eq-eqb it.later.key row.key it.key) in
+          omega (arith, own, it.above, it.fits)
 
       delivery : (row : RxRow) (delivered : List ℕ) → frame_fault frame ≡ None → j.row ≡ Some row → j.delivered ≡ Some delivered → HasStrictOrder s →
           (the_key s.keys row.key).bytes ≡ bytes → row.sci ≡ sci → row.an ≡ an → IsNewPast a after (delivery_of row delivered)
@@ -204,7 +242,7 @@ module _ (laws : EndpointLaws) where
               key = row.key;
               there = subst (λ (ks : List InstalledKey). IsSome (key_row ks row.key)) (sym keys) there;
               octets = ap (λ (ks : List InstalledKey). (the_key ks row.key).bytes) keys ∙ is_bytes;
-              past = past_by row (sa_after row delivered fits tells order is_sci is_an);
+              past = inr (past_by row (sa_after row delivered fits tells order is_sci is_an));
             };
             reserved = λ on. subst (λ (n : List ℕ). j.number ≤ highest a.taken n) name (reserved_now a on j row (tells.opened order.mode).thirteen passed).1;
           }

@@ -9,7 +9,7 @@ use Rattle.macsec_secy.specs.declared.fault.FrameFault.{FrameFault}
 use Rattle.macsec_secy.specs.Delivers.{DeliversFrom}
 use Rattle.macsec_secy.specs.Reception.{judgement_of}
 use Rattle.macsec_secy.specs.State.{State}
-use Rattle.macsec_secy.specs.Step.{frame_fault, link_frame}
+use Rattle.macsec_secy.specs.Step.{Input, frame_fault, link_frame}
 use Rattle.macsec_link.proofs.Members.{IsMember, member_of_map}
 use Rattle.macsec_reserve.specs.declared.reservation.Reservation.{Reservation}
 use Rattle.macsec_reserve.specs.Entries.{raised_by}
@@ -17,7 +17,8 @@ use Rattle.macsec_reserve.specs.Journal.{highest}
 use Rattle.macsec_reserve.specs.Keeping.{Keeping, KeepingOutput, endpoint_input, keeping_step, now_durable, wanted_last}
 use Rattle.macsec_reserve.specs.Replay.{row_name}
 use Rattle.macsec_reserve.proofs.Written.{same_octets-refl}
-use Rattle.macsec_restarts.specs.Ahead.{Ahead, RxPn, Standing, ahead_by, ahead_step, before_this_run, dropped_not_reserved, for_each_row, not_yet, passes, standing_by}
+use Rattle.macsec_ahead.specs.declared.answers.RxPn.{RxPn}
+use Rattle.macsec_ahead.specs.Ahead.{Ahead, Standing, ahead_by, ahead_step, before_this_run, dropped_not_reserved, for_each_row, not_yet, passes, standing_by}
 use Rattle.macsec_restarts.specs.AheadSteps.{AsksWhereDropped, PassesOnceReserved, ReachesPn, WantsEnough}
 use Rattle.macsec_restarts.proofs.RowSteps.{found_row}
 
@@ -147,10 +148,10 @@ is_not_reserved a j None row at is = by_step (j.step == 13) is
         let means = not_yet_means a.ahead (nat_le j.number (highest a.k.before name)) (nat_le j.number (highest a.taken name)) own own at is' in
         record { is = means.1; above = leb-false j.number (highest a.taken name) means.0 }
 
-dropped_by : (it : Standing) (a : Ahead) (answer : KeepingOutput × Keeping) (at : RxPn) → (ahead_by false it a answer).0 ≡ dropped_not_reserved at → it ≡ not_yet at
-dropped_by passes a answer at is = cc
-dropped_by (before_this_run x) a answer at is = cc
-dropped_by (not_yet x) a answer at is = ap not_yet cc
+dropped_by : (it : Standing) (a : Ahead) (input : Input) (answer : KeepingOutput × Keeping) (at : RxPn) → (ahead_by false it a input answer).0 ≡ dropped_not_reserved at → it ≡ not_yet at
+dropped_by passes a input answer at is = cc
+dropped_by (before_this_run x) a input answer at is = cc
+dropped_by (not_yet x) a input answer at is = ap not_yet cc
 
 is_wanted : (reserved n amount : ℕ) → n < 2 ^ 64 → reserved < n → IsSome (wanted_last reserved n amount)
 is_wanted reserved n amount fits above = by_tests (nat_le (2 ^ 64) n) (nat_le (min (n + amount / 2) (2 ^ 64 - 1)) reserved) refl refl
@@ -168,7 +169,7 @@ some_of_map f (Some x) is = refl
 pub asks_where_dropped : (a : Ahead) (frame : List ℕ) (amount : ℕ) (row : RxRow) (at : RxPn) → AsksWhereDropped a frame amount row at
 asks_where_dropped a frame amount row at of_row fits dropped =
     let j = judgement_of a.k.secy frame in
-    let it = dropped_by (standing_by a j (frame_fault frame) j.row) a (keeping_step a.k (endpoint_input (link_frame frame))) at dropped in
+    let it = dropped_by (standing_by a j (frame_fault frame) j.row) a (link_frame frame) (keeping_step a.k (endpoint_input (link_frame frame))) at dropped in
     let is = is_not_reserved a j (frame_fault frame) row at (ap (standing_by a j (frame_fault frame)) (sym of_row) ∙ it) in
     let number : j.number ≡ at.number = ap (λ (x : RxPn). x.number) is.is in
     let name = row_name a.k.salt a.k.secy row in

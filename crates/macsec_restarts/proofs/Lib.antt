@@ -14,6 +14,7 @@ mod RowSteps
 mod AheadInside
 mod AheadAccepts
 mod AheadReserved
+mod EndTables
 mod AheadEnds
 mod AheadPast
 mod AheadOrder

@@ -7,7 +7,7 @@ use Rattle.macsec_link.specs.World.{other_end}
 use Rattle.macsec_link.specs.Origin.{IsSubsequence}
 use Rattle.macsec_reserve.specs.Histories.{Run, closing}
 use Rattle.macsec_reserve.specs.Keeping.{Keeping, KeepingInput}
-use Rattle.macsec_restarts.specs.Ahead.{closing_with, lets_through}
+use Rattle.macsec_ahead.specs.Ahead.{closing_with, lets_through}
 use Rattle.macsec_restarts.specs.AheadRuns.{delivered_in_all_with, sent_in_all_with}
 use Rattle.macsec_restarts.specs.Delivered.{Delivery, delivered_at, newly_delivered}
 use Rattle.macsec_restarts.specs.Happenings.{AtEach, Happening, begins, comes_in, last_run, runs_of, same_end}

@@ -7,7 +7,7 @@ use Rattle.macsec_secy.specs.Step.{link_frame, received}
 use Rattle.macsec_reserve.specs.Histories.{KeepsDurable, Run, SameSalt, reported}
 use Rattle.macsec_reserve.specs.Journal.{highest, receiving_name, reservations, salt_of, sending_name}
 use Rattle.macsec_reserve.specs.Keeping.{KeepingInput, endpoint_input, endpoint_output}
-use Rattle.macsec_restarts.specs.Ahead.{Ahead, AheadOutput, ahead_step, kept, lets_through, opening_with}
+use Rattle.macsec_ahead.specs.Ahead.{Ahead, AheadOutput, ahead_step, kept, lets_through, opening_with}
 use Rattle.macsec_restarts.specs.Delivered.{Delivery, IsOneDelivery, newly_delivered}
 use Rattle.macsec_restarts.specs.Sent.{SentIn, newly_sent}
 

@@ -1,11 +1,12 @@
 -- Laws of an endpoint that can reserve ahead of receiving: of its steps, and of the keeping endpoint inside.
-use Rattle.std.specs.Prelude.{◌≡◌, ◌<◌, ◌≤◌, ◌-◌, ◌^◌, ℕ, List, Bool, true, false, None, Some, IsSome}
+use Rattle.std.specs.Prelude.{◌≡◌, ◌<◌, ◌≤◌, ◌⊎◌, ◌^◌, ℕ, List, Bool, true, false, None, Some, IsSome}
 use Rattle.macsec_tag.specs.declared.identifiers.Sci.{Sci}
 use Rattle.macsec_suite.specs.declared.refusal.Refusal.TheVariants.{PnFloor}
 use Rattle.macsec_commands.specs.declared.command.Command.TheVariants.{RxSa}
 use Rattle.macsec_rx.specs.declared.RxRow.{RxRow}
 use Rattle.macsec_rx.specs.Channels.{rx_row}
 use Rattle.macsec_secy.specs.Reception.{judgement_of}
+use Rattle.macsec_secy.specs.GivenUp.{IsGivenUp}
 use Rattle.macsec_secy.specs.Sound.{IsSound}
 use Rattle.macsec_secy.specs.Step.{Input, client_frame, link_frame, operator_command, refused}
 use Rattle.macsec_reserve.specs.declared.reservation.Reservation.{Reservation}
@@ -13,7 +14,9 @@ use Rattle.macsec_reserve.specs.Histories.{Run, closing, reported}
 use Rattle.macsec_reserve.specs.Journal.{highest}
 use Rattle.macsec_reserve.specs.Keeping.{KeepingInput, endpoint_input, endpoint_output, keeping_step, now_durable}
 use Rattle.macsec_reserve.specs.Replay.{row_name}
-use Rattle.macsec_restarts.specs.Ahead.{Ahead, RxPn, ahead_after, ahead_step, begins_again, closing_with, dropped_not_reserved, kept, last_end, lets_through, passes, run_inside, standing, wanted_to_accept}
+use Rattle.macsec_ahead.specs.declared.answers.RxPn.{RxPn}
+use Rattle.macsec_ahead.specs.Ahead.{Ahead, ahead_after, ahead_step, begins_again, closing_with, dropped_not_reserved, kept, lets_through, passes, run_inside, standing, wanted_to_accept}
+use Rattle.macsec_ahead.specs.Ends.{end_of, end_of_row}
 
 -- ---- the keeping endpoint inside
 
@@ -78,14 +81,15 @@ abbrev pub RemembersEnd : Ahead → KeepingInput → RxRow → Type 0
 RemembersEnd a input row =
     let after = (ahead_step a input).1 in
     a.k.keeps ≡ true → rx_row a.k.secy.rx.rows row.sci row.an ≡ Some row → rx_row after.k.secy.rx.rows row.sci row.an ≡ None →
-    row.lowest - 1 ≤ last_end after.ended row.key row.sci row.an
+    end_of_row row ≤ end_of after.ended row.key row.sci row.an
 
--- for the rest of the run
+-- for the rest of the run, or until its key is retired: then no SA is created under the key any more
 abbrev pub KeepsEnds : Ahead → List KeepingInput → ℕ → Sci → ℕ → Type 0
-KeepsEnds a inputs key sci an = last_end a.ended key sci an ≤ last_end (ahead_after a inputs).ended key sci an
+KeepsEnds a inputs key sci an =
+    let after = ahead_after a inputs in IsGivenUp after.k.secy key ⊎ (end_of a.ended key sci an ≤ end_of after.ended key sci an)
 
 -- at that end or below it the SA is not created again under the key, and nothing changes
 abbrev pub RefusesBelowEnd : Ahead → Sci → ℕ → ℕ → ℕ → ℕ → Type 0
 RefusesBelowEnd a sci an key ssci lowest =
-    0 < lowest → lowest ≤ last_end a.ended key sci an →
+    0 < lowest → lowest ≤ end_of a.ended key sci an →
     ahead_step a (endpoint_input (operator_command (RxSa sci an key ssci lowest))) ≡ (kept (endpoint_output (refused PnFloor)), a)

@@ -5,7 +5,6 @@ pub mod Peers
 pub mod Origin
 pub mod Order
 pub mod Acceptance
-pub mod Ahead
 pub mod AheadSteps
 pub mod AheadRuns
 pub mod AheadOrder

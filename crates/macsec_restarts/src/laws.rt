@@ -10,7 +10,8 @@ ghost use Rattle.macsec_reserve.specs.declared.reservation.Reservation.{Reservat
 ghost use Rattle.macsec_reserve.specs.Keeping.{Keeping, KeepingInput};
 ghost use Rattle.macsec_reserve.specs.Histories.{Run};
 ghost use Rattle.macsec_restarts.specs.Acceptance.{AcceptsInTime};
-ghost use Rattle.macsec_restarts.specs.Ahead.{Ahead, RxPn};
+ghost use Rattle.macsec_ahead.specs.declared.answers.RxPn.{RxPn};
+ghost use Rattle.macsec_ahead.specs.Ahead.{Ahead};
 ghost use Rattle.macsec_restarts.specs.AheadOrder.{ComesInOrderOnceWith};
 ghost use Rattle.macsec_restarts.specs.AheadRuns.{AcceptsAboveInAll, AcceptsReserved, DeliversEachListedWith};
 ghost use Rattle.macsec_restarts.specs.AheadSteps.{AsksWhereDropped, IsAsBefore, IsKeepingInside, KeepsEnds, PassesOnceReserved, RefusesBelowEnd, RemembersEnd, StepsInside, WantsEnough};
@@ -132,8 +133,8 @@ pub fn accepts_once_reserved()
     delivers_in_time();
 }
 
-/// Where a run deletes a receive SA, its end is remembered (`remembers`) for the rest of the run (`keeps`): at that end or
-/// below it the SA is not created again under the same key (`refuses`).
+/// Where a run deletes a receive SA, its end is remembered (`remembers`) for the rest of the run, or until its key is
+/// retired (`keeps`): at that end or below it the SA is not created again under the same key (`refuses`).
 pub fn begins_above_its_end()
     ensures remembers { (a : Ahead) (input : KeepingInput) (row : RxRow) → RemembersEnd a input row }
     ensures keeps { (a : Ahead) (inputs : List KeepingInput) (key : ℕ) (sci : Sci) (an : ℕ) → KeepsEnds a inputs key sci an }

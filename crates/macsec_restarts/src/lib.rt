@@ -11,13 +11,13 @@
 //! - `accepts_in_time`: a frame of one run is accepted by a run of the other end.
 //!
 //! Proved of an endpoint that remembers where the SAs ended that it deleted, and that can reserve packet numbers ahead of
-//! receiving (no call has this yet):
+//! receiving (defined in `macsec_ahead`; no call has this yet):
 //! - `is_keeping_inside`, `lists_each_delivery_ahead`: it takes the steps of the keeping endpoint inside, or nothing changes;
 //!   what is delivered is listed once.
 //! - `accepts_above`: a run accepts only packet numbers that are reserved, and a later run only such above those that an
 //!   earlier run accepted.
 //! - `accepts_once_reserved`: a frame that was dropped asks for a record, and passes once the record is durable.
-//! - `begins_above_its_end`: an SA that was deleted begins above its end.
+//! - `begins_above_its_end`: an SA that was deleted begins above its end, unless its key is retired.
 //! - `comes_in_order_once_ahead`: order and once, without a premise about commands, and with the option without one about
 //!   saving.
 //!

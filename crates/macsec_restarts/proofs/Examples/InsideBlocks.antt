@@ -7,7 +7,7 @@ use Rattle.macsec_commands.specs.declared.event.End.TheVariants.{A, B}
 use Rattle.macsec_reserve.specs.Histories.{Run}
 use Rattle.macsec_reserve.specs.Keeping.{Keeping, KeepingInput, KeepingOutput, endpoint_input, keeping_step}
 use Rattle.macsec_secy.specs.Step.{Input}
-use Rattle.macsec_restarts.specs.Ahead.{Ahead, Standing, ahead_after, ahead_by, ahead_step, before_this_run, begins_again, closing_with, ended_after, ended_by, is_through, lets_through, not_yet, opening_with, passes, run_inside, standing, through}
+use Rattle.macsec_ahead.specs.Ahead.{Ahead, Standing, ahead_after, ahead_by, ahead_step, before_this_run, begins_again, closing_with, ended_after, is_through, lets_through, not_yet, opening_with, passes, run_inside, standing, through}
 use Rattle.macsec_restarts.specs.AheadOrder.{inside_from, is_inside, reaches_inside}
 use Rattle.macsec_restarts.specs.Happenings.{Happening, begins, comes_in, last_run, runs_of, same_end}
 use Rattle.macsec_restarts.proofs.AheadInside.{stays}
@@ -40,19 +40,19 @@ drops_next a last input inputs inner lets rest = record {
 }
 
 -- the state after an input that is let through
-by_standing : (again : Bool) (it : Standing) (a : Ahead) (answer : KeepingOutput × Keeping) → is_through again it ≡ true →
-    (ahead_by again it a answer).1 ≡ record a { k = answer.1; ended = ended_after a answer.1.secy }
-by_standing true it a answer is = cc
-by_standing false passes a answer is = refl
-by_standing false (not_yet at) a answer is = cc
-by_standing false (before_this_run at) a answer is = cc
+by_standing : (again : Bool) (it : Standing) (a : Ahead) (input : Input) (answer : KeepingOutput × Keeping) → is_through again it ≡ true →
+    (ahead_by again it a input answer).1 ≡ record a { k = answer.1; ended = ended_after a input answer }
+by_standing true it a input answer is = cc
+by_standing false passes a input answer is = refl
+by_standing false (not_yet at) a input answer is = cc
+by_standing false (before_this_run at) a input answer is = cc
 
-pub goes_on : (a : Ahead) (input : Input) (k : Keeping) → lets_through a (endpoint_input input) ≡ true → a.k.keeps ≡ true → (keeping_step a.k (endpoint_input input)).1 ≡ k →
-    (ahead_step a (endpoint_input input)).1 ≡ record a { k = k; ended = ended_by a.k.secy k.secy ++ a.ended }
-goes_on a input k lets keeps is =
-    by_standing (begins_again a input) (standing a input) a (keeping_step a.k (endpoint_input input)) lets
-    ∙ ap (λ (x : Keeping). record a { k = x; ended = ended_after a x.secy }) is
-    ∙ ap (λ (b : Bool). record a { k = k; ended = if b then ended_by a.k.secy k.secy ++ a.ended else a.ended }) keeps
+pub goes_on : (a : Ahead) (input : Input) (k : Keeping) → lets_through a (endpoint_input input) ≡ true → (keeping_step a.k (endpoint_input input)).1 ≡ k →
+    (ahead_step a (endpoint_input input)).1 ≡ record a { k = k; ended = ended_after a input ((keeping_step a.k (endpoint_input input)).0, k) }
+goes_on a input k lets is =
+    let answer = keeping_step a.k (endpoint_input input) in
+    by_standing (begins_again a input) (standing a input) a input answer lets
+    ∙ ap (λ (x : Keeping). record a { k = x; ended = ended_after a input (answer.0, x) }) is
 
 -- ---- a list of runs
 

@@ -30,7 +30,10 @@ use Rattle.macsec_counterexamples.proofs.Restarts.Goes.{command, command_step, l
 use Rattle.macsec_counterexamples.proofs.Restarts.Journals.{journal, salt}
 use Rattle.macsec_counterexamples.proofs.Restarts.Receivers.{channels_are, keys_are, name_of}
 use Rattle.macsec_counterexamples.proofs.Restarts.Senders.{kept}
-use Rattle.macsec_restarts.specs.Ahead.{Ahead, EndedSa, RxPn, ahead_by, ahead_step, before_this_run, dropped_not_reserved, is_through, kept as an_output, lets_through, not_yet, passes, run_inside, standing_by, wanted_to_accept}
+use Rattle.macsec_ahead.specs.declared.answers.RxPn.{RxPn}
+use Rattle.macsec_ahead.specs.declared.ends.EndedSa.{EndedSa}
+use Rattle.macsec_ahead.specs.Ends.{no_ends}
+use Rattle.macsec_ahead.specs.Ahead.{Ahead, ahead_by, ahead_step, before_this_run, dropped_not_reserved, is_through, kept as an_output, lets_through, not_yet, passes, run_inside, standing_by, wanted_to_accept}
 use Rattle.macsec_restarts.specs.AheadOrder.{IsOrderlyInside, IsStrictInput, delivered_so_far_with, inside}
 use Rattle.macsec_restarts.specs.AheadRuns.{sent_in_all_with}
 use Rattle.macsec_restarts.specs.Delivered.{Delivery, delivered_at, delivered_in_all}
@@ -68,7 +71,7 @@ abbrev k_at : Bool → List Reservation → State → Keeping
 k_at again granted s = kept (salt false) (reads (before_b again)) granted s
 
 abbrev a_at : Bool → List Reservation → List Reservation → List EndedSa → State → Ahead
-a_at again granted taken ended s = record { k = k_at again granted s; ahead = true; taken = taken; ended = ended }
+a_at again granted taken ended s = record { k = k_at again granted s; ahead = true; taken = taken; ended = record no_ends { entries = ended } }
 
 free : (again : Bool) → highest (reads (before_b again)) name < receiver.lowest_of again
 free false = is_free [] name 1 none_is (omega arith)
@@ -358,9 +361,9 @@ frames_through false =
     drops_next a1 a5 link_1 (now_durable saved_1 ∷ link_1 ∷ link_1 ∷ deletes ∷ creates ∷ []) (reaches false) drops_1
     (passes_next a1 a2 a5 (now_durable saved_1) (link_1 ∷ link_1 ∷ deletes ∷ creates ∷ []) (link_1 ∷ link_1 ∷ deletes ∷ []) refl reports_at_1
     (passes_next a2 a3 a5 link_1 (link_1 ∷ deletes ∷ creates ∷ []) (link_1 ∷ deletes ∷ []) passes_1
-    (goes_on a2 (link_frame (receiver.frame 1 t)) (k_at false g (receiver.heard_1 t)) passes_1 refl hears_1)
-    (passes_next a3 a4 a5 link_1 (deletes ∷ creates ∷ []) (deletes ∷ []) refl (goes_on a3 (link_frame (receiver.frame 1 t)) (k_at false g (receiver.dropped_1 t)) refl refl hears_2)
-    (passes_next a4 a5 a5 deletes (creates ∷ []) [] refl (goes_on a4 (operator_command (RxDel sci_a 0)) (k_at false g deleted) refl refl does_delete)
+    (goes_on a2 (link_frame (receiver.frame 1 t)) (k_at false g (receiver.heard_1 t)) passes_1 hears_1)
+    (passes_next a3 a4 a5 link_1 (deletes ∷ creates ∷ []) (deletes ∷ []) refl (goes_on a3 (link_frame (receiver.frame 1 t)) (k_at false g (receiver.dropped_1 t)) refl hears_2)
+    (passes_next a4 a5 a5 deletes (creates ∷ []) [] refl (goes_on a4 (operator_command (RxDel sci_a 0)) (k_at false g deleted) refl does_delete)
     (drops_next a5 a5 creates [] [] refl (through_end a5))))))
 frames_through true =
     let g = granted_after saved_3 in
@@ -369,9 +372,9 @@ frames_through true =
     let a3 = a_at true g (saved_3 ∷ []) [] (receiver.dropped_2 t) in
     let a4 = last_a true in
     passes_next a1 a2 a4 link_1 (now_durable saved_3 ∷ link_3 ∷ []) (now_durable saved_3 ∷ link_3 ∷ []) refl
-    (goes_on a1 (link_frame (receiver.frame 1 t)) (k_at true [] (receiver.dropped_2 t)) refl refl hears_again)
+    (goes_on a1 (link_frame (receiver.frame 1 t)) (k_at true [] (receiver.dropped_2 t)) refl hears_again)
     (passes_next a2 a3 a4 (now_durable saved_3) (link_3 ∷ []) (link_3 ∷ []) refl reports_at_3
-    (passes_next a3 a4 a4 link_3 [] [] passes_3 (goes_on a3 (link_frame (receiver.frame 3 u)) (k_at true g (receiver.heard_3 t u)) passes_3 refl hears_3) (through_end a4)))
+    (passes_next a3 a4 a4 link_3 [] [] passes_3 (goes_on a3 (link_frame (receiver.frame 3 u)) (k_at true g (receiver.heard_3 t u)) passes_3 hears_3) (through_end a4)))
 
 commands_through : (again : Bool) → Through (a_at again [] [] [] (start gcm_b)) (receiver.commands again ++ comes again) (receiver.commands again ++ reaches again) (last_a again)
 commands_through false =
@@ -382,13 +385,13 @@ commands_through false =
     let sa = command (RxSa sci_a 0 0 1 1) in
     let on = command (RxOn sci_a 0) in
     passes_next (at (start gcm_b)) (at receiver.with_key) (last_a false) key (sc ∷ sa ∷ on ∷ comes false) (sc ∷ sa ∷ on ∷ reaches false) refl
-    (goes_on (at (start gcm_b)) (operator_command (Key (new_key no_salt 2))) (k receiver.with_key) refl refl (command_step (k (start gcm_b)) (Key (new_key no_salt 2)) refl))
+    (goes_on (at (start gcm_b)) (operator_command (Key (new_key no_salt 2))) (k receiver.with_key) refl (command_step (k (start gcm_b)) (Key (new_key no_salt 2)) refl))
     (passes_next (at receiver.with_key) (at receiver.with_sc) (last_a false) sc (sa ∷ on ∷ comes false) (sa ∷ on ∷ reaches false) refl
-    (goes_on (at receiver.with_key) (operator_command (RxSc sci_a)) (k receiver.with_sc) refl refl (command_step (k receiver.with_key) (RxSc sci_a) refl))
+    (goes_on (at receiver.with_key) (operator_command (RxSc sci_a)) (k receiver.with_sc) refl (command_step (k receiver.with_key) (RxSc sci_a) refl))
     (passes_next (at receiver.with_sc) (at (receiver.with_sa false)) (last_a false) sa (on ∷ comes false) (on ∷ reaches false) refl
-    (goes_on (at receiver.with_sc) (operator_command (RxSa sci_a 0 0 1 1)) (k (receiver.with_sa false)) refl refl (receiver.creates (salt false) (reads []) false (free false)))
+    (goes_on (at receiver.with_sc) (operator_command (RxSa sci_a 0 0 1 1)) (k (receiver.with_sa false)) refl (receiver.creates (salt false) (reads []) false (free false)))
     (passes_next (at (receiver.with_sa false)) (at (receiver.ready false)) (last_a false) on (comes false) (reaches false) refl
-    (goes_on (at (receiver.with_sa false)) (operator_command (RxOn sci_a 0)) (k (receiver.ready false)) refl refl (receiver.enables (salt false) (reads []) false)) (frames_through false))))
+    (goes_on (at (receiver.with_sa false)) (operator_command (RxOn sci_a 0)) (k (receiver.ready false)) refl (receiver.enables (salt false) (reads []) false)) (frames_through false))))
 commands_through true =
     let at = a_at true [] [] [] in
     let k = k_at true [] in
@@ -397,13 +400,13 @@ commands_through true =
     let sa = command (RxSa sci_a 0 0 1 2) in
     let on = command (RxOn sci_a 0) in
     passes_next (at (start gcm_b)) (at receiver.with_key) (last_a true) key (sc ∷ sa ∷ on ∷ comes true) (sc ∷ sa ∷ on ∷ reaches true) refl
-    (goes_on (at (start gcm_b)) (operator_command (Key (new_key no_salt 2))) (k receiver.with_key) refl refl (command_step (k (start gcm_b)) (Key (new_key no_salt 2)) refl))
+    (goes_on (at (start gcm_b)) (operator_command (Key (new_key no_salt 2))) (k receiver.with_key) refl (command_step (k (start gcm_b)) (Key (new_key no_salt 2)) refl))
     (passes_next (at receiver.with_key) (at receiver.with_sc) (last_a true) sc (sa ∷ on ∷ comes true) (sa ∷ on ∷ reaches true) refl
-    (goes_on (at receiver.with_key) (operator_command (RxSc sci_a)) (k receiver.with_sc) refl refl (command_step (k receiver.with_key) (RxSc sci_a) refl))
+    (goes_on (at receiver.with_key) (operator_command (RxSc sci_a)) (k receiver.with_sc) refl (command_step (k receiver.with_key) (RxSc sci_a) refl))
     (passes_next (at receiver.with_sc) (at (receiver.with_sa true)) (last_a true) sa (on ∷ comes true) (on ∷ reaches true) refl
-    (goes_on (at receiver.with_sc) (operator_command (RxSa sci_a 0 0 1 2)) (k (receiver.with_sa true)) refl refl (receiver.creates (salt false) (reads (saved_1 ∷ [])) true (free true)))
+    (goes_on (at receiver.with_sc) (operator_command (RxSa sci_a 0 0 1 2)) (k (receiver.with_sa true)) refl (receiver.creates (salt false) (reads (saved_1 ∷ [])) true (free true)))
     (passes_next (at (receiver.with_sa true)) (at (receiver.ready true)) (last_a true) on (comes true) (reaches true) refl
-    (goes_on (at (receiver.with_sa true)) (operator_command (RxOn sci_a 0)) (k (receiver.ready true)) refl refl (receiver.enables (salt false) (reads (saved_1 ∷ [])) true)) (frames_through true))))
+    (goes_on (at (receiver.with_sa true)) (operator_command (RxOn sci_a 0)) (k (receiver.ready true)) refl (receiver.enables (salt false) (reads (saved_1 ∷ [])) true)) (frames_through true))))
 
 inside_b : (again : Bool) → run_inside true (run_b again) ≡ inner_b again
 inside_b false = ap (λ (is : List KeepingInput). record (run_b false) { inputs = is }) (commands_through false).is
@@ -461,8 +464,8 @@ two_runs_ahead = record {
 pub first_answer : (ahead_step (a_at false [] [] [] (receiver.ready false)) link_1).0 ≡ dropped_not_reserved (own_row 1)
 first_answer =
     let a = a_at false [] [] [] (receiver.ready false) in
-    ap (λ (j : Judgement). (ahead_by false (standing_by a j None j.row) a (keeping_step a.k link_1)).0) (receiver.judged_1 t opens_1)
-    ∙ ap (λ it. (ahead_by false it a (keeping_step a.k link_1)).0) not_reserved
+    ap (λ (j : Judgement). (ahead_by false (standing_by a j None j.row) a (link_frame (receiver.frame 1 t)) (keeping_step a.k link_1)).0) (receiver.judged_1 t opens_1)
+    ∙ ap (λ it. (ahead_by false it a (link_frame (receiver.frame 1 t)) (keeping_step a.k link_1)).0) not_reserved
 
 pub first_wanted : wanted_to_accept (a_at false [] [] [] (receiver.ready false)) 0 1 (rx_from 1) ≡ Some saved_1
 first_wanted = refl

@@ -1,0 +1,45 @@
+-- The highest end among the first entries, and one more.
+use Rattle.std.proofs.Common.{◌≡◌, ℕ, ◌+◌, ◌<◌, Bool, true, false, List, [], ◌∷◌, ◌++◌, length, take, get_or, ap, sym, ◌∙◌, arith}
+use Rattle.std.proofs.lemmas.List.{take_more}
+use Rattle.std.specs.Prelude.{max, if◌then◌else◌}
+use Rattle.macsec_tag.specs.declared.identifiers.Sci.{Sci}
+use Rattle.macsec_ahead.specs.declared.ends.EndedKey.{EndedKey}
+use Rattle.macsec_ahead.specs.declared.ends.EndedSa.{EndedSa}
+use Rattle.macsec_ahead.specs.Ends.{is_of, is_under, last_end, last_under}
+
+pub last_end-append : (es fs : List EndedSa) (key : ℕ) (sci : Sci) (an : ℕ) → last_end (es ++ fs) key sci an ≡ max (last_end es key sci an) (last_end fs key sci an)
+last_end-append [] fs key sci an = omega arith
+last_end-append (e ∷ es) fs key sci an = by_test (is_of key sci an e) (last_end-append es fs key sci an)
+  where
+    by_test : (b : Bool) → last_end (es ++ fs) key sci an ≡ max (last_end es key sci an) (last_end fs key sci an) →
+        (if b then max e.last (last_end (es ++ fs) key sci an) else last_end (es ++ fs) key sci an) ≡
+        max (if b then max e.last (last_end es key sci an) else last_end es key sci an) (last_end fs key sci an)
+    by_test true rest = omega (arith, rest)
+    by_test false rest = rest
+
+pub last_under-append : (es fs : List EndedKey) (key : ℕ) → last_under (es ++ fs) key ≡ max (last_under es key) (last_under fs key)
+last_under-append [] fs key = omega arith
+last_under-append (e ∷ es) fs key = by_test (is_under key e) (last_under-append es fs key)
+  where
+    by_test : (b : Bool) → last_under (es ++ fs) key ≡ max (last_under es key) (last_under fs key) →
+        (if b then max e.last (last_under (es ++ fs) key) else last_under (es ++ fs) key) ≡ max (if b then max e.last (last_under es key) else last_under es key) (last_under fs key)
+    by_test true rest = omega (arith, rest)
+    by_test false rest = rest
+
+pub last_end-more : (es : List EndedSa) (i : ℕ) (e : EndedSa) (key : ℕ) (sci : Sci) (an before after : ℕ) → i < length es → e ≡ get_or es i e → before ≡ last_end (take i es) key sci an →
+    after ≡ max before (last_end (e ∷ []) key sci an) → after ≡ last_end (take (i + 1) es) key sci an
+last_end-more es i e key sci an before after less is_item is_before is_after =
+    is_after
+    ∙ ap (λ m. max m (last_end (e ∷ []) key sci an)) is_before
+    ∙ sym (last_end-append (take i es) (e ∷ []) key sci an)
+    ∙ ap (λ (x : EndedSa). last_end (take i es ++ x ∷ []) key sci an) is_item
+    ∙ ap (λ fs. last_end fs key sci an) (sym (take_more es i e less))
+
+pub last_under-more : (es : List EndedKey) (i : ℕ) (e : EndedKey) (key before after : ℕ) → i < length es → e ≡ get_or es i e → before ≡ last_under (take i es) key →
+    after ≡ max before (last_under (e ∷ []) key) → after ≡ last_under (take (i + 1) es) key
+last_under-more es i e key before after less is_item is_before is_after =
+    is_after
+    ∙ ap (λ m. max m (last_under (e ∷ []) key)) is_before
+    ∙ sym (last_under-append (take i es) (e ∷ []) key)
+    ∙ ap (λ (x : EndedKey). last_under (take i es ++ x ∷ []) key) is_item
+    ∙ ap (λ fs. last_under fs key) (sym (take_more es i e less))
