@@ -6,7 +6,7 @@ use macsec_secy::{
     An, Command, DropReason, EndConfig, FrameFault, Key, KeyNumber, Mode, NewFault, NewKey,
     Options, RxCounters, Sci, Secy, Sent, Suite, TagForm, Verdict,
 };
-use macsec_vectors::{CLIENT_54, CLIENT_60, KEY_128, LINK_54, LINK_60, SCI};
+use macsec_test_tools::{CLIENT_54, CLIENT_60, KEY_128, LINK_54, LINK_60, SCI};
 use std::alloc::Global;
 use std::process::Abort;
 

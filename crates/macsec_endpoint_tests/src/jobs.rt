@@ -10,7 +10,7 @@ use crate::endpoint::{
 };
 use macsec_secy::laws::jobs_stay;
 use macsec_secy::{Command, OpenedFrame, Planned, Secy, open_frame};
-use macsec_vectors::{CLIENT_54, CLIENT_60, LINK_54, LINK_60};
+use macsec_test_tools::{CLIENT_54, CLIENT_60, LINK_54, LINK_60};
 use std::process::Abort;
 
 /// Whether the job for a client frame makes this link frame, although the SA is gone and its key is retired by then.

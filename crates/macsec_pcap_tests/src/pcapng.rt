@@ -3,7 +3,7 @@
 use crate::words::{
     Row, assert_text, assert_told, compare_all, compare_prefixes, octets, spelled, told,
 };
-use macsec_failing_io::{FailingReader, Fails};
+use macsec_test_tools::{FailingReader, Fails};
 use std::alloc::Global;
 use std::process::Abort;
 use std::test::Fail;

@@ -3,7 +3,7 @@
 use macsec_aes::Key;
 use macsec_suite::{Suite, SuiteKey, iv_of, protect_in_place, validate_in_place};
 use macsec_tag::Sci;
-use macsec_vectors::{
+use macsec_test_tools::{
     CLIENT_54, CLIENT_60, KEY_128, KEY_256, LINK_54, LINK_54_256, LINK_60, LINK_60_256,
     PACKET_NUMBER, SCI,
 };

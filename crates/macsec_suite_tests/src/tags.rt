@@ -3,7 +3,7 @@
 
 use macsec_tag::reading::read;
 use macsec_tag::{An, Read, Sci, SecTag, TagFault};
-use macsec_vectors::{LINK_54, LINK_60, PACKET_NUMBER, SCI};
+use macsec_test_tools::{LINK_54, LINK_60, PACKET_NUMBER, SCI};
 
 /// The SCI of the test frames.
 const SENDER: Sci = Sci(SCI);

@@ -1,7 +1,7 @@
 //! The line of a failure on a device.
 
 use macsec_cli_runs::{Failure, PcapFault, ScriptFault, tell};
-use macsec_failing_io::{FailingWriter, Fails};
+use macsec_test_tools::{FailingWriter, Fails};
 use std::alloc::Global;
 use std::process::Abort;
 

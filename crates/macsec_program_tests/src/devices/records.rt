@@ -1,8 +1,8 @@
 //! Readers and writers of capture files over failing devices.
 
 use super::CLIENT;
-use macsec_failing_io::{FailingReader, FailingWriter, Fails};
 use macsec_pcap::{PcapFault, PcapReader, PcapWriter, Resolution};
+use macsec_test_tools::{FailingReader, FailingWriter, Fails};
 use std::alloc::Global;
 use std::process::Abort;
 

@@ -2,9 +2,10 @@
 
 use super::{CLIENT, LINK, RECEIVER, SCRIPT, SCRIPT_TEXT, SENDER};
 use macsec_capture::{CaptureFault, Direction, run_capture};
-use macsec_failing_io::{FailingReader, FailingWriter, Fails};
 use macsec_script::run_script;
-use macsec_vectors::{COUNTERS_OF_TWO_RECEIVED, COUNTERS_OF_TWO_SENT};
+use macsec_test_tools::{
+    COUNTERS_OF_TWO_RECEIVED, COUNTERS_OF_TWO_SENT, FailingReader, FailingWriter, Fails,
+};
 use std::alloc::Global;
 use std::process::Abort;
 

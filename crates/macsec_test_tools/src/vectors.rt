@@ -1,11 +1,5 @@
-//! The test vectors of IEEE 802.1AE, Annex C, which the tests of several crates use: a client frame of 54 octets,
-//! protected for integrity, and one of 60 octets, protected for confidentiality. Each is protected under a key of 128
-//! bits and under one of 256 bits. This crate also has the counters that a run over a capture prints.
-#![tactic(auto)]
-
-mod counters;
-
-pub use counters::{COUNTERS_OF_TWO_RECEIVED, COUNTERS_OF_TWO_SENT};
+//! The test vectors of IEEE 802.1AE, Annex C: a client frame of 54 octets, protected for integrity, and one of 60
+//! octets, protected for confidentiality. Each is protected under a key of 128 bits and under one of 256 bits.
 
 /// The 128-bit key.
 pub const KEY_128: [u8; 16] = [

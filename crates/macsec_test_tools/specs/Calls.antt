@@ -1,7 +1,7 @@
 -- Which calls of a device fail.
 use Rattle.std.specs.Prelude.{ℕ, Bool, false, nat_eq, nat_le}
-use Rattle.macsec_failing_io.specs.declared.Fails.{Fails}
-use Rattle.macsec_failing_io.specs.declared.Fails.TheVariants.{Never, At, From}
+use Rattle.macsec_test_tools.specs.declared.failing_io.Fails.{Fails}
+use Rattle.macsec_test_tools.specs.declared.failing_io.Fails.TheVariants.{Never, At, From}
 
 -- no call, the call of this number, or each call from this number on
 abbrev pub fails_at : Fails → ℕ → Bool

@@ -1,7 +1,7 @@
 -- What is read is a prefix of the rest. These proofs are here for speed.
 use Rattle.std.proofs.Common.{arith}
 use Rattle.std.proofs.lemmas.Grind.{common_steps}
-use Rattle.macsec_failing_io.proofs.reader.FailingReaderRead.read.Goals as goal
+use Rattle.macsec_test_tools.proofs.failing_io.reader.FailingReaderRead.read.Goals as goal
 
 pub returns-clause-bound : goal.returns-clause-bound
 returns-clause-bound c = grind (arith, common_steps)

@@ -1,14 +1,10 @@
-//! Readers and writers over memory that fail at chosen calls, for tests of code that reads and writes.
-//!
-//! Proved: which calls of a device fail (`Fails::fails_at`). Of a reader exactly these fail; of a writer these, and
-//! maybe others if memory runs out. Also proved: which octets a reader has left and a writer has, and what each shows.
-#![tactic(auto)]
+//! Readers and writers over memory that fail at chosen calls.
 
 mod reader;
 mod writer;
 
 ghost use Rattle.std.specs.Prelude.{◌≡◌};
-ghost use Rattle.macsec_failing_io.specs.Calls.{fails_at};
+ghost use Rattle.macsec_test_tools.specs.Calls.{fails_at};
 
 pub use reader::FailingReader;
 pub use writer::FailingWriter;

@@ -3,9 +3,9 @@
 ghost use Rattle.std.specs.Prelude.{◌≡◌, Some, false, is_err, length};
 ghost use Rattle.std.specs.Io.KnownBytes.{ReadConsumes};
 ghost use Rattle.std.specs.Io.{ReadsAtMost};
-ghost use Rattle.macsec_failing_io.specs.Calls.{fails_at};
+ghost use Rattle.macsec_test_tools.specs.Calls.{fails_at};
 
-use crate::Fails;
+use super::Fails;
 use std::io::{self, Read};
 
 /// A reader over octets, with a maximum number of octets a call, which is at least one. A failing call returns the

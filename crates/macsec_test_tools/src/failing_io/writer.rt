@@ -3,9 +3,9 @@
 ghost use Rattle.std.specs.Prelude.{◌≡◌, [], IfOk, Some, false, is_err};
 ghost use Rattle.std.specs.Io.KnownBytes.{Keeps, WriteAppends};
 ghost use Rattle.std.specs.Io.{WritesAtMost};
-ghost use Rattle.macsec_failing_io.specs.Calls.{fails_at};
+ghost use Rattle.macsec_test_tools.specs.Calls.{fails_at};
 
-use crate::Fails;
+use super::Fails;
 use std::alloc::Global;
 use std::io::{self, Write};
 
