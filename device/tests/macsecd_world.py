@@ -21,6 +21,9 @@ from house.reporting import Failed, call, report, until
 
 LIBC = ctypes.CDLL(None, use_errno=True)
 SANITIZED = [*compiling.SANITIZED, "-O1", "-DMACSECD_UNFILTERED"]
+# As the Makefile links it. Else the first call of a function stores the vector registers on the stack of its thread, and
+# a new thread has those of the thread that has made it, in which parts of a key can be.
+BOUND = ["-Wl,-z,relro", "-Wl,-z,now"]
 ALL_FRAMES = socket.htons(3)
 SOL_PACKET, PACKET_AUXDATA, VLAN_VALID = 263, 8, 1 << 4
 SALT = "0102030405060708090a0b0c"
@@ -37,7 +40,7 @@ def build(
     """Builds macsecd and macsecctl of a folder of sources. What wraps calls is for macsecd alone. Returns the folder of
     the programs."""
     out.mkdir(parents=True, exist_ok=True)
-    words = ["gcc", *WARNINGS, "-pedantic", "-pthread", "-O2", *options, *INCLUDED, "-I", str(source)]
+    words = ["gcc", *WARNINGS, "-pedantic", "-pthread", "-O2", *BOUND, *options, *INCLUDED, "-I", str(source)]
     call(*words, *wrapped, "-o", str(out / "macsecd"), *device_sources(source), str(library))
     call(*words, "-o", str(out / "macsecctl"), str(source / "macsecctl.c"))
     return out
