@@ -72,6 +72,18 @@ def echoes(end: End, count: int, at_once: int) -> int:
     return replies
 
 
+def at_rest(world: World) -> list[int]:
+    """The same of both ends, once it stays as it is."""
+    before: list[int] = []
+    for _ in range(50):
+        now = [wakes(end) for end in world.ends]
+        if now == before:
+            break
+        before = now
+        time.sleep(0.3)
+    return before
+
+
 def check_rest(world: World) -> None:
     """Frames that come alone, or a few at once, wake no worker. Many do."""
     a = world.ends[0]
@@ -79,8 +91,7 @@ def check_rest(world: World) -> None:
         end.workers = 3
     world.start()
     report(echoes(a, 12, 4) == 12, "no replies with workers")
-    time.sleep(0.5)
-    before = [wakes(end) for end in world.ends]
+    before = at_rest(world)
     report(echoes(a, 100, 1) + echoes(a, 400, 4) == 500, "no replies with workers that sleep")
     rest = [wakes(end) for end in world.ends]
     report(rest == before, f"few frames wake workers: {rest} and before {before}")
