@@ -182,7 +182,21 @@ class Guest:
         return words
 
     def start(self) -> None:
-        """Starts it, and waits until it carries out commands."""
+        """Starts it, and waits until it carries out commands. An emulated one that gets no processor for some seconds can
+        lose its disk while its kernel starts: then it is started again."""
+        for left in range(1 if SLOWER == 1 else 3)[::-1]:
+            try:
+                self.start_once()
+                break
+            except Failed as why:
+                if left == 0:
+                    raise
+                print(f"device-installed: the machine is started again: {why}", flush=True)
+                self.stop()
+        self.run("mount -o ro /dev/vdb /packages")
+
+    def start_once(self) -> None:
+        """Starts it."""
         for name in ("line", "qmp"):
             (self.folder / name).unlink(missing_ok=True)
         with open(self.folder / "qemu.log", "ab") as log:
@@ -190,7 +204,6 @@ class Guest:
         self.line, self.kept = self.connected("line"), b""
         if not self.answer(300 * SLOWER).get("ready"):
             raise Failed("the machine does not start")
-        self.run("mount -o ro /dev/vdb /packages")
 
     def connected(self, name: str) -> socket.socket:
         """A connection to one of qemu's sockets."""
