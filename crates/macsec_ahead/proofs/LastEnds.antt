@@ -1,11 +1,13 @@
--- The highest end among the first entries, and one more.
-use Rattle.std.proofs.Common.{◌≡◌, ℕ, ◌+◌, ◌<◌, Bool, true, false, List, [], ◌∷◌, ◌++◌, length, take, get_or, ap, sym, ◌∙◌, arith}
-use Rattle.std.proofs.lemmas.List.{take_more}
+-- The highest end among the first entries, and one more; the ends of one more SA.
+use Rattle.std.proofs.Common.{◌≡◌, ℕ, ◌+◌, ◌<◌, Bool, true, false, cond, List, [], ◌∷◌, ◌++◌, length, map, filter, take, drop, get_or, refl, ap, sym, ◌∙◌, arith}
+use Rattle.std.proofs.lemmas.List.{drop_more, take_more}
 use Rattle.std.specs.Prelude.{max, if◌then◌else◌}
 use Rattle.macsec_tag.specs.declared.identifiers.Sci.{Sci}
 use Rattle.macsec_ahead.specs.declared.ends.EndedKey.{EndedKey}
 use Rattle.macsec_ahead.specs.declared.ends.EndedSa.{EndedSa}
-use Rattle.macsec_ahead.specs.Ends.{is_of, is_under, last_end, last_under}
+use Rattle.macsec_rx.specs.declared.RxRow.{RxRow}
+use Rattle.macsec_secy.specs.State.{State}
+use Rattle.macsec_ahead.specs.Ends.{Ends, ended_of, ends_among, is_gone, is_of, is_under, last_end, last_under, with_ends}
 
 pub last_end-append : (es fs : List EndedSa) (key : ℕ) (sci : Sci) (an : ℕ) → last_end (es ++ fs) key sci an ≡ max (last_end es key sci an) (last_end fs key sci an)
 last_end-append [] fs key sci an = omega arith
@@ -43,3 +45,19 @@ last_under-more es i e key before after less is_item is_before is_after =
     ∙ sym (last_under-append (take i es) (e ∷ []) key)
     ∙ ap (λ (x : EndedKey). last_under (take i es ++ x ∷ []) key) is_item
     ∙ ap (λ fs. last_under fs key) (sym (take_more es i e less))
+
+-- the ends of the first of the other SAs, and then those of the rest
+pub ends_one_more : (s : State) (rows : List RxRow) (i : ℕ) (row : RxRow) (t after : Ends) → i < length rows → row ≡ get_or rows i row → after ≡ with_ends (ends_among s (row ∷ [])) t →
+    with_ends (ends_among s (drop i rows)) t ≡ with_ends (ends_among s (drop (i + 1) rows)) after
+ends_one_more s rows i row t after less is_row is_after =
+    ap (λ (rs : List RxRow). with_ends (ends_among s rs) t) (drop_more rows i row less ∙ ap (λ (r : RxRow). r ∷ rest) (sym is_row))
+    ∙ by_test (is_gone s row)
+    ∙ ap (λ (u : Ends). with_ends (ends_among s rest) u) (sym is_after)
+  where
+    rest : List RxRow
+    rest = drop (i + 1) rows
+
+    by_test : (b : Bool) → with_ends (map ended_of (cond b (row ∷ filter (is_gone s) rest) (filter (is_gone s) rest))) t ≡
+        with_ends (ends_among s rest) (with_ends (map ended_of (cond b (row ∷ []) [])) t)
+    by_test true = refl
+    by_test false = refl

@@ -1,1 +1,4 @@
 pub mod LastEnds
+pub mod Entries
+pub mod Standings
+pub mod Commands

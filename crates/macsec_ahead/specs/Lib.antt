@@ -1,2 +1,5 @@
 pub mod Ends
 pub mod Ahead
+pub mod Space
+pub mod Answers
+pub mod Rests

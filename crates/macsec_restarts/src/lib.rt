@@ -11,7 +11,7 @@
 //! - `accepts_in_time`: a frame of one run is accepted by a run of the other end.
 //!
 //! Proved of an endpoint that remembers where the SAs ended that it deleted, and that can reserve packet numbers ahead of
-//! receiving (defined in `macsec_ahead`; no call has this yet):
+//! receiving (`macsec_ahead`):
 //! - `is_keeping_inside`, `lists_each_delivery_ahead`: it takes the steps of the keeping endpoint inside, or nothing changes;
 //!   what is delivered is listed once.
 //! - `accepts_above`: a run accepts only packet numbers that are reserved, and a later run only such above those that an

@@ -1,0 +1,26 @@
+-- The ends of the SAs that are gone are added, and those of a key that is retired removed.
+use Rattle.std.proofs.Common.{◌≡◌, false, ap, sym, ◌∙◌}
+use Rattle.macsec_secy.specs.State.{State}
+use Rattle.macsec_secy.specs.Step.{operator_command}
+use Rattle.macsec_reserve.specs.Forgetting.{forgetting_step}
+use Rattle.macsec_reserve.specs.Keeping.{endpoint_input}
+use Rattle.macsec_ahead.specs.contracts.keeper.AheadKeeper.{the_view}
+use Rattle.macsec_ahead.specs.Ahead.{Ahead, begins_again, command_forgetting, kept}
+use Rattle.macsec_ahead.proofs.Commands.{answer_of, state_of}
+use Rattle.macsec_ahead.proofs.keeper.AheadKeeper.command_forgetting.Goals as goal
+
+pub returns : goal.returns
+returns c =
+    let a = the_view c.self.inside in
+    let command = c.args.command.now in
+    let input = endpoint_input (operator_command command) in
+    let answer = forgetting_step a.k input in
+    let again = begins_again a (operator_command command) in
+    let fresh : again ≡ false = ap (λ (x : Ahead). begins_again x (operator_command command)) c.self.view_is ∙ sym c.begins_again.ensures ∙ c.if-begins_again.false in
+    let rows = c.as_slice-rows.ensures.value ∙ c.copy_rows.ensures.items ∙ ap (λ (s : State). s.rx.rows) c.secy.ensures in
+    record {
+      output = ap kept c.command_forgetting-done.ensures.output ∙ answer_of a command answer again fresh ∙ ap (λ (x : Ahead). (command_forgetting x command).0) c.self.view_is;
+      after = state_of a command answer again c.command_forgetting-done.result c.command_forgetting-done.new.self c.secy-2.result.now c.add_ends.new.ended c.has_journal-keeps.result c.is_ok.result c.as_slice-rows.result.now
+          fresh c.command_forgetting-done.ensures.output c.command_forgetting-done.ensures.after c.secy-2.ensures c.has_journal-keeps.ensures rows c.is_ok.ensures.value c.add_ends.ensures
+          ∙ ap (λ (x : Ahead). (command_forgetting x command).1) c.self.view_is;
+    }

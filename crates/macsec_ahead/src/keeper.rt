@@ -1,0 +1,487 @@
+//! The endpoint.
+
+ghost use Rattle.std.specs.Prelude.{◌≡◌, ◌≤◌, ◌+◌, ◌∷◌, [], ◌++◌, map, length, true, is_some, IfOk, option_and_then, vec_capacity, vec_len, if◌then◌else◌};
+ghost use Rattle.std.specs.Borrow.{sem};
+ghost use Rattle.macsec_tag.specs.Limits.{max_frame_len};
+ghost use Rattle.macsec_rx.specs.Channels.{rx_row};
+ghost use Rattle.macsec_rx.specs.Limits.{max_row_count};
+ghost use Rattle.macsec_secy.specs.Accepting.{number_to_accept};
+ghost use Rattle.macsec_secy.specs.Answers.{output_of_command};
+ghost use Rattle.macsec_secy.specs.Jobs.{OpensFrame};
+ghost use Rattle.macsec_secy.specs.Step.{client_frame, link_frame, operator_command};
+ghost use Rattle.macsec_reserve.specs.Answers.{output_of_kept};
+ghost use Rattle.macsec_reserve.specs.Entries.{raised_by};
+ghost use Rattle.macsec_reserve.specs.Keeping.{endpoint_input, endpoint_output, now_durable};
+ghost use Rattle.macsec_ahead.specs.Ahead.{ahead_step, begins_again, command_forgetting, entry_for, floor_of, kept, passes, standing, standing_of, wanted_to_accept};
+ghost use Rattle.macsec_ahead.specs.Answers.{MakesAhead, MakesAloneWith, PlansAhead, output_of_ahead, shown, standing_unopened};
+ghost use Rattle.macsec_ahead.specs.Ends.{after_retiring, ends_among, no_ends, with_ends, without_key};
+ghost use Rattle.macsec_ahead.specs.Rests.{RestsAs};
+
+use crate::answers::PnStanding;
+use crate::ends::ended_of;
+use crate::{AheadReceived, EndTable, RxPn};
+use macsec_reserve::{
+    Keeper, KeptPlan, KeptSent, OpenFault, Reservation, highest, raise, wanted_last,
+};
+use macsec_secy::{
+    An, Command, EndConfig, FrameFault, KeyNumber, MAX_FRAME_LEN, NewFault, OpenedFrame, Refusal,
+    RxRow, Sci, Secy,
+};
+use std::alloc::{AllocError, Global};
+use std::marker::Model;
+use std::mem::swap;
+
+/// How many receive SAs an endpoint can have.
+const MAX_ROW_COUNT: usize = 256;
+
+/// An endpoint that uses a packet number only if it has reserved it, and with the option `ahead` also accepts one only
+/// then. It creates no receive SA again at or below where it deleted the SA.
+#[derive(Drop)]
+pub struct AheadKeeper {
+    /// The keeping endpoint.
+    keeper: Keeper,
+    /// Does it reserve ahead of receiving?
+    ahead: bool,
+    /// What was reported durable for its receive SAs, an entry for each SA that there was at the last report.
+    taken: Vec<Reservation>,
+    /// Space for the entries of the next report.
+    spare: Vec<Reservation>,
+    /// Where deleted SAs ended.
+    ended: EndTable,
+    /// Space for the SAs as they are before a command.
+    rows: Vec<RxRow>,
+}
+
+impl Model for AheadKeeper {
+    ghost use Rattle.std.specs.Prelude.{vec_capacity};
+    ghost use Rattle.macsec_ahead.specs.Ahead.{Ahead};
+    ghost use Rattle.macsec_ahead.specs.Space.{HasSpace};
+
+    ghost Value = { Ahead };
+
+    ghost view = { λ a. record { k = a.keeper; ahead = a.ahead; taken = a.taken.items; ended = a.ended } };
+
+    // There is space for the SAs that there can be.
+    ghost invariant = { λ a. HasSpace (vec_capacity a.taken) (vec_capacity a.spare) (vec_capacity a.rows) };
+}
+
+impl AheadKeeper {
+    /// An endpoint of this configuration without a journal. Nothing remembers which packet numbers it uses or accepts.
+    pub fn new(alloc: Global, config: EndConfig) -> Result<AheadKeeper, NewFault>
+        ensures { MakesAloneWith config result }
+    {
+        let keeper = match Keeper::new(alloc, config) {
+            Ok(keeper) => keeper,
+            Err(fault) => return Err(fault),
+        };
+        let Ok(made) = AheadKeeper::with(alloc, keeper, false) else {
+            return Err(NewFault::Memory);
+        };
+        Ok(made)
+    }
+
+    /// An endpoint of this configuration, beside a journal with these octets. With `ahead` it reserves packet numbers ahead
+    /// of receiving.
+    pub fn open(
+        alloc: Global,
+        config: EndConfig,
+        journal: &[u8],
+        ahead: bool,
+    ) -> Result<AheadKeeper, OpenFault>
+        ensures { MakesAhead ahead config journal.now result }
+    {
+        let keeper = match Keeper::open(alloc, config, journal) {
+            Ok(keeper) => keeper,
+            Err(fault) => return Err(fault),
+        };
+        let Ok(made) = AheadKeeper::with(alloc, keeper, ahead) else {
+            return Err(OpenFault::Memory);
+        };
+        Ok(made)
+    }
+
+    /// A keeping endpoint with nothing reserved for its SAs, and none deleted.
+    fn with(alloc: Global, keeper: Keeper, ahead: bool) -> Result<AheadKeeper, AllocError>
+        ensures { IfOk result (λ a. a ≡ record { k = keeper; ahead = ahead; taken = []; ended = no_ends }) }
+    {
+        let taken = Vec::with_capacity(alloc, MAX_ROW_COUNT)?;
+        let spare = Vec::with_capacity(alloc, MAX_ROW_COUNT)?;
+        let ended = EndTable::new(alloc)?;
+        let rows = Vec::with_capacity(alloc, MAX_ROW_COUNT)?;
+        Ok(AheadKeeper {
+            keeper,
+            ahead,
+            taken,
+            spare,
+            ended,
+            rows,
+        })
+    }
+
+    /// The keeping endpoint, for the calls that change nothing.
+    pub fn keeper(&self) -> &Keeper
+        ensures { result.now ≡ self.now.k }
+    {
+        &self.keeper
+    }
+
+    /// Says whether key streams are to be made 16 blocks at once, as `Secy::prefer_wide`.
+    pub fn prefer_wide(&mut self, wide: bool)
+        ensures { self.new ≡ self.old }
+    {
+        self.keeper.prefer_wide(wide);
+    }
+
+    /// Transmits a client frame, as `Keeper::send`.
+    pub fn send<'a>(&'a mut self, frame: &'a [u8]) -> Result<KeptSent<'a>, FrameFault>
+        ensures* after { sem 𝓛 (RestsAs self.entry (ahead_step self.old (endpoint_input (client_frame frame.now))).1) }
+        ensures output { kept (output_of_kept result) ≡ (ahead_step self.old (endpoint_input (client_frame frame.now))).0 }
+    {
+        self.keeper.send(frame)
+    }
+
+    /// Plans a client frame, as `Keeper::plan_send`.
+    pub fn plan_send<'a>(&mut self, frame: &'a [u8]) -> Result<KeptPlan<'a>, FrameFault>
+        ensures after { self.new ≡ (ahead_step self.old (endpoint_input (client_frame frame.now))).1 }
+        ensures output { PlansAhead result self.new.k.secy.keys frame.now (ahead_step self.old (endpoint_input (client_frame frame.now))).0 }
+    {
+        self.keeper.plan_send(frame)
+    }
+
+    /// Receives a link frame, as `Keeper::receive`. With the option, a valid frame is dropped if its packet number is not
+    /// reserved in this run. The delivered frame is in `out`, which has `MAX_FRAME_LEN` octets or more.
+    pub fn receive<'a>(
+        &mut self,
+        frame: &'a [u8],
+        out: &'a mut [u8],
+    ) -> Result<AheadReceived<'a>, FrameFault>
+        requires { max_frame_len ≤ length out.old }
+        ensures after { self.new ≡ (ahead_step self.old (endpoint_input (link_frame frame.now))).1 }
+        ensures output { output_of_ahead result ≡ (ahead_step self.old (endpoint_input (link_frame frame.now))).0 }
+    {
+        self.finish_receive(frame, &None, out)
+    }
+
+    /// Receives a link frame that was opened before, or not, as `Keeper::finish_receive`. With the option, a valid frame is
+    /// dropped if its packet number is not reserved in this run.
+    pub fn finish_receive<'a>(
+        &mut self,
+        frame: &'a [u8],
+        opened: &Option<OpenedFrame>,
+        out: &'a mut [u8],
+    ) -> Result<AheadReceived<'a>, FrameFault>
+        requires room { max_frame_len ≤ length out.old }
+        requires opened { OpensFrame opened.now self.old.k.secy.keys frame.now out.old }
+        ensures after { self.new ≡ (ahead_step self.old (endpoint_input (link_frame frame.now))).1 }
+        ensures output { output_of_ahead result ≡ (ahead_step self.old (endpoint_input (link_frame frame.now))).0 }
+    {
+        match self.standing(frame) {
+            PnStanding::NotYet(pn) => Ok(AheadReceived::NoReservation(pn)),
+            PnStanding::BeforeThisRun(pn) => Ok(AheadReceived::BeforeThisRun(pn)),
+            PnStanding::Passes => match self.keeper.finish_receive(frame, opened, out) {
+                Ok(received) => Ok(AheadReceived::Received(received)),
+                Err(fault) => Err(fault),
+            },
+        }
+    }
+
+    /// Whether a link frame may be accepted, if it is valid. A frame is opened here only if its packet number is not
+    /// reserved: then it is dropped only if its ICV is valid.
+    fn standing(&self, frame: &[u8]) -> PnStanding
+        ensures { shown result ≡ standing self.now (link_frame frame.now) }
+    {
+        let it = self.standing_unopened(frame);
+        if is_passing(&it) {
+            return it;
+        }
+        if_valid(it, self.is_accepted(frame))
+    }
+
+    /// Would the keeping endpoint accept the packet number of a frame? This opens the frame and changes nothing.
+    fn is_accepted(&self, frame: &[u8]) -> bool
+        ensures { result ≡ is_some (number_to_accept self.now.k.secy frame.now) }
+    {
+        let mut out = [0; MAX_FRAME_LEN];
+        self.keeper
+            .secy()
+            .number_to_accept(frame, &mut out)
+            .is_some()
+    }
+
+    /// Whether the packet number of a frame may be accepted, whether the frame is valid or not.
+    fn standing_unopened(&self, frame: &[u8]) -> PnStanding
+        ensures { shown result ≡ standing_unopened self.now frame.now }
+    {
+        if !self.ahead {
+            return PnStanding::Passes;
+        }
+        match self.keeper.secy().row_and_number(frame) {
+            None => PnStanding::Passes,
+            Some((row, number)) => self.standing_of(&row, number),
+        }
+    }
+
+    /// Whether a packet number of an SA may be accepted.
+    fn standing_of(&self, row: &RxRow, number: u64) -> PnStanding
+        requires { self.now.ahead ≡ true }
+        ensures { shown result ≡ standing_of self.now row.now number }
+    {
+        let name = self.keeper.name_of_row(row);
+        let at = RxPn {
+            sci: row.sci,
+            an: row.an,
+            number,
+        };
+        if number <= self.keeper.reserved_before(&name) {
+            PnStanding::BeforeThisRun(at)
+        } else if number <= highest(self.taken.as_slice(), &name) {
+            PnStanding::Passes
+        } else {
+            PnStanding::NotYet(at)
+        }
+    }
+
+    /// Notes that a reservation is durable: its record is on stable storage, where every later run will read it. One for a
+    /// name of no key and of no receive SA reserves nothing in this run.
+    pub fn now_durable(&mut self, reservation: &Reservation)
+        ensures { self.new ≡ (ahead_step self.old (now_durable reservation.now)).1 }
+    {
+        report(
+            &mut self.spare,
+            self.taken.as_slice(),
+            &self.keeper,
+            reservation,
+        );
+        swap(&mut self.taken, &mut self.spare);
+        self.keeper.now_durable(reservation);
+    }
+
+    /// The reservation to make durable next, to accept up to `amount` packet numbers after `next` from the receive SA of this
+    /// SCI and association number, if fewer than half of them are reserved. `next` is the SA's next packet number, or that of
+    /// a frame that was dropped.
+    pub fn wanted_to_accept(&self, sci: Sci, an: An, amount: u64, next: u128) -> Option<Reservation>
+        ensures { result ≡ option_and_then (wanted_to_accept self.now amount next) (rx_row self.now.k.secy.rx.rows sci an) }
+    {
+        match self.keeper.secy().rx_row(sci, an) {
+            None => None,
+            Some(row) => self.wanted_for(&row, amount, next),
+        }
+    }
+
+    /// The reservation to make durable next for an SA.
+    fn wanted_for(&self, row: &RxRow, amount: u64, next: u128) -> Option<Reservation>
+        ensures { result ≡ wanted_to_accept self.now amount next row.now }
+    {
+        let name = self.keeper.name_of_row(row);
+        let reserved = highest(self.taken.as_slice(), &name);
+        match wanted_last(reserved, next, amount) {
+            None => None,
+            Some(last) => Some(Reservation { name, last }),
+        }
+    }
+
+    /// The highest packet number that an earlier run may have accepted, or this run before it deleted the SA, from the receive
+    /// SA of this SCI and association number under the key of this number: 0 if none, `None` if there is no such key. The
+    /// SA begins above it.
+    pub fn rx_floor(&self, sci: Sci, an: An, key: KeyNumber) -> Option<u64>
+        ensures { result ≡ floor_of sci an self.now key }
+    {
+        match self.keeper.rx_floor(sci, an, key) {
+            None => None,
+            Some(last) => Some(last.max(self.ended.end_of(key, sci, an))),
+        }
+    }
+
+    /// Carries out a management command, as `Keeper::command`. A receive SA that this run deleted does not begin again at or
+    /// below its end: that is refused with `PnFloor`, before any other refusal.
+    pub fn command(&mut self, command: &Command) -> Result<(), Refusal>
+        ensures output { kept (endpoint_output (output_of_command result)) ≡ (ahead_step self.old (endpoint_input (operator_command command.now))).0 }
+        ensures after { self.new ≡ (ahead_step self.old (endpoint_input (operator_command command.now))).1 }
+    {
+        if self.begins_again(command) {
+            return Err(Refusal::PnFloor);
+        }
+        let keeps = self.keeper.has_journal();
+        copy_rows(&mut self.rows, self.keeper.secy());
+        let done = self.keeper.command(command);
+        let rows = self.rows.as_slice();
+        add_ends(
+            &mut self.ended,
+            self.keeper.secy(),
+            rows,
+            keeps,
+            command,
+            done.is_ok(),
+        );
+        done
+    }
+
+    /// Carries out a management command, as `command`, and forgets a key that it retires, as `Keeper::command_forgetting`.
+    pub fn command_forgetting(&mut self, command: &Command) -> Result<(), Refusal>
+        ensures output { kept (endpoint_output (output_of_command result)) ≡ (command_forgetting self.old command.now).0 }
+        ensures after { self.new ≡ (command_forgetting self.old command.now).1 }
+    {
+        if self.begins_again(command) {
+            return Err(Refusal::PnFloor);
+        }
+        let keeps = self.keeper.has_journal();
+        copy_rows(&mut self.rows, self.keeper.secy());
+        let done = self.keeper.command_forgetting(command);
+        let rows = self.rows.as_slice();
+        add_ends(
+            &mut self.ended,
+            self.keeper.secy(),
+            rows,
+            keeps,
+            command,
+            done.is_ok(),
+        );
+        done
+    }
+
+    /// Does a command create an SA again at a packet number that this run may have accepted from it?
+    fn begins_again(&self, command: &Command) -> bool
+        ensures { result ≡ begins_again self.now (operator_command command.now) }
+    {
+        match *command {
+            Command::RxSa {
+                sci,
+                an,
+                key,
+                lowest,
+                ..
+            } => 0 < lowest && lowest <= self.ended.end_of(key, sci, an),
+            _ => false,
+        }
+    }
+}
+
+/// May a packet number be accepted?
+fn is_passing(it: &PnStanding) -> bool
+    ensures { result ≡ true → shown it.now ≡ passes }
+{
+    match *it {
+        PnStanding::Passes => true,
+        PnStanding::NotYet(_) | PnStanding::BeforeThisRun(_) => false,
+    }
+}
+
+/// Whether a frame may be accepted, by its packet number: an invalid one is left to the endpoint.
+fn if_valid(it: PnStanding, is_valid: bool) -> PnStanding
+    ensures { shown result ≡ (if is_valid then shown it else passes) }
+{
+    if is_valid { it } else { PnStanding::Passes }
+}
+
+/// Makes an entry for each receive SA, with what was reported durable for it before and now.
+fn report(entries: &mut Vec<Reservation>, taken: &[Reservation], keeper: &Keeper, by: &Reservation)
+    requires { max_row_count ≤ vec_capacity entries.old }
+    ensures items { entries.new.items ≡ map (raised_by by.now) (map (entry_for keeper.now taken.now) keeper.now.secy.rx.rows) }
+    ensures space { vec_capacity entries.old ≤ vec_capacity entries.new }
+{
+    entries.clear();
+    append_entries(entries, keeper.secy().rx_rows(), taken, keeper);
+    raise(entries.as_mut_slice(), by);
+}
+
+/// Appends an entry for each of these SAs.
+fn append_entries(
+    entries: &mut Vec<Reservation>,
+    rows: &[RxRow],
+    taken: &[Reservation],
+    keeper: &Keeper,
+)
+    requires { vec_len entries.old + length rows.now ≤ vec_capacity entries.old }
+    ensures items { entries.new.items ≡ entries.old.items ++ map (entry_for keeper.now taken.now) rows.now }
+    ensures space { vec_capacity entries.old ≤ vec_capacity entries.new }
+{
+    for row in rows {
+        entries.push(entry_for(row, taken, keeper)).unwrap();
+    }
+}
+
+/// The entry of an SA.
+fn entry_for(row: &RxRow, taken: &[Reservation], keeper: &Keeper) -> Reservation
+    ensures { result ≡ entry_for keeper.now taken.now row.now }
+{
+    let name = keeper.name_of_row(row);
+    let last = highest(taken, &name);
+    Reservation { name, last }
+}
+
+/// Takes a copy of the receive SAs.
+fn copy_rows(rows: &mut Vec<RxRow>, secy: &Secy)
+    requires { max_row_count ≤ vec_capacity rows.old }
+    ensures items { rows.new.items ≡ secy.now.rx.rows }
+    ensures space { vec_capacity rows.old ≤ vec_capacity rows.new }
+{
+    rows.clear();
+    append_rows(rows, secy.rx_rows());
+}
+
+/// Appends these SAs.
+fn append_rows(rows: &mut Vec<RxRow>, more: &[RxRow])
+    requires { vec_len rows.old + length more.now ≤ vec_capacity rows.old }
+    ensures items { rows.new.items ≡ rows.old.items ++ more.now }
+    ensures space { vec_capacity rows.old ≤ vec_capacity rows.new }
+{
+    for row in more {
+        rows.push(*row).unwrap();
+    }
+}
+
+/// What a command leaves in the table of ends, beside a journal. `rows` are the SAs before it, and `secy` is the endpoint
+/// after it.
+fn add_ends(
+    ended: &mut EndTable,
+    secy: &Secy,
+    rows: &[RxRow],
+    keeps: bool,
+    command: &Command,
+    done: bool,
+)
+    ensures { ended.new ≡ (if keeps then after_retiring command.now done (with_ends (ends_among secy.now rows.now) ended.old) else ended.old) }
+{
+    if !keeps {
+        return;
+    }
+    add_each_end(ended, secy, rows);
+    remove_retired(ended, command, done);
+}
+
+/// Removes the ends of the key that a command has retired, if it is such a command.
+fn remove_retired(ended: &mut EndTable, command: &Command, done: bool)
+    ensures { ended.new ≡ after_retiring command.now done ended.old }
+{
+    let Command::Retire(key) = *command else {
+        return;
+    };
+    remove_if(ended, key, done);
+}
+
+/// Removes the ends of a key, if it is retired.
+fn remove_if(ended: &mut EndTable, key: KeyNumber, done: bool)
+    ensures { ended.new ≡ (if done then without_key key ended.old else ended.old) }
+{
+    if done {
+        ended.remove(key);
+    }
+}
+
+/// Adds the ends of those of these SAs that are not there.
+fn add_each_end(ended: &mut EndTable, secy: &Secy, rows: &[RxRow])
+    ensures { ended.new ≡ with_ends (ends_among secy.now rows.now) ended.old }
+{
+    for row in rows {
+        add_end(ended, secy, row);
+    }
+}
+
+/// Adds the end of an SA that is not there.
+fn add_end(ended: &mut EndTable, secy: &Secy, row: &RxRow)
+    ensures { ended.new ≡ with_ends (ends_among secy.now (row.now ∷ [])) ended.old }
+{
+    if secy.rx_row(row.sci, row.an).is_none() {
+        ended.add(&ended_of(row));
+    }
+}
