@@ -345,16 +345,17 @@ int journal_make_endpoint(struct journal *journal, macsec_endpoint *e, const mac
                           struct journal_fault *fault) {
     if (check_endpoint(journal, NULL, fault) != 0)
         return -1;
-    return give(journal, e, macsec_reserve_open(e, config, journal->octets, journal->length), fault);
+    return give(journal, e, macsec_reserve_open(e, config, journal->octets, journal->length, false), fault);
 }
 
 int journal_configure(struct journal *journal, macsec_endpoint *e, const char *text, size_t length, uint32_t *line,
                       struct journal_fault *fault) {
     if (check_endpoint(journal, NULL, fault) != 0)
         return -1;
-    return give(journal, e,
-                macsec_reserve_configure(e, (const uint8_t *)text, length, journal->octets, journal->length, line),
-                fault);
+    return give(
+        journal, e,
+        macsec_reserve_configure(e, (const uint8_t *)text, length, journal->octets, journal->length, false, line),
+        fault);
 }
 
 void journal_hand_over(struct journal *journal, const macsec_endpoint *next) {

@@ -106,7 +106,7 @@ static uint32_t show_journal(const struct keys *k, macsec_endpoint *e, const uin
     struct words w;
     if (!next_line(&text, &left, &line, &end, &w))
         return MACSEC_E_EMPTY;
-    status = macsec_reserve_configure(e, (const uint8_t *)line, end, octets, length, &number);
+    status = macsec_reserve_configure(e, (const uint8_t *)line, end, octets, length, false, &number);
     while (status == MACSEC_OK && next_line(&text, &left, &line, &end, &w))
         if (words_is(&w, 0, "A") && words_is(&w, 1, "key"))
             (void)macsec_command_line(e, (const uint8_t *)line, end);

@@ -410,7 +410,8 @@ bool numbers_close(struct numbers *n, macsec_endpoint *e) {
 
 uint32_t numbers_configure_empty(const struct numbers *n, macsec_endpoint *e, const char *line, size_t length) {
     uint32_t number;
-    return macsec_reserve_configure(e, (const uint8_t *)line, length, n->names.header, sizeof n->names.header, &number);
+    return macsec_reserve_configure(e, (const uint8_t *)line, length, n->names.header, sizeof n->names.header, false,
+                                    &number);
 }
 
 uint32_t numbers_configure(const struct numbers *n, macsec_endpoint *e, const char *line, size_t length,
@@ -421,7 +422,7 @@ uint32_t numbers_configure(const struct numbers *n, macsec_endpoint *e, const ch
     if (journal == NULL)
         return MACSEC_E_MEMORY;
     octets = names_copy(&n->names, instead, count, journal);
-    status = macsec_reserve_configure(e, (const uint8_t *)line, length, journal, octets, &number);
+    status = macsec_reserve_configure(e, (const uint8_t *)line, length, journal, octets, false, &number);
     free(journal);
     return status;
 }

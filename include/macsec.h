@@ -36,8 +36,8 @@
  *            (MACSEC_E_EMPTY, MACSEC_E_TAKEN), then the arguments (MACSEC_E_NO_SUCH_..), then the rest. If several
  *            statuses of arguments apply, or several refusals of a command, the call returns the lowest; but
  *            MACSEC_E_PN_FLOOR comes first where a journal is the reason.
- * MEMORY     macsec_new allocates seven blocks by malloc, 19.0 MB in all: four for 4,096 keys, one for a frame, two for
- *            the rest. macsec_free frees them. macsec_configure allocates the same, and so do macsec_reserve_open and
+ * MEMORY     macsec_new allocates twelve blocks by malloc, 19.0 MB in all: four for 4,096 keys, one for a frame, seven
+ *            for the rest. macsec_free frees them. macsec_configure allocates the same, and so do macsec_reserve_open and
  *            macsec_reserve_configure, with one more for a journal that has records. macsec_key_take allocates one
  *            block, and macsec_slot_new three. macsec_configure, macsec_reserve_configure, macsec_command_line and
  *            macsec_answer also allocate while they read their text, macsec_answer while it composes counters and
@@ -78,13 +78,12 @@
  *            MACSEC_RECEIVED_INIT are.
  *
  * Proved with Rattle: each call creates an endpoint, takes it out of its handle, is one step of the written machine
- * (crates/macsec_secy/specs/Step.antt; with a journal, Keeping.antt in crates/macsec_reserve/specs; a command, with or
- * without a journal, Forgetting.antt there), or reads its state, for the arguments that C gave; or it takes the steps
- * that the lines of a text say. Each call reads and writes only
- * what it was given, and returns. A reader that finds nothing leaves its output struct unchanged. Measured or tested,
- * not proved: sizes and stack, that macsec_free frees each block, that memory is overwritten, and which calls allocate.
- * Not proved: this header and its inline functions, which a script compares with the library's source; C's side of what
- * it says; malloc; the compilers.
+ * (crates/macsec_secy/specs/Step.antt; with a journal, ahead_step of crates/macsec_ahead/specs/Ahead.antt; a command,
+ * with or without a journal, command_forgetting there), or reads its state, for the arguments that C gave; or it takes
+ * the steps that the lines of a text say. Each call reads and writes only what it was given, and returns. A reader that
+ * finds nothing leaves its output struct unchanged. Measured or tested, not proved: sizes and stack, that macsec_free
+ * frees each block, that memory is overwritten, and which calls allocate. Not proved: this header and its inline
+ * functions, which a script compares with the library's source; C's side of what it says; malloc; the compilers.
  *
  * In the calls for keys, frames and jobs no branch and no address depends on a key or on data, except the verdict, the
  * refusal KeyRepeated (is the key one of the endpoint's, or its fingerprint that of a retired one?) and MACSEC_E_OTHER_KEY
@@ -140,7 +139,7 @@ enum {
     MACSEC_E_NO_SA = 13,              /* there is no such association */
     MACSEC_E_PN_RANGE = 14,           /* the packet number is not from 1 to the last */
     MACSEC_E_PN_LOWER = 15,           /* the packet number is below the lowest acceptable one */
-    MACSEC_E_PN_FLOOR = 16,           /* the packet number is below the key's first unused one */
+    MACSEC_E_PN_FLOOR = 16,           /* the packet number may have been used before */
     MACSEC_E_SSCI_OWN = 17,           /* packet numbers are extended, and the SSCI is the key's own */
     MACSEC_E_WINDOW = 18,             /* the replay window is too wide */
     MACSEC_E_SCI_FORM = 19,           /* the tag form does not fit the endpoint's SCI */
@@ -208,7 +207,8 @@ enum {
     MACSEC_FATE_NO_RESERVATION = 5 /* dropped: its packet number is not reserved */
 };
 
-/* Verdicts on link frames, named as their counters are, without InPkts (10.7). */
+/* Verdicts on link frames, named as their counters are, without InPkts (10.7). The last two are no verdicts of the
+ * standard: an endpoint that reserves ahead of receiving drops the frame, and no counter counts it. */
 enum {
     MACSEC_VERDICT_NONE = 0,        /* the status is not MACSEC_OK */
     MACSEC_VERDICT_UNTAGGED = 1,    /* no SecTAG; delivered */
@@ -222,7 +222,9 @@ enum {
     MACSEC_VERDICT_UNCHECKED = 9,   /* not validated; delivered */
     MACSEC_VERDICT_DELAYED = 10,    /* the packet number is late; delivered */
     MACSEC_VERDICT_INVALID = 11,    /* not valid; delivered */
-    MACSEC_VERDICT_OK = 12          /* valid and not late; delivered */
+    MACSEC_VERDICT_OK = 12,         /* valid and not late; delivered */
+    MACSEC_VERDICT_NO_RESERVATION = 13, /* valid, but its packet number is not reserved yet; dropped */
+    MACSEC_VERDICT_EARLIER_RUN = 14     /* valid, but an earlier run had reserved its packet number; dropped */
 };
 
 /* A handle. Its member is the library's. */
@@ -272,7 +274,8 @@ typedef struct macsec_sent {
     uint64_t reserved[4];
 } macsec_sent;
 
-/* What becomes of a link frame. Of the uncontrolled port nothing is shown: there the frame is delivered as it came. */
+/* What becomes of a link frame. Of the uncontrolled port nothing is shown: there the frame is delivered as it came, but
+ * with the last two verdicts only where it is given again. */
 typedef struct macsec_received {
     const uint8_t *frame; /* what the controlled port delivers, if `delivered` is true */
     size_t length;        /* 0 if it delivers nothing */
@@ -282,7 +285,8 @@ typedef struct macsec_received {
     uint8_t an;       /* and its number; else both are 0 */
     bool has_sa;
     bool delivered;
-    uint64_t reserved[3];
+    uint64_t pn; /* the packet number of a frame with MACSEC_VERDICT_NO_RESERVATION or _EARLIER_RUN; else 0 */
+    uint64_t reserved[2];
 } macsec_received;
 
 /* The plan for a frame. */
@@ -303,12 +307,13 @@ typedef struct macsec_finished {
     uint8_t an;
     bool has_sa;
     bool delivered;
-    uint64_t reserved[3];
+    uint64_t pn; /* as in macsec_received */
+    uint64_t reserved[2];
 } macsec_finished;
 
 /* Answers that name no frame. */
 #define MACSEC_SENT_INIT { (const uint8_t *)"", 0, 0, 0, 0, { 0 } }
-#define MACSEC_RECEIVED_INIT { (const uint8_t *)"", 0, 0, 0, { 0 }, 0, false, false, { 0 } }
+#define MACSEC_RECEIVED_INIT { (const uint8_t *)"", 0, 0, 0, { 0 }, 0, false, false, 0, { 0 } }
 
 typedef struct macsec_options {
     uint64_t window; /* the replay window, in packet numbers */
@@ -472,7 +477,8 @@ static inline uint32_t macsec_receive(macsec_endpoint *e, const uint8_t *frame, 
  *            a replay window of 0 drops what was overtaken. A plan uses its packet number, also if it is never sealed.
  * BETWEEN    Any call may come between a plan and its job. A frame is sealed as it was planned, also after its SA was
  *            deleted. macsec_finish_receive judges a frame by the state that it finds. What was opened is used if the
- *            endpoint would open the frame in the same way now, under the same key. Else the call opens it itself.
+ *            endpoint would open the frame in the same way now, under the same key. Else the call opens it itself; and
+ *            with `ahead` where the packet number is not reserved.
  * SECRETS    A key, and a slot with a job, hold the octets of a key. Freeing overwrites them, and retiring the key does
  *            not: free the macsec_key, and clear or finish the slot. The calls with slots can leave such octets on the
  *            stack. A retired key can't be taken, but one that was taken before still works. */
@@ -640,16 +646,29 @@ uint32_t macsec_get_rx_sa(const macsec_endpoint *e, const uint8_t sci[8], uint8_
  * An endpoint that was made beside a journal uses a packet number only if a record that is already on the disk reserves
  * it, and begins no association at a number that a record of an earlier run reserves (MACSEC_E_PN_FLOOR, before every
  * other refusal). So no frames of all runs over one journal have the same key and IV, whatever the moment at which each
- * run ended. The caller keeps the file and does the following in this order; the library opens none.
+ * run ended. With `ahead` it also accepts a packet number only if a record that is already on the disk reserves that,
+ * and none that a record of an earlier run reserves. docs/THEOREM.md says what follows for two ends that crash: with
+ * `ahead`, strict validation, replay protection and a window of 0, no frame is delivered twice in all runs.
+ * With and without `ahead`, an endpoint beside a journal creates a receive association that it deleted not again, under
+ * the same key, below what was its lowest acceptable packet number (MACSEC_E_PN_FLOOR too). It remembers that of 1,024
+ * associations, until their key is retired; of more it remembers the highest number for each key, and of more than
+ * 1,024 keys the highest of all, and can refuse more than it must.
+ *
+ * The caller keeps the file and does the following in this order; the library opens none.
  *
  * 1. Create the file on the operator's word alone: beside a new journal every number counts as unused. Write a header
  *    (macsec_journal_header), then sync the file and its folder. A missing, empty or shorter file is no journal.
  * 2. One endpoint at a time sends beside it, in one process too: make the next one of the file as it is when the one
- *    before sends nothing more. Lock the file as long as an endpoint lives. Never restore or copy an older one.
+ *    before sends nothing more, and with `ahead` also receives nothing more. Lock the file as long as an endpoint
+ *    lives. Never restore or copy an older one.
  * 3. Read the whole file, and make the endpoint with macsec_reserve_open or macsec_reserve_configure.
  * 4. After macsec_add_tx_sa, before macsec_enable_tx_sa, and then from time to time ask macsec_reserve_wanted for a
- *    record. Before an orderly end, and from time to time, take that of each receive association from
- *    macsec_reserve_to_save: with a replay window of 0 a later run then delivers none of its frames again.
+ *    record. With `ahead` ask macsec_reserve_to_accept in the same way after macsec_add_rx_sa, and then from time to
+ *    time with the `pn` 0. After a frame with MACSEC_VERDICT_NO_RESERVATION ask with its `pn`: the frame can be given
+ *    again after step 6 for that record. After MACSEC_VERDICT_EARLIER_RUN there is nothing to ask for.
+ *    Without `ahead` take the record of each receive association from macsec_reserve_to_save, before an orderly end and
+ *    from time to time: a later run then delivers none of the frames that were accepted up to that record again, with a
+ *    replay window of 0. Those after the last record it can deliver again.
  * 5. Write each record with pwrite at the greatest multiple of 64 that is not above the file's length. A crash may
  *    have left a part of a record there: write over it. After such a part no record would be read.
  * 6. When fdatasync has returned 0, call macsec_reserve_granted. If it fails, a later one may return 0 although the
@@ -657,7 +676,9 @@ uint32_t macsec_get_rx_sa(const macsec_endpoint *e, const uint8_t sci[8], uint8_
  * 7. To shorten the file, write what macsec_journal_compacted gives to a new file, sync it, rename it over the old one,
  *    and sync the folder.
  *
- * Choose `amount` by the rate of frames, a second's worth or more: a run that ends loses up to so many numbers. */
+ * Choose `amount` by the rate of frames, a second's worth or more: a run that ends loses up to so many numbers. A
+ * sender loses only numbers. A receiver with `ahead` that begins again drops up to so many frames of its peer, unless
+ * the peer begins above them, or under a new key. */
 
 /* The header of a new journal, with a salt of 24 random octets and a check: in journals of different salts the records
  * of one key have different names. Returns MACSEC_OK. */
@@ -675,31 +696,40 @@ static inline uint32_t macsec_journal_compacted(const uint8_t *journal, size_t l
 }
 
 uint32_t macsec_reserve_open_raw(macsec_endpoint *e, const macsec_config *config, const uint8_t *journal,
-                                 size_t length);
-/* As macsec_new, beside a journal: all octets of its file. MACSEC_E_NOT_JOURNAL comes after MACSEC_E_NO_SUCH_FORM. */
+                                 size_t length, bool ahead);
+/* As macsec_new, beside a journal: all octets of its file. With `ahead` the endpoint reserves packet numbers ahead of
+ * receiving. MACSEC_E_NOT_JOURNAL comes after MACSEC_E_NO_SUCH_FORM. */
 static inline uint32_t macsec_reserve_open(macsec_endpoint *e, const macsec_config *config, const uint8_t *journal,
-                                           size_t length) {
-    return macsec_reserve_open_raw(e, config, macsec_octets(journal, length), length);
+                                           size_t length, bool ahead) {
+    return macsec_reserve_open_raw(e, config, macsec_octets(journal, length), length, ahead);
 }
 
 uint32_t macsec_reserve_configure_raw(macsec_endpoint *e, const uint8_t *text, size_t text_length,
-                                      const uint8_t *journal, size_t journal_length, uint32_t *line);
-/* As macsec_configure, beside a journal: a faulty text first, then MACSEC_E_NOT_JOURNAL with `line` 0. A `txsa` or
- * `rxsa` at a number that an earlier run may have used is refused, and then there is no endpoint. */
+                                      const uint8_t *journal, size_t journal_length, bool ahead, uint32_t *line);
+/* As macsec_configure, beside a journal, with `ahead` as for macsec_reserve_open: a faulty text first, then
+ * MACSEC_E_NOT_JOURNAL with `line` 0. A `txsa` or `rxsa` at a number that an earlier run may have used is refused, and
+ * then there is no endpoint. */
 static inline uint32_t macsec_reserve_configure(macsec_endpoint *e, const uint8_t *text, size_t text_length,
-                                                const uint8_t *journal, size_t length, uint32_t *line) {
+                                                const uint8_t *journal, size_t length, bool ahead, uint32_t *line) {
     return macsec_reserve_configure_raw(e, macsec_octets(text, text_length), text_length,
-                                        macsec_octets(journal, length), length, line);
+                                        macsec_octets(journal, length), length, ahead, line);
 }
 
 /* The record to write next for a transmit association: it reserves the numbers up to its next one plus `amount`.
  * MACSEC_E_NOT_FOUND if there is no such association, or if half of `amount` are still reserved for it. */
 uint32_t macsec_reserve_wanted(const macsec_endpoint *e, uint8_t an, uint64_t amount, macsec_record *out);
+/* The record to write next for a receive association of an endpoint with `ahead`: it reserves the numbers up to the
+ * next one plus `amount`, where the next one is the association's own, or `pn` if that is higher: the packet number of a
+ * frame that was dropped, or 0. MACSEC_E_NOT_FOUND if there is no such association, or if half of `amount` are still
+ * reserved for it. */
+uint32_t macsec_reserve_to_accept(const macsec_endpoint *e, const uint8_t sci[8], uint8_t an, uint64_t amount,
+                                  uint64_t pn, macsec_record *out);
 /* The record that saves the lowest acceptable packet number of a receive association, or MACSEC_E_NOT_FOUND. */
 uint32_t macsec_reserve_to_save(const macsec_endpoint *e, const uint8_t sci[8], uint8_t an, macsec_record *out);
 /* The floor of a key, and of a receive association under a key: the highest packet number that earlier runs reserved or
- * saved, 0 if none. An association that begins at it or below is refused. It stays the same until the key is retired,
- * and is then 0. MACSEC_E_NOT_FOUND if there is no such key. */
+ * saved, 0 if none; for a receive association at least what the endpoint remembers of those that it deleted (above). An
+ * association that begins at it or below is refused. The floor of a key stays the same until the key is retired, and is
+ * then 0. MACSEC_E_NOT_FOUND if there is no such key. */
 uint32_t macsec_reserve_tx_floor(const macsec_endpoint *e, uint16_t key, uint64_t *out);
 uint32_t macsec_reserve_rx_floor(const macsec_endpoint *e, const uint8_t sci[8], uint8_t an, uint16_t key,
                                  uint64_t *out);
@@ -803,6 +833,8 @@ static inline const char *macsec_verdict_name(uint32_t verdict) {
         case MACSEC_VERDICT_DELAYED: return "Delayed";
         case MACSEC_VERDICT_INVALID: return "Invalid";
         case MACSEC_VERDICT_OK: return "OK";
+        case MACSEC_VERDICT_NO_RESERVATION: return "NoReservation";
+        case MACSEC_VERDICT_EARLIER_RUN: return "EarlierRun";
         default: return "unknown";
     }
 }

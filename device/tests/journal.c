@@ -438,7 +438,7 @@ static int run_endpoints(const char *name) {
         printf("made ");
     printf("%s %d\n", journal_step_name(fault.step), fault.error == EBUSY);
     /* Another one, made of the same octets by the library's call: it sends nothing. */
-    must("reserve_open", macsec_reserve_open(&second, &config, journal.octets, journal.length));
+    must("reserve_open", macsec_reserve_open(&second, &config, journal.octets, journal.length, false));
     must("key", macsec_command_line(&second, (const uint8_t *)key, sizeof key - 1));
     must("add", macsec_add_tx_sa(&second, 0, 0, 1, true));
     must("enable", macsec_enable_tx_sa(&second, 0));

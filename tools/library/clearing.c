@@ -33,8 +33,8 @@ void macsec_prefer_wide(macsec_endpoint *e, bool wide);
 /* These two take no key. */
 MAKES(32768, macsec_new, (macsec_endpoint * e, const macsec_config *config), (e, config))
 MAKES(32768, macsec_reserve_open_raw,
-      (macsec_endpoint * e, const macsec_config *config, const uint8_t *journal, size_t length),
-      (e, config, journal, length))
+      (macsec_endpoint * e, const macsec_config *config, const uint8_t *journal, size_t length, bool ahead),
+      (e, config, journal, length, ahead))
 #else
 #define MAKES CALL
 #endif
@@ -59,5 +59,5 @@ MAKES(65536, macsec_configure_raw, (macsec_endpoint * e, const uint8_t *text, si
       (e, text, length, line))
 MAKES(65536, macsec_reserve_configure_raw,
       (macsec_endpoint * e, const uint8_t *text, size_t text_length, const uint8_t *journal, size_t journal_length,
-       uint32_t *line),
-      (e, text, text_length, journal, journal_length, line))
+       bool ahead, uint32_t *line),
+      (e, text, text_length, journal, journal_length, ahead, line))

@@ -25,13 +25,30 @@ pub enum AheadReceived<'a> {
     BeforeThisRun(RxPn),
 }
 
-/// Whether a packet number may be accepted.
+/// Whether a link frame may be accepted, if it is valid.
 #[derive(Clone, Copy, PartialEq, Eq, Debug)]
-pub(crate) enum PnStanding {
+pub enum PnStanding {
     /// It may.
     Passes,
     /// It is not reserved yet.
     NotYet(RxPn),
     /// An earlier run had reserved it.
     BeforeThisRun(RxPn),
+}
+
+impl PnStanding {
+    ghost use Rattle.macsec_ahead.specs.Ahead.{is_through, passes};
+    ghost use Rattle.macsec_ahead.specs.Answers.{shown};
+    ghost use Rattle.std.specs.Prelude.{◌≡◌, false, true};
+
+    /// Whether it may.
+    pub fn is_passing(&self) -> bool
+        ensures test { result ≡ is_through false (shown self.now) }
+        ensures passes { result ≡ true → shown self.now ≡ passes }
+    {
+        match self {
+            PnStanding::Passes => true,
+            PnStanding::NotYet(_) | PnStanding::BeforeThisRun(_) => false,
+        }
+    }
 }

@@ -6,7 +6,7 @@ ghost use Rattle.macsec_tag.specs.Limits.{max_frame_len};
 ghost use Rattle.macsec_rx.specs.Channels.{rx_row};
 ghost use Rattle.macsec_rx.specs.Limits.{max_row_count};
 ghost use Rattle.macsec_secy.specs.Accepting.{number_to_accept};
-ghost use Rattle.macsec_secy.specs.Answers.{output_of_command};
+ghost use Rattle.macsec_secy.specs.Answers.{output_of_command, output_of_received};
 ghost use Rattle.macsec_secy.specs.Jobs.{OpensFrame};
 ghost use Rattle.macsec_secy.specs.Step.{client_frame, link_frame, operator_command};
 ghost use Rattle.macsec_reserve.specs.Answers.{output_of_kept};
@@ -17,15 +17,14 @@ ghost use Rattle.macsec_ahead.specs.Answers.{MakesAhead, MakesAloneWith, PlansAh
 ghost use Rattle.macsec_ahead.specs.Ends.{after_retiring, ends_among, no_ends, with_ends, without_key};
 ghost use Rattle.macsec_ahead.specs.Rests.{RestsAs};
 
-use crate::answers::PnStanding;
 use crate::ends::ended_of;
-use crate::{AheadReceived, EndTable, RxPn};
+use crate::{AheadReceived, EndTable, PnStanding, RxPn};
 use macsec_reserve::{
     Keeper, KeptPlan, KeptSent, OpenFault, Reservation, highest, raise, wanted_last,
 };
 use macsec_secy::{
-    An, Command, EndConfig, FrameFault, KeyNumber, MAX_FRAME_LEN, NewFault, OpenedFrame, Refusal,
-    RxRow, Sci, Secy,
+    An, Command, EndConfig, FrameFault, KeyNumber, MAX_FRAME_LEN, NewFault, OpenedFrame, Received,
+    Refusal, RxRow, Sci, Secy,
 };
 use std::alloc::{AllocError, Global};
 use std::marker::Model;
@@ -162,6 +161,15 @@ impl AheadKeeper {
         self.finish_receive(frame, &None, out)
     }
 
+    /// Receives a link frame whose `standing` is `Passes`, as `Keeper::receive`. The delivered frame is in the endpoint.
+    pub fn receive_passing<'a>(&'a mut self, frame: &'a [u8]) -> Result<Received<'a>, FrameFault>
+        requires { standing self.old (link_frame frame.now) ≡ passes }
+        ensures* after { sem 𝓛 (RestsAs self.entry (ahead_step self.old (endpoint_input (link_frame frame.now))).1) }
+        ensures output { kept (endpoint_output (output_of_received result)) ≡ (ahead_step self.old (endpoint_input (link_frame frame.now))).0 }
+    {
+        self.keeper.receive(frame)
+    }
+
     /// Receives a link frame that was opened before, or not, as `Keeper::finish_receive`. With the option, a valid frame is
     /// dropped if its packet number is not reserved in this run.
     pub fn finish_receive<'a>(
@@ -187,7 +195,7 @@ impl AheadKeeper {
 
     /// Whether a link frame may be accepted, if it is valid. A frame is opened here only if its packet number is not
     /// reserved: then it is dropped only if its ICV is valid.
-    fn standing(&self, frame: &[u8]) -> PnStanding
+    pub fn standing(&self, frame: &[u8]) -> PnStanding
         ensures { shown result ≡ standing self.now (link_frame frame.now) }
     {
         let it = self.standing_unopened(frame);

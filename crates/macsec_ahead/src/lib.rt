@@ -17,6 +17,6 @@ mod answers;
 mod ends;
 mod keeper;
 
-pub use answers::{AheadReceived, RxPn};
+pub use answers::{AheadReceived, PnStanding, RxPn};
 pub use ends::{EndTable, EndedKey, EndedSa};
 pub use keeper::AheadKeeper;

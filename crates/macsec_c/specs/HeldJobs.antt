@@ -2,7 +2,7 @@
 -- endpoint, the slot, the key.
 use Rattle.std.specs.Prelude.{◌≡◌, ℕ, List, true, Option, Some, None, Ok, Err}
 use Rattle.macsec_suite.specs.KeyRows.{key_row}
-use Rattle.macsec_reserve.specs.Keeping.{Keeping}
+use Rattle.macsec_ahead.specs.Ahead.{Ahead}
 use Rattle.macsec_jobs.specs.declared.planned_key.PlannedKey.{PlannedKey}
 use Rattle.macsec_jobs.specs.Slots.{SlotState, is_idle}
 use Rattle.macsec_c_calls.specs.declared.jobs.Finished.{Finished}
@@ -17,11 +17,11 @@ use Rattle.macsec_commands.specs.declared.fault.NewFault.TheVariants.{Memory}
 -- ---- keys
 
 -- the key of this number in an endpoint, into a handle without one
-abbrev pub TakesHeld : Option PlannedKey → Option Keeping → Named ℕ → ℕ → Option PlannedKey → Type 0
-TakesHeld (Some key) e number status after = (status ≡ taken_status) × (after ≡ Some key)
+abbrev pub TakesHeld : Option PlannedKey → Option Ahead → Named ℕ → ℕ → Option PlannedKey → Type 0
+TakesHeld (Some key) held number status after = (status ≡ taken_status) × (after ≡ Some key)
 TakesHeld None None number status after = (status ≡ empty_status) × (after ≡ None)
-TakesHeld None (Some k) (Err f) status after = (status ≡ status_of_argument_fault f) × (after ≡ None)
-TakesHeld None (Some k) (Ok n) status after = TakesKey (key_row k.secy.keys n) n status after
+TakesHeld None (Some e) (Err f) status after = (status ≡ status_of_argument_fault f) × (after ≡ None)
+TakesHeld None (Some e) (Ok n) status after = TakesKey (key_row e.k.secy.keys n) n status after
 
 -- ---- slots
 
@@ -39,18 +39,18 @@ ClearsHeld (Some s) status (Some left) = (status ≡ done_status) × (is_idle le
 
 -- ---- plans
 
-abbrev pub PlansHeld : Option Keeping → Option SlotState → List ℕ → Planned → Option Keeping → Option SlotState → Type 0
+abbrev pub PlansHeld : Option Ahead → Option SlotState → List ℕ → Planned → Option Ahead → Option SlotState → Type 0
 PlansHeld None s frame result after left = (result ≡ unplanned empty_status) × (after ≡ None) × (left ≡ s)
-PlansHeld (Some k) None frame result after left = (result ≡ unplanned empty_status) × (after ≡ Some k) × (left ≡ None)
-PlansHeld (Some k) (Some s) frame result None left = ⊥
-PlansHeld (Some k) (Some s) frame result (Some after) None = ⊥
-PlansHeld (Some k) (Some s) frame result (Some after) (Some left) = PlansToSend k s frame result after left
+PlansHeld (Some e) None frame result after left = (result ≡ unplanned empty_status) × (after ≡ Some e) × (left ≡ None)
+PlansHeld (Some e) (Some s) frame result None left = ⊥
+PlansHeld (Some e) (Some s) frame result (Some after) None = ⊥
+PlansHeld (Some e) (Some s) frame result (Some after) (Some left) = PlansToSend e s frame result after left
 
-abbrev pub TakesFrame : Option Keeping → Option SlotState → List ℕ → Planned → Option SlotState → Type 0
+abbrev pub TakesFrame : Option Ahead → Option SlotState → List ℕ → Planned → Option SlotState → Type 0
 TakesFrame None s frame result left = (result ≡ unplanned empty_status) × (left ≡ s)
-TakesFrame (Some k) None frame result left = (result ≡ unplanned empty_status) × (left ≡ None)
-TakesFrame (Some k) (Some s) frame result None = ⊥
-TakesFrame (Some k) (Some s) frame result (Some left) = PlansToReceive k s frame result left
+TakesFrame (Some e) None frame result left = (result ≡ unplanned empty_status) × (left ≡ None)
+TakesFrame (Some e) (Some s) frame result None = ⊥
+TakesFrame (Some e) (Some s) frame result (Some left) = PlansToReceive e s frame result left
 
 -- ---- jobs
 
@@ -70,9 +70,9 @@ OpensHeld (Some s) (Some key) status (Some left) = OpensWith s key status left
 
 -- ---- receiving
 
-abbrev pub FinishesHeld : Option Keeping → Option SlotState → List ℕ → Finished → List ℕ → Option Keeping → Option SlotState → Type 0
+abbrev pub FinishesHeld : Option Ahead → Option SlotState → List ℕ → Finished → List ℕ → Option Ahead → Option SlotState → Type 0
 FinishesHeld None s out result out_after after left = (parts_of_finished result out_after ≡ unreceived empty_status) × (out_after ≡ out) × (after ≡ None) × (left ≡ s)
-FinishesHeld (Some k) None out result out_after after left = (parts_of_finished result out_after ≡ unreceived empty_status) × (out_after ≡ out) × (after ≡ Some k) × (left ≡ None)
-FinishesHeld (Some k) (Some s) out result out_after None left = ⊥
-FinishesHeld (Some k) (Some s) out result out_after (Some after) None = ⊥
-FinishesHeld (Some k) (Some s) out result out_after (Some after) (Some left) = FinishesFrame k s out result out_after after left
+FinishesHeld (Some e) None out result out_after after left = (parts_of_finished result out_after ≡ unreceived empty_status) × (out_after ≡ out) × (after ≡ Some e) × (left ≡ None)
+FinishesHeld (Some e) (Some s) out result out_after None left = ⊥
+FinishesHeld (Some e) (Some s) out result out_after (Some after) None = ⊥
+FinishesHeld (Some e) (Some s) out result out_after (Some after) (Some left) = FinishesFrame e s out result out_after after left

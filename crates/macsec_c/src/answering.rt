@@ -23,7 +23,7 @@ pub extern "C" fn macsec_answer_raw(
     if !e.is_made() {
         return EMPTY;
     }
-    let answered = answer(alloc, e.keeper(), number, text, out);
+    let answered = answer(alloc, e.held(), number, text, out);
     *written = answered.length;
     answered.ending.status()
 }

@@ -20,7 +20,7 @@ pub(crate) fn carry_out(e: &mut Endpoint, command: Result<Command, ArgumentFault
     if !e.is_made() {
         return EMPTY;
     }
-    macsec_c_calls::carry_out(e.keeper(), command)
+    macsec_c_calls::carry_out(e.held(), command)
 }
 
 /// Protect client frames, or send them unchanged.

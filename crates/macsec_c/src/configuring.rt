@@ -25,8 +25,8 @@ pub extern "C" fn macsec_configure_raw(
         return TAKEN;
     }
     match configured(alloc, text) {
-        Ok(keeper) => {
-            e.put(Loose::of(keeper));
+        Ok(endpoint) => {
+            e.put(Loose::of(endpoint));
             DONE
         }
         Err(fault) => {
@@ -36,25 +36,26 @@ pub extern "C" fn macsec_configure_raw(
     }
 }
 
-/// The same beside a journal. `macsec_reserve_configure` of the header calls this with a text and a journal that are
-/// not null.
+/// The same beside a journal. With `ahead` the endpoint reserves packet numbers ahead of receiving.
+/// `macsec_reserve_configure` of the header calls this with a text and a journal that are not null.
 #[unsafe(no_mangle)]
 pub extern "C" fn macsec_reserve_configure_raw(
     alloc: Global,
     e: &mut Endpoint,
     text: &[u8],
     journal: &[u8],
+    ahead: bool,
     line: &mut u32,
 ) -> u32
-    ensures { Configures (created_beside journal.now) e.old.state text.now (result, line.new) e.new.state }
+    ensures { Configures (created_beside ahead journal.now) e.old.state text.now (result, line.new) e.new.state }
 {
     *line = 0;
     if e.is_made() {
         return TAKEN;
     }
-    match configured_beside(alloc, text, journal) {
-        Ok(keeper) => {
-            e.put(Loose::of(keeper));
+    match configured_beside(alloc, text, journal, ahead) {
+        Ok(endpoint) => {
+            e.put(Loose::of(endpoint));
             DONE
         }
         Err(fault) => {
@@ -73,5 +74,5 @@ pub extern "C" fn macsec_command_line_raw(alloc: Global, e: &mut Endpoint, text:
     if !e.is_made() {
         return EMPTY;
     }
-    command_line(alloc, e.keeper(), text)
+    command_line(alloc, e.held(), text)
 }

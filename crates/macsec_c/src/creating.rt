@@ -25,24 +25,25 @@ pub extern "C" fn macsec_new(alloc: Global, e: &mut Endpoint, config: &Config) -
         Err(fault) => return fault.status(),
     };
     match endpoint_alone(alloc, config) {
-        Ok(keeper) => {
-            e.put(Loose::of(keeper));
+        Ok(endpoint) => {
+            e.put(Loose::of(endpoint));
             DONE
         }
         Err(fault) => status_of_new_fault(fault),
     }
 }
 
-/// Creates an endpoint of this configuration beside a journal, in a handle without one. `macsec_reserve_open` of the
-/// header calls this with a journal that is not null.
+/// Creates an endpoint of this configuration beside a journal, in a handle without one. With `ahead` it reserves packet
+/// numbers ahead of receiving. `macsec_reserve_open` of the header calls this with a journal that is not null.
 #[unsafe(no_mangle)]
 pub extern "C" fn macsec_reserve_open_raw(
     alloc: Global,
     e: &mut Endpoint,
     config: &Config,
     journal: &[u8],
+    ahead: bool,
 ) -> u32
-    ensures { Opens e.old.state (config_of config.now) journal.now result e.new.state }
+    ensures { Opens e.old.state ahead (config_of config.now) journal.now result e.new.state }
 {
     if e.is_made() {
         return TAKEN;
@@ -51,9 +52,9 @@ pub extern "C" fn macsec_reserve_open_raw(
         Ok(config) => config,
         Err(fault) => return fault.status(),
     };
-    match endpoint_beside(alloc, config, journal) {
-        Ok(keeper) => {
-            e.put(Loose::of(keeper));
+    match endpoint_beside(alloc, config, journal, ahead) {
+        Ok(endpoint) => {
+            e.put(Loose::of(endpoint));
             DONE
         }
         Err(fault) => status_of_open_fault(fault),

@@ -35,7 +35,7 @@ pub extern "C" fn macsec_key_take(
         Ok(number) => number,
         Err(fault) => return fault.status(),
     };
-    match take_key(alloc, e.keeper(), number) {
+    match take_key(alloc, e.held().keeper(), number) {
         Ok(taken) => {
             key.put(Loose::of(taken));
             DONE
@@ -105,7 +105,7 @@ fn plan_of(e: &mut Endpoint, slot: &mut Slot, frame: &[u8]) -> Planned
     if !slot.is_made() {
         return unplanned(EMPTY);
     }
-    plan_to_send(e.keeper(), slot.slot(), frame)
+    plan_to_send(e.held(), slot.slot(), frame)
 }
 
 /// Plans a client frame of the controlled port. A frame that is to be sealed is in the slot afterwards.
@@ -155,7 +155,7 @@ fn taken_frame(e: &mut Endpoint, slot: &mut Slot, frame: &[u8]) -> Planned
     if !slot.is_made() {
         return unplanned(EMPTY);
     }
-    plan_to_receive(e.keeper(), slot.slot(), frame)
+    plan_to_receive(e.held(), slot.slot(), frame)
 }
 
 /// Plans a link frame, which is in the slot afterwards. `macsec_plan_receive` of the header calls this with a frame that
@@ -200,7 +200,7 @@ fn finish(e: &mut Endpoint, slot: &mut Slot, out: &mut [u8]) -> Finished
     if !slot.is_made() {
         return unfinished(EMPTY);
     }
-    finish_frame(e.keeper(), slot.slot(), out)
+    finish_frame(e.held(), slot.slot(), out)
 }
 
 /// Receives the link frame of a slot, opened or not. What is delivered is at the start of the buffer.

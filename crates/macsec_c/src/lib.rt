@@ -2,8 +2,8 @@
 //! without an endpoint, and leaves the rest to `macsec_c_calls`.
 //!
 //! Proved: each export creates or frees an endpoint, a key or a slot, does a job, or is one step of the machine of
-//! `macsec_reserve` or one reader of its state, for the arguments that C gave. Without a journal that is the machine of
-//! `macsec_secy`, except that it forgets the keys that it retires (`forgetting_step`). The contract gives the status, what
+//! `macsec_ahead` or one reader of its state, for the arguments that C gave. Without a journal that is the machine of
+//! `macsec_secy`, except that it forgets the keys that it retires (`command_forgetting`). The contract gives the status, what
 //! is shown, and what the handle holds after the call (`specs/Answers.antt`, `specs/Found.antt`). A reader that finds
 //! nothing leaves its output unchanged. `macsec_configure_raw` creates the endpoint of a text's lines, as `parse_config`
 //! reads them, after the steps of all their commands, or none; `macsec_command_line_raw` is the step of a line's command

@@ -2,17 +2,18 @@
 
 ghost use Rattle.std.specs.Prelude.{◌≡◌, IfNone, IfSome};
 ghost use Rattle.macsec_reserve.specs.Journal.{header, record_of, reserved_in};
-ghost use Rattle.macsec_reserve.specs.Keeping.{rx_floor, tx_floor};
+ghost use Rattle.macsec_reserve.specs.Keeping.{tx_floor};
+ghost use Rattle.macsec_ahead.specs.Ahead.{floor_of};
 ghost use Rattle.macsec_c_calls.specs.Arguments.{an_of, key_number_of, sci_of};
-ghost use Rattle.macsec_c_calls.specs.Reserving.{Compacts, key_after, saved_at, wanted_at};
+ghost use Rattle.macsec_c_calls.specs.Reserving.{Compacts, accepting_at, key_after, saved_at, wanted_at};
 ghost use Rattle.macsec_c_calls.specs.Statuses.{done_status};
 ghost use Rattle.macsec_c.specs.Answers.{reported};
-ghost use Rattle.macsec_c.specs.Found.{found_at, status_of_an};
+ghost use Rattle.macsec_c.specs.Found.{found_at, inside, status_of_an};
 
 use crate::endpoint::Endpoint;
 use macsec_c_calls::{
-    DONE, EMPTY, Record, note_durable, show_rx_floor, show_to_save, show_tx_floor, show_wanted,
-    write_compacted,
+    DONE, EMPTY, Record, note_durable, show_rx_floor, show_to_accept, show_to_save, show_tx_floor,
+    show_wanted, write_compacted,
 };
 use macsec_reserve::header;
 use std::alloc::Global;
@@ -26,15 +27,15 @@ pub extern "C" fn macsec_reserve_wanted(
     amount: u64,
     out: &mut Record,
 ) -> u32
-    ensures status { result ≡ status_of_an e.old.state (an_of an) (wanted_at amount) }
+    ensures status { result ≡ status_of_an (inside e.old.state) (an_of an) (wanted_at amount) }
     ensures same { e.new.state ≡ e.old.state }
-    ensures shown { IfSome (found_at e.old.state (an_of an) (wanted_at amount)) (λ r. out.new.octets ≡ record_of r) }
-    ensures kept { IfNone (found_at e.old.state (an_of an) (wanted_at amount)) (out.new ≡ out.old) }
+    ensures shown { IfSome (found_at (inside e.old.state) (an_of an) (wanted_at amount)) (λ r. out.new.octets ≡ record_of r) }
+    ensures kept { IfNone (found_at (inside e.old.state) (an_of an) (wanted_at amount)) (out.new ≡ out.old) }
 {
     if !e.is_made() {
         return EMPTY;
     }
-    show_wanted(e.keeper(), an, amount, out)
+    show_wanted(e.held().keeper(), an, amount, out)
 }
 
 /// Shows the record that saves the lowest acceptable packet number of the receive SA with this SCI and AN.
@@ -45,32 +46,55 @@ pub extern "C" fn macsec_reserve_to_save(
     an: u8,
     out: &mut Record,
 ) -> u32
-    ensures status { result ≡ status_of_an e.old.state (an_of an) (saved_at (sci_of sci.now)) }
+    ensures status { result ≡ status_of_an (inside e.old.state) (an_of an) (saved_at (sci_of sci.now)) }
     ensures same { e.new.state ≡ e.old.state }
-    ensures shown { IfSome (found_at e.old.state (an_of an) (saved_at (sci_of sci.now))) (λ r. out.new.octets ≡ record_of r) }
-    ensures kept { IfNone (found_at e.old.state (an_of an) (saved_at (sci_of sci.now))) (out.new ≡ out.old) }
+    ensures shown { IfSome (found_at (inside e.old.state) (an_of an) (saved_at (sci_of sci.now))) (λ r. out.new.octets ≡ record_of r) }
+    ensures kept { IfNone (found_at (inside e.old.state) (an_of an) (saved_at (sci_of sci.now))) (out.new ≡ out.old) }
 {
     if !e.is_made() {
         return EMPTY;
     }
-    show_to_save(e.keeper(), sci, an, out)
+    show_to_save(e.held().keeper(), sci, an, out)
 }
 
 /// Shows the highest packet number that an earlier run may have used to send under the key of this number.
 #[unsafe(no_mangle)]
 pub extern "C" fn macsec_reserve_tx_floor(e: &mut Endpoint, key: u16, out: &mut u64) -> u32
-    ensures status { result ≡ status_of_an e.old.state (key_number_of key) tx_floor }
+    ensures status { result ≡ status_of_an (inside e.old.state) (key_number_of key) tx_floor }
     ensures same { e.new.state ≡ e.old.state }
-    ensures shown { IfSome (found_at e.old.state (key_number_of key) tx_floor) (λ floor. out.new ≡ floor) }
-    ensures kept { IfNone (found_at e.old.state (key_number_of key) tx_floor) (out.new ≡ out.old) }
+    ensures shown { IfSome (found_at (inside e.old.state) (key_number_of key) tx_floor) (λ floor. out.new ≡ floor) }
+    ensures kept { IfNone (found_at (inside e.old.state) (key_number_of key) tx_floor) (out.new ≡ out.old) }
 {
     if !e.is_made() {
         return EMPTY;
     }
-    show_tx_floor(e.keeper(), key, out)
+    show_tx_floor(e.held().keeper(), key, out)
 }
 
-/// Shows the highest packet number that was saved of the receive SA with this SCI and AN under the key of this number.
+/// Shows the record of the reservation that the receive SA with this SCI and AN needs next to accept up to `amount` packet
+/// numbers after its next one, or after `pn` if that is later, if fewer than half of them are reserved.
+#[unsafe(no_mangle)]
+pub extern "C" fn macsec_reserve_to_accept(
+    e: &mut Endpoint,
+    sci: &[u8; 8],
+    an: u8,
+    amount: u64,
+    pn: u64,
+    out: &mut Record,
+) -> u32
+    ensures status { result ≡ status_of_an e.old.state (an_of an) (accepting_at (sci_of sci.now) amount pn) }
+    ensures same { e.new.state ≡ e.old.state }
+    ensures shown { IfSome (found_at e.old.state (an_of an) (accepting_at (sci_of sci.now) amount pn)) (λ r. out.new.octets ≡ record_of r) }
+    ensures kept { IfNone (found_at e.old.state (an_of an) (accepting_at (sci_of sci.now) amount pn)) (out.new ≡ out.old) }
+{
+    if !e.is_made() {
+        return EMPTY;
+    }
+    show_to_accept(e.held(), sci, an, amount, pn, out)
+}
+
+/// Shows the highest packet number that an earlier run may have accepted, or this run before it deleted the SA, from the
+/// receive SA with this SCI and AN under the key of this number.
 #[unsafe(no_mangle)]
 pub extern "C" fn macsec_reserve_rx_floor(
     e: &mut Endpoint,
@@ -79,15 +103,15 @@ pub extern "C" fn macsec_reserve_rx_floor(
     key: u16,
     out: &mut u64,
 ) -> u32
-    ensures status { result ≡ status_of_an e.old.state (key_after (an_of an) (key_number_of key)) (rx_floor (sci_of sci.now) an) }
+    ensures status { result ≡ status_of_an e.old.state (key_after (an_of an) (key_number_of key)) (floor_of (sci_of sci.now) an) }
     ensures same { e.new.state ≡ e.old.state }
-    ensures shown { IfSome (found_at e.old.state (key_after (an_of an) (key_number_of key)) (rx_floor (sci_of sci.now) an)) (λ floor. out.new ≡ floor) }
-    ensures kept { IfNone (found_at e.old.state (key_after (an_of an) (key_number_of key)) (rx_floor (sci_of sci.now) an)) (out.new ≡ out.old) }
+    ensures shown { IfSome (found_at e.old.state (key_after (an_of an) (key_number_of key)) (floor_of (sci_of sci.now) an)) (λ floor. out.new ≡ floor) }
+    ensures kept { IfNone (found_at e.old.state (key_after (an_of an) (key_number_of key)) (floor_of (sci_of sci.now) an)) (out.new ≡ out.old) }
 {
     if !e.is_made() {
         return EMPTY;
     }
-    show_rx_floor(e.keeper(), sci, an, key, out)
+    show_rx_floor(e.held(), sci, an, key, out)
 }
 
 /// Notes that a record is durable.
@@ -98,7 +122,7 @@ pub extern "C" fn macsec_reserve_granted(e: &mut Endpoint, record: &Record) -> u
     if !e.is_made() {
         return EMPTY;
     }
-    note_durable(e.keeper(), record)
+    note_durable(e.held(), record)
 }
 
 /// Shows the header of a new journal with this salt.

@@ -18,7 +18,7 @@ fn fate_of<'a>(e: &'a mut Endpoint, frame: &'a [u8]) -> Sent<'a>
     if !e.is_made() {
         return unsent(frame, EMPTY, FATE_NONE);
     }
-    sent_of(e.keeper().send(frame), frame)
+    sent_of(e.held().send(frame), frame)
 }
 
 /// Transmits a client frame of the controlled port. `macsec_send` of the header calls this with a result that names no
@@ -47,7 +47,7 @@ pub extern "C" fn macsec_send_uncontrolled_raw(e: &mut Endpoint, frame: &[u8]) -
     if !e.is_made() {
         return EMPTY;
     }
-    match e.keeper().send_uncontrolled(frame) {
+    match e.held().keeper().send_uncontrolled(frame) {
         Ok(_) => DONE,
         Err(fault) => status_of_frame_fault(fault),
     }

@@ -11,6 +11,6 @@ pub extern "C" fn macsec_prefer_wide(e: &mut Endpoint, wide: bool)
     ensures { e.new.state ≡ e.old.state }
 {
     if e.is_made() {
-        e.keeper().prefer_wide(wide);
+        e.held().prefer_wide(wide);
     }
 }

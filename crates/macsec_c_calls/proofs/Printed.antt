@@ -13,12 +13,13 @@ use Rattle.macsec_commands.specs.declared.event.Event.TheVariants as event
 use Rattle.macsec_secy.specs.GivenUp.{replacing}
 use Rattle.macsec_secy.specs.State.{State}
 use Rattle.macsec_secy.specs.Step.{operator_command, step}
-use Rattle.macsec_reserve.specs.Forgetting.{can_forget, fingerprint, fingerprint_of, forgetting, is_done, is_forgotten, key_of_fingerprint, then_forget}
+use Rattle.macsec_reserve.specs.Forgetting.{can_forget, fingerprint, fingerprint_of, forgetting, forgetting_step, is_done, is_forgotten, key_of_fingerprint, then_forget}
 use Rattle.macsec_reserve.specs.Keeping.{Keeping, KeepingOutput, endpoint_input, is_below_floor, keeping_step, with_step}
 use Rattle.macsec_script_parser.specs.declared.lines.Action.TheVariants as action
 use Rattle.macsec_script_parser.specs.declared.lines.Line.{Line}
 use Rattle.macsec_script_parser.specs.declared.lines.Line.TheVariants as line
-use Rattle.macsec_c_calls.specs.Answers.{commanded}
+use Rattle.macsec_ahead.specs.Ahead.{Ahead, ahead_by, begins_again, ended_after, passes}
+use Rattle.macsec_c_calls.specs.Answers.{Answer, answer_of_line, commanded, commanded_as}
 use Rattle.macsec_c_calls.specs.Laws.{AnswersAsPrinted}
 
 or_true : (b : Bool) → b || true ≡ true
@@ -35,6 +36,22 @@ second false false x y z not_first goes = cc
 stepped : (k : Keeping) (c : Command) → is_below_floor k (operator_command c) ≡ false →
     keeping_step k (endpoint_input (operator_command c)) ≡ with_step k (step k.secy (operator_command c))
 stepped k c above = second (is_below_floor k (operator_command c)) (not k.keeps || true) _ _ _ above (or_true (not k.keeps))
+
+-- the answer to a command, by what the keeping endpoint inside says to it
+abbrev by_inside : Ahead → ℕ → Command → KeepingOutput × Keeping → Answer
+by_inside e n c it = commanded_as n it.0 (record e { k = it.1; ended = ended_after e (operator_command c) it })
+
+-- a command goes to the keeping endpoint inside, unless it creates an SA again too low
+answered : (e : Ahead) (n : ℕ) (c : Command) → begins_again e (operator_command c) ≡ false →
+    answer_of_line e n (line.Action (action.Event (event.Command A c))) ≡ by_inside e n c (forgetting_step e.k (endpoint_input (operator_command c)))
+answered e n c fresh =
+    let inside = forgetting_step e.k (endpoint_input (operator_command c)) in
+    ap (λ (again : Bool). commanded n (ahead_by again passes e (operator_command c) inside).0 (ahead_by again passes e (operator_command c) inside).1) fresh
+
+-- neither of the two reasons of a journal
+neither : (a b : Bool) → a || b ≡ false → (a ≡ false) × (b ≡ false)
+neither true b h = cc
+neither false b h = (refl, h)
 
 -- ---- a key to install
 
@@ -67,24 +84,30 @@ forgotten_if k n true = by_can (can_forget k n) refl
 
 -- ---- lines
 
-pub answers_as_printed : (k : Keeping) (n : ℕ) (said : Line) → AnswersAsPrinted k n said
-answers_as_printed k n (line.Action (action.Event (event.Command A (Key key)))) = λ above not_forgotten.
+pub answers_as_printed : (e : Ahead) (n : ℕ) (said : Line) → AnswersAsPrinted e n said
+answers_as_printed e n (line.Action (action.Event (event.Command A (Key key)))) = λ refused not_forgotten.
+    let k = e.k in
+    let fresh = neither (begins_again e (operator_command (Key key))) (is_below_floor k (operator_command (Key key))) refused in
     let as_it_is = otherwise (is_forgotten k (key_bytes key.bytes)) (record key { bytes = key_of_fingerprint k.salt key.bytes }) key not_forgotten in
-    let is = ap (λ (taken : NewKey). keeping_step k (endpoint_input (operator_command (Key taken)))) as_it_is ∙ stepped k (Key key) above in
-    record { text = ap (λ it. (commanded n it.0 it.1).text) is; state = ap (λ it. (commanded n it.0 it.1).after.secy) is }
-answers_as_printed k n (line.Action (action.Event (event.Command A (Retire m)))) = λ above not_forgotten.
-    let is = stepped k (Retire m) above in
+    let stepping = ap (λ (taken : NewKey). keeping_step k (endpoint_input (operator_command (Key taken)))) as_it_is ∙ stepped k (Key key) fresh.1 in
+    let is = answered e n (Key key) fresh.0 ∙ ap (by_inside e n (Key key)) stepping in
+    record { text = ap (λ (a : Answer). a.text) is; state = ap (λ (a : Answer). a.after.k.secy) is }
+answers_as_printed e n (line.Action (action.Event (event.Command A (Retire m)))) = λ refused not_forgotten.
+    let k = e.k in
+    let fresh = neither (begins_again e (operator_command (Retire m))) (is_below_floor k (operator_command (Retire m))) refused in
     let left = with_step k (step k.secy (operator_command (Retire m))) in
+    let is = answered e n (Retire m) fresh.0 ∙ ap (λ (it : KeepingOutput × Keeping). by_inside e n (Retire m) (then_forget (Some m) it)) (stepped k (Retire m) fresh.1) in
     record {
-      text = ap (λ (it : KeepingOutput × Keeping). (commanded n it.0 (then_forget (Some m) it).1).text) is;
+      text = ap (λ (a : Answer). a.text) is;
       state =
           subst (λ (t : State). IsForgotten k m (step k.secy (operator_command (Retire m))).1 t)
-          (sym (ap (λ (it : KeepingOutput × Keeping). (commanded n it.0 (then_forget (Some m) it).1).after.secy) is)) (forgotten_if left.1 m (is_done left.0));
+          (sym (ap (λ (a : Answer). a.after.k.secy) is)) (forgotten_if left.1 m (is_done left.0));
     }
-answers_as_printed k n (line.Action (action.Event (event.Command A c))) = λ above not_forgotten.
-    let is = stepped k c above in
-    record { text = ap (λ it. (commanded n it.0 it.1).text) is; state = ap (λ it. (commanded n it.0 it.1).after.secy) is }
-answers_as_printed k n (line.Action (action.Counters A)) = λ above not_forgotten. record { text = refl; state = refl }
-answers_as_printed k n (line.Action (action.Numbers A)) = λ above not_forgotten. record { text = refl; state = refl }
-answers_as_printed k n (line.End e config) = refl
-answers_as_printed k n (line.Action other) = λ above not_forgotten. refl
+answers_as_printed e n (line.Action (action.Event (event.Command A c))) = λ refused not_forgotten.
+    let fresh = neither (begins_again e (operator_command c)) (is_below_floor e.k (operator_command c)) refused in
+    let is = answered e n c fresh.0 ∙ ap (by_inside e n c) (stepped e.k c fresh.1) in
+    record { text = ap (λ (a : Answer). a.text) is; state = ap (λ (a : Answer). a.after.k.secy) is }
+answers_as_printed e n (line.Action (action.Counters A)) = λ refused not_forgotten. record { text = refl; state = refl }
+answers_as_printed e n (line.Action (action.Numbers A)) = λ refused not_forgotten. record { text = refl; state = refl }
+answers_as_printed e n (line.End at config) = refl
+answers_as_printed e n (line.Action other) = λ refused not_forgotten. refl

@@ -9,9 +9,9 @@ use Rattle.macsec_suite.specs.declared.refusal.Refusal.TheVariants.{KeyLength, O
 use Rattle.macsec_suite.specs.declared.refusal.Refusal.TheVariants.{ScFull, NoSc, AnTaken, NoSa, PnRange, PnLower, PnFloor, SsciOwn, Window, SciForm, Exhausted}
 use Rattle.macsec_commands.specs.declared.command.Command.{Command}
 use Rattle.macsec_commands.specs.declared.event.End.TheVariants.{A}
-use Rattle.macsec_secy.specs.Step.{Output, operator_command, refused}
-use Rattle.macsec_reserve.specs.Forgetting.{forgetting_step}
-use Rattle.macsec_reserve.specs.Keeping.{Keeping, KeepingOutput, dropped_no_reservation, endpoint_input, endpoint_output, noted}
+use Rattle.macsec_secy.specs.Step.{Output, refused}
+use Rattle.macsec_reserve.specs.Keeping.{dropped_no_reservation, endpoint_output, noted}
+use Rattle.macsec_ahead.specs.Ahead.{Ahead, AheadOutput, command_forgetting, dropped_before_this_run, dropped_not_reserved, kept}
 use Rattle.macsec_script_parser.specs.Kinds.{tells}
 use Rattle.macsec_script_printer.specs.Refusals.{refusal_text}
 use Rattle.macsec_script_printer.specs.OneEnd.{command_text}
@@ -63,14 +63,16 @@ command_short n small (refused r) =
     omega (arith, four (decimal n) (codes " refused ") (refusal_text r) (codes "\n"), number_short n small, refusal_short r)
 command_short n small other = done_short n small
 
-pub commanded_short : (n : ℕ) → n < 2 ^ 32 → (output : KeepingOutput) (k : Keeping) → length (commanded n output k).text ≤ 64
-commanded_short n small (endpoint_output output) k = command_short n small output
-commanded_short n small dropped_no_reservation k = omega arith
-commanded_short n small noted k = omega arith
+pub commanded_short : (n : ℕ) → n < 2 ^ 32 → (output : AheadOutput) (e : Ahead) → length (commanded n output e).text ≤ 64
+commanded_short n small (kept (endpoint_output output)) e = command_short n small output
+commanded_short n small (kept dropped_no_reservation) e = omega arith
+commanded_short n small (kept noted) e = omega arith
+commanded_short n small (dropped_not_reserved at) e = omega arith
+commanded_short n small (dropped_before_this_run at) e = omega arith
 
 -- no answer to a management command needs more than the smallest buffer
-pub command_needs : (k : Keeping) (n : ℕ) (c : Command) → n < 2 ^ 32 → needed (answer_of_line k n (tells A c)) ≡ 64
-command_needs k n c small =
-    let after = forgetting_step k (endpoint_input (operator_command c)) in
+pub command_needs : (e : Ahead) (n : ℕ) (c : Command) → n < 2 ^ 32 → needed (answer_of_line e n (tells A c)) ≡ 64
+command_needs e n c small =
+    let after = command_forgetting e c in
     let short = commanded_short n small after.0 after.1 in
     omega arith

@@ -5,7 +5,8 @@ use Rattle.macsec_secy.specs.declared.answers.DropReason.TheVariants as reason
 use Rattle.macsec_secy.specs.declared.fault.FrameFault.{FrameFault}
 use Rattle.macsec_secy.specs.Jobs.{job_of_frame}
 use Rattle.macsec_secy.specs.Step.{client_frame, frame_fault, link_frame}
-use Rattle.macsec_reserve.specs.Keeping.{Keeping, endpoint_input, keeping_step}
+use Rattle.macsec_reserve.specs.Keeping.{endpoint_input}
+use Rattle.macsec_ahead.specs.Ahead.{Ahead, ahead_step}
 use Rattle.macsec_jobs.specs.declared.answers.SendPlan.{SendPlan}
 use Rattle.macsec_jobs.specs.declared.answers.SendPlan.TheVariants as plan
 use Rattle.macsec_jobs.specs.declared.job_fault.JobFault.{JobFault}
@@ -15,9 +16,9 @@ use Rattle.macsec_jobs.specs.Slots.{SlotState, frame_planned, is_idle, is_openin
 use Rattle.macsec_c_calls.specs.declared.jobs.Finished.{Finished}
 use Rattle.macsec_c_calls.specs.declared.jobs.Planned.{Planned}
 use Rattle.macsec_c_calls.specs.ReceivedParts.{ReceivedParts, unreceived}
-use Rattle.macsec_c_calls.specs.ReceivedParts.{parts_of_kept as received_of_kept}
+use Rattle.macsec_c_calls.specs.ReceivedParts.{parts_of_ahead as received_of}
 use Rattle.macsec_c_calls.specs.SentParts.{SentParts}
-use Rattle.macsec_c_calls.specs.SentParts.{parts_of_kept as sent_of_kept}
+use Rattle.macsec_c_calls.specs.SentParts.{parts_of_ahead as sent_of}
 use Rattle.macsec_c_calls.specs.Statuses.{done_status, job_status, space_status, status_of_frame_fault, status_of_job_fault}
 
 -- ---- plans
@@ -45,47 +46,47 @@ taken_as (Ok job) key = planned_as 0 (if job then key else 0) job
 taken_as (Err f) key = unplanned (status_of_frame_fault f)
 
 -- the answer that `macsec_send` would have
-abbrev pub sent_by : Keeping → List ℕ → SentParts
-sent_by k frame = sent_of_kept (keeping_step k (endpoint_input (client_frame frame))).0
+abbrev pub sent_by : Ahead → List ℕ → SentParts
+sent_by e frame = sent_of (ahead_step e (endpoint_input (client_frame frame))).0
 
 -- the endpoint takes its step for the client frame, and the answer is that of the step, but for a protected frame: that is
 -- what the slot's job makes
-pub record IsPlanned (k : Keeping) (client : List ℕ) (result : Planned) (later : Keeping) (left : SlotState) : Type 0 where
-  pub after : later ≡ (keeping_step k (endpoint_input (client_frame client))).1
-  pub status : result.status ≡ (sent_by k client).status
-  pub fate : result.fate ≡ (sent_by k client).fate
-  pub key : result.key ≡ (sent_by k client).key
+pub record IsPlanned (e : Ahead) (client : List ℕ) (result : Planned) (later : Ahead) (left : SlotState) : Type 0 where
+  pub after : later ≡ (ahead_step e (endpoint_input (client_frame client))).1
+  pub status : result.status ≡ (sent_by e client).status
+  pub fate : result.fate ≡ (sent_by e client).fate
+  pub key : result.key ≡ (sent_by e client).key
   pub job : result.job ≡ is_sealing left.work
-  pub frame : is_sealing left.work ≡ true → frame_planned left ≡ (sent_by k client).frame
+  pub frame : is_sealing left.work ≡ true → frame_planned left ≡ (sent_by e client).frame
   pub idle : is_idle left.work ≡ not result.job
   pub reserved : result.reserved ≡ replicate 4 0
 
 -- by whether the slot has no frame; else nothing changes
-abbrev pub PlansIf : Bool → Keeping → SlotState → List ℕ → Planned → Keeping → SlotState → Type 0
-PlansIf true k s frame result after left = IsPlanned k frame result after left
-PlansIf false k s frame result after left = (result ≡ unplanned job_status) × (after ≡ k) × (left ≡ s)
+abbrev pub PlansIf : Bool → Ahead → SlotState → List ℕ → Planned → Ahead → SlotState → Type 0
+PlansIf true e s frame result after left = IsPlanned e frame result after left
+PlansIf false e s frame result after left = (result ≡ unplanned job_status) × (after ≡ e) × (left ≡ s)
 
-abbrev pub PlansToSend : Keeping → SlotState → List ℕ → Planned → Keeping → SlotState → Type 0
-PlansToSend k s frame result after left = PlansIf (is_idle s.work) k s frame result after left
+abbrev pub PlansToSend : Ahead → SlotState → List ℕ → Planned → Ahead → SlotState → Type 0
+PlansToSend e s frame result after left = PlansIf (is_idle s.work) e s frame result after left
 
 -- the slot has the link frame, with the opening that it needs, if it needs one
-pub record IsTaken (k : Keeping) (link : List ℕ) (result : Planned) (left : SlotState) : Type 0 where
+pub record IsTaken (e : Ahead) (link : List ℕ) (result : Planned) (left : SlotState) : Type 0 where
   pub frame : left.frame ≡ link
-  pub planned : PlansWork left.work left.key (job_of_frame k.secy link) k.secy.keys
+  pub planned : PlansWork left.work left.key (job_of_frame e.k.secy link) e.k.secy.keys
   pub shown : result ≡ planned_as 0 (if is_opening left.work then left.key.number else 0) (is_opening left.work)
 
 -- by the fault of the frame
-abbrev pub TakesUnless : Option FrameFault → Keeping → List ℕ → Planned → SlotState → Type 0
-TakesUnless None k frame result left = IsTaken k frame result left
-TakesUnless (Some f) k frame result left = (result ≡ unplanned (status_of_frame_fault f)) × (is_idle left.work ≡ true)
+abbrev pub TakesUnless : Option FrameFault → Ahead → List ℕ → Planned → SlotState → Type 0
+TakesUnless None e frame result left = IsTaken e frame result left
+TakesUnless (Some f) e frame result left = (result ≡ unplanned (status_of_frame_fault f)) × (is_idle left.work ≡ true)
 
 -- by whether the slot has no frame; else nothing changes
-abbrev pub TakesIf : Bool → Keeping → SlotState → List ℕ → Planned → SlotState → Type 0
-TakesIf true k s frame result left = TakesUnless (frame_fault frame) k frame result left
-TakesIf false k s frame result left = (result ≡ unplanned job_status) × (left ≡ s)
+abbrev pub TakesIf : Bool → Ahead → SlotState → List ℕ → Planned → SlotState → Type 0
+TakesIf true e s frame result left = TakesUnless (frame_fault frame) e frame result left
+TakesIf false e s frame result left = (result ≡ unplanned job_status) × (left ≡ s)
 
-abbrev pub PlansToReceive : Keeping → SlotState → List ℕ → Planned → SlotState → Type 0
-PlansToReceive k s frame result left = TakesIf (is_idle s.work) k s frame result left
+abbrev pub PlansToReceive : Ahead → SlotState → List ℕ → Planned → SlotState → Type 0
+PlansToReceive e s frame result left = TakesIf (is_idle s.work) e s frame result left
 
 -- ---- jobs
 
@@ -112,28 +113,28 @@ OpensWith s key status left = OpensUnless (open_fault s.work s.key key) s status
 -- ---- receiving
 
 abbrev pub parts_of_finished : Finished → List ℕ → ReceivedParts
-parts_of_finished r out = record { status = r.status; verdict = r.verdict; place = (r.has_sa, r.sci, r.an); delivered = (r.delivered, take r.length out); reserved = r.reserved }
+parts_of_finished r out = record { status = r.status; verdict = r.verdict; place = (r.has_sa, r.sci, r.an); delivered = (r.delivered, take r.length out); pn = r.pn; reserved = r.reserved }
 
 -- the endpoint takes its step for the link frame of the slot, with the answer that `macsec_receive` would have; what is
 -- delivered is at the start of the buffer
-pub record IsFinished (k : Keeping) (link : List ℕ) (result : Finished) (out : List ℕ) (later : Keeping) (left : SlotState) : Type 0 where
-  pub after : later ≡ (keeping_step k (endpoint_input (link_frame link))).1
-  pub shown : parts_of_finished result out ≡ received_of_kept (keeping_step k (endpoint_input (link_frame link))).0
+pub record IsFinished (e : Ahead) (link : List ℕ) (result : Finished) (out : List ℕ) (later : Ahead) (left : SlotState) : Type 0 where
+  pub after : later ≡ (ahead_step e (endpoint_input (link_frame link))).1
+  pub shown : parts_of_finished result out ≡ received_of (ahead_step e (endpoint_input (link_frame link))).0
   pub idle : is_idle left.work ≡ true
 
 -- nothing changes, with this status
-pub record IsUnfinished (status : ℕ) (k : Keeping) (s : SlotState) (result : Finished) (out out_after : List ℕ) (later : Keeping) (left : SlotState) : Type 0 where
+pub record IsUnfinished (status : ℕ) (e : Ahead) (s : SlotState) (result : Finished) (out out_after : List ℕ) (later : Ahead) (left : SlotState) : Type 0 where
   pub shown : parts_of_finished result out_after ≡ unreceived status
   pub same_out : out_after ≡ out
-  pub same_endpoint : later ≡ k
+  pub same_endpoint : later ≡ e
   pub same_slot : left ≡ s
 
 -- by whether the slot has a link frame, and whether the buffer is too small
-abbrev pub FinishesIf : Bool → Bool → Keeping → SlotState → List ℕ → Finished → List ℕ → Keeping → SlotState → Type 0
-FinishesIf false small k s out result out_after after left = IsUnfinished job_status k s result out out_after after left
-FinishesIf true true k s out result out_after after left = IsUnfinished space_status k s result out out_after after left
-FinishesIf true false k s out result out_after after left = IsFinished k s.frame result out_after after left
+abbrev pub FinishesIf : Bool → Bool → Ahead → SlotState → List ℕ → Finished → List ℕ → Ahead → SlotState → Type 0
+FinishesIf false small e s out result out_after after left = IsUnfinished job_status e s result out out_after after left
+FinishesIf true true e s out result out_after after left = IsUnfinished space_status e s result out out_after after left
+FinishesIf true false e s out result out_after after left = IsFinished e s.frame result out_after after left
 
-abbrev pub FinishesFrame : Keeping → SlotState → List ℕ → Finished → List ℕ → Keeping → SlotState → Type 0
-FinishesFrame k s out result out_after after left =
-    FinishesIf (is_received s.work) (nat_lt (length out) max_frame_len) k s out result out_after after left
+abbrev pub FinishesFrame : Ahead → SlotState → List ℕ → Finished → List ℕ → Ahead → SlotState → Type 0
+FinishesFrame e s out result out_after after left =
+    FinishesIf (is_received s.work) (nat_lt (length out) max_frame_len) e s out result out_after after left

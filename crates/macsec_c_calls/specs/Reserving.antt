@@ -1,5 +1,5 @@
 -- What the calls for reservations return.
-use Rattle.std.specs.Prelude.{◌≡◌, ℕ, List, [], ◌∷◌, ◌++◌, drop, length, true, false, Option, Some, None, option_and_then, option_map, Ok, Err}
+use Rattle.std.specs.Prelude.{◌≡◌, ℕ, List, [], ◌∷◌, ◌++◌, drop, length, max, true, false, Option, Some, None, option_and_then, option_map, Ok, Err}
 use Rattle.macsec_commands.specs.declared.fault.NewFault.TheVariants.{Memory}
 use Rattle.macsec_tag.specs.declared.identifiers.Sci.{Sci}
 use Rattle.macsec_tx.specs.Transmit.{tx_row}
@@ -9,8 +9,9 @@ use Rattle.macsec_reserve.specs.declared.compaction.CompactFault.TheVariants as 
 use Rattle.macsec_reserve.specs.declared.reservation.Reservation.{Reservation}
 use Rattle.macsec_reserve.specs.Compaction.{compacted}
 use Rattle.macsec_reserve.specs.Journal.{is_journal}
-use Rattle.macsec_reserve.specs.Keeping.{Keeping, keeping_step, now_durable, wanted_for}
+use Rattle.macsec_reserve.specs.Keeping.{Keeping, now_durable, wanted_for}
 use Rattle.macsec_reserve.specs.Replay.{saved_for}
+use Rattle.macsec_ahead.specs.Ahead.{Ahead, ahead_step, wanted_to_accept}
 use Rattle.macsec_c_calls.specs.Arguments.{Named}
 use Rattle.macsec_c_calls.specs.Statuses.{done_status, not_journal_status, not_record_status, status_of_new_fault}
 
@@ -22,6 +23,11 @@ wanted_at amount k an = option_and_then (wanted_for k amount) (tx_row k.secy.tx 
 abbrev pub saved_at : Sci → Keeping → ℕ → Option Reservation
 saved_at sci k an = option_map (saved_for k.salt k.secy) (rx_row k.secy.rx.rows sci an)
 
+-- the reservation that the receive SA of this SCI and number needs next to accept up to `amount` packet numbers, if it
+-- exists and needs one: after its own next one, or after that of a frame which was dropped if that is later
+abbrev pub accepting_at : Sci → ℕ → ℕ → Ahead → ℕ → Option Reservation
+accepting_at sci amount pn e an = option_and_then (λ row. wanted_to_accept e amount (max row.next pn) row) (rx_row e.k.secy.rx.rows sci an)
+
 -- a key number after an AN: the fault of the AN comes first
 abbrev pub key_after : Named ℕ → Named ℕ → Named ℕ
 key_after (Ok an) key = key
@@ -29,9 +35,9 @@ key_after (Err f) key = Err f
 
 -- the status of a report that what some octets reserve is durable, and the endpoint after it: nothing changes if the octets
 -- are no record
-abbrev pub reported : Keeping → List Reservation → ℕ × Keeping
-reported k [] = (not_record_status, k)
-reported k (r ∷ more) = (done_status, (keeping_step k (now_durable r)).1)
+abbrev pub reported : Ahead → List Reservation → ℕ × Ahead
+reported e [] = (not_record_status, e)
+reported e (r ∷ more) = (done_status, (ahead_step e (now_durable r)).1)
 
 -- the octets of a buffer, and the number of those that a call has written
 abbrev pub Written : Type 0

@@ -2,6 +2,7 @@
 use Rattle.std.specs.Prelude.{ℕ, List, [], replicate, Option, Some, None}
 use Rattle.macsec_secy.specs.Step.{Output, done, refused, leaves, dropped_no_sa, dropped_too_long, received, fault}
 use Rattle.macsec_reserve.specs.Keeping.{KeepingOutput, dropped_no_reservation, endpoint_output, noted}
+use Rattle.macsec_ahead.specs.Ahead.{AheadOutput, dropped_before_this_run, dropped_not_reserved, kept}
 use Rattle.macsec_c_calls.specs.declared.sending.Sent.{Sent}
 use Rattle.macsec_c_calls.specs.Statuses.{done_status, status_of_frame_fault}
 
@@ -42,3 +43,9 @@ abbrev pub parts_of_kept : KeepingOutput → SentParts
 parts_of_kept (endpoint_output output) = parts_of_output output
 parts_of_kept dropped_no_reservation = unsent done_status 5
 parts_of_kept noted = unsent done_status 0
+
+-- a client frame has only the first
+abbrev pub parts_of_ahead : AheadOutput → SentParts
+parts_of_ahead (kept output) = parts_of_kept output
+parts_of_ahead (dropped_not_reserved at) = unsent done_status 0
+parts_of_ahead (dropped_before_this_run at) = unsent done_status 0

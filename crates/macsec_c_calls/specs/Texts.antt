@@ -20,12 +20,12 @@ use Rattle.macsec_script_parser.specs.Kinds.{and_then, line_of}
 use Rattle.macsec_script_parser.specs.Readings.{Reads}
 use Rattle.macsec_script_parser.specs.Parts.{ConfigParts, NumberedCommand}
 use Rattle.macsec_script_parser.specs.Scripts.{config_of}
-use Rattle.macsec_secy.specs.Step.{Output, refused, operator_command}
+use Rattle.macsec_secy.specs.Step.{Output, refused}
 use Rattle.macsec_reserve.specs.declared.keeper.OpenFault.{OpenFault}
 use Rattle.macsec_reserve.specs.declared.keeper.OpenFault.TheVariants as open_fault
 use Rattle.macsec_reserve.specs.Journal.{is_journal}
-use Rattle.macsec_reserve.specs.Forgetting.{forgetting_step}
-use Rattle.macsec_reserve.specs.Keeping.{Keeping, KeepingOutput, alone, dropped_no_reservation, endpoint_input, endpoint_output, noted, opened}
+use Rattle.macsec_reserve.specs.Keeping.{KeepingOutput, dropped_no_reservation, endpoint_output, noted}
+use Rattle.macsec_ahead.specs.Ahead.{Ahead, AheadOutput, alone_with, command_forgetting, dropped_before_this_run, dropped_not_reserved, kept, opened_with}
 use Rattle.macsec_c_calls.specs.declared.configuring.ConfigFault.{ConfigFault}
 use Rattle.macsec_c_calls.specs.declared.configuring.ConfigFault.TheVariants.{Text, New, NotJournal, Refused}
 use Rattle.macsec_c_calls.specs.Commands.{commanded}
@@ -38,68 +38,73 @@ command_of other = None
 
 -- ---- a configuration
 
--- why no keeping endpoint is opened
+-- why no endpoint is opened
 abbrev pub config_fault_of : OpenFault → ConfigFault
 config_fault_of (open_fault.Endpoint f) = New f
 config_fault_of open_fault.NotJournal = NotJournal
 config_fault_of open_fault.Memory = New new.Memory
 
 -- the endpoint after the command of line n, or the refusal
-abbrev pub after_endpoint_output : ℕ → Output → Keeping → Result Keeping ConfigFault
+abbrev pub after_endpoint_output : ℕ → Output → Ahead → Result Ahead ConfigFault
 after_endpoint_output n (refused r) after = Err (Refused n r)
 after_endpoint_output n other after = Ok after
 
-abbrev pub after_output : ℕ → KeepingOutput → Keeping → Result Keeping ConfigFault
-after_output n (endpoint_output output) after = after_endpoint_output n output after
-after_output n dropped_no_reservation after = Ok after
-after_output n noted after = Ok after
+abbrev pub after_kept : ℕ → KeepingOutput → Ahead → Result Ahead ConfigFault
+after_kept n (endpoint_output output) after = after_endpoint_output n output after
+after_kept n dropped_no_reservation after = Ok after
+after_kept n noted after = Ok after
 
-abbrev pub after_command : ℕ → Keeping → Command → Result Keeping ConfigFault
-after_command n k c =
-    let after = forgetting_step k (endpoint_input (operator_command c)) in
+abbrev pub after_output : ℕ → AheadOutput → Ahead → Result Ahead ConfigFault
+after_output n (kept output) after = after_kept n output after
+after_output n (dropped_not_reserved at) after = Ok after
+after_output n (dropped_before_this_run at) after = Ok after
+
+abbrev pub after_command : ℕ → Ahead → Command → Result Ahead ConfigFault
+after_command n e c =
+    let after = command_forgetting e c in
     after_output n after.0 after.1
 
 -- the endpoint after these commands, which are carried out in order until one is refused
-abbrev pub carried_out : Keeping → List NumberedCommand → Result Keeping ConfigFault
-carried_out k [] = Ok k
-carried_out k (first ∷ more) = and_then (after_command first.0 k first.1) (λ after. carried_out after more)
+abbrev pub carried_out : Ahead → List NumberedCommand → Result Ahead ConfigFault
+carried_out e [] = Ok e
+carried_out e (first ∷ more) = and_then (after_command first.0 e first.1) (λ after. carried_out after more)
 
 -- what creates an endpoint of a configuration
 abbrev pub Creation : Type 0
-Creation = EndConfig → Result Keeping ConfigFault
+Creation = EndConfig → Result Ahead ConfigFault
 
 -- the endpoint, unless the configuration has a fault
-abbrev pub unless_new_fault : Option NewFault → Keeping → Result Keeping ConfigFault
+abbrev pub unless_new_fault : Option NewFault → Ahead → Result Ahead ConfigFault
 unless_new_fault None made = Ok made
 unless_new_fault (Some f) made = Err (New f)
 
 -- without a journal
 abbrev pub created_alone : Creation
-created_alone config = unless_new_fault (config_fault config) (alone config)
+created_alone config = unless_new_fault (config_fault config) (alone_with config)
 
--- beside these octets, if they are a journal
-abbrev pub created_if : Bool → List ℕ → Creation
-created_if false journal config = Err NotJournal
-created_if true journal config = unless_new_fault (config_fault config) (opened config journal)
+-- beside these octets, if they are a journal; it reserves ahead of receiving, or not
+abbrev pub created_if : Bool → Bool → List ℕ → Creation
+created_if false ahead journal config = Err NotJournal
+created_if true ahead journal config = unless_new_fault (config_fault config) (opened_with ahead config journal)
 
-abbrev pub created_beside : List ℕ → Creation
-created_beside journal config = created_if (is_journal journal) journal config
+abbrev pub created_beside : Bool → List ℕ → Creation
+created_beside ahead journal config = created_if (is_journal journal) ahead journal config
 
 -- the endpoint of a configuration, after its commands
-abbrev pub endpoint_of : Creation → ConfigParts → Result Keeping ConfigFault
+abbrev pub endpoint_of : Creation → ConfigParts → Result Ahead ConfigFault
 endpoint_of creation config = and_then (creation config.end) (λ made. carried_out made config.commands)
 
 -- the same for a text, or the text's first fault
-abbrev pub endpoint_of_parsed : Creation → Result ConfigParts ScriptFault → Result Keeping ConfigFault
+abbrev pub endpoint_of_parsed : Creation → Result ConfigParts ScriptFault → Result Ahead ConfigFault
 endpoint_of_parsed creation (Ok config) = endpoint_of creation config
 endpoint_of_parsed creation (Err f) = Err (Text f)
 
-abbrev pub configured : Creation → List ℕ → Result Keeping ConfigFault
+abbrev pub configured : Creation → List ℕ → Result Ahead ConfigFault
 configured creation text = endpoint_of_parsed creation (config_of text)
 
 -- a configuration gives its endpoint or its fault, unless memory runs out
-abbrev pub MakesConfigured : Result Keeping ConfigFault → Result Keeping ConfigFault → Type 0
-MakesConfigured meant (Ok k) = meant ≡ Ok k
+abbrev pub MakesConfigured : Result Ahead ConfigFault → Result Ahead ConfigFault → Type 0
+MakesConfigured meant (Ok e) = meant ≡ Ok e
 MakesConfigured meant (Err (Text script.Memory)) = Unit {0}
 MakesConfigured meant (Err (New new.Memory)) = Unit {0}
 MakesConfigured meant (Err f) = meant ≡ Err f
@@ -139,12 +144,12 @@ abbrev pub line_command : List ℕ → Result (Option Command) LineFault
 line_command text = and_then (line_of text) command_of_parsed
 
 -- the status of a line that was read, and the endpoint after it
-abbrev pub line_commanded : Keeping → Result (Option Command) LineFault → ℕ × Keeping
-line_commanded k (Ok (Some c)) = commanded k (Ok c)
-line_commanded k (Ok None) = (done_status, k)
-line_commanded k (Err f) = (status_of_line_fault f, k)
+abbrev pub line_commanded : Ahead → Result (Option Command) LineFault → ℕ × Ahead
+line_commanded e (Ok (Some c)) = commanded e (Ok c)
+line_commanded e (Ok None) = (done_status, e)
+line_commanded e (Err f) = (status_of_line_fault f, e)
 
 -- the line is read, unless memory runs out, and then carried out
-abbrev pub CommandsLine : Keeping → List ℕ → ℕ → Keeping → Type 0
-CommandsLine k text status after =
-    (read : Result (Option Command) LineFault) × Reads (line_command text) read × ((status, after) ≡ line_commanded k read)
+abbrev pub CommandsLine : Ahead → List ℕ → ℕ → Ahead → Type 0
+CommandsLine e text status after =
+    (read : Result (Option Command) LineFault) × Reads (line_command text) read × ((status, after) ≡ line_commanded e read)

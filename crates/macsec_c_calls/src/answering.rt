@@ -2,7 +2,7 @@
 
 ghost use Rattle.std.specs.Prelude.{◌≡◌, ◌≤◌, ◌++◌, ℕ, List, IfOk, drop, length, max, true};
 ghost use Rattle.macsec_commands.specs.declared.event.End.TheVariants.{A};
-ghost use Rattle.macsec_reserve.specs.Keeping.{Keeping};
+ghost use Rattle.macsec_ahead.specs.Ahead.{Ahead};
 ghost use Rattle.macsec_script_parser.specs.Kinds.{tells};
 ghost use Rattle.macsec_secy.specs.Answers.{output_of_command};
 ghost use Rattle.macsec_c_calls.specs.declared.answering.Ending.TheVariants.{Wrong};
@@ -11,8 +11,8 @@ ghost use Rattle.macsec_c_calls.specs.Writing.{Answers, Writes, is_answered, min
 
 use crate::texts::{command_text, counters_text, fault_text, numbers_text};
 use crate::{ANSWER_LONG, DONE, status_of_line_fault};
+use macsec_ahead::AheadKeeper;
 use macsec_commands::{Command, End, Event};
-use macsec_reserve::Keeper;
 use macsec_script_parser::{Action, Line, LineFault, ScriptFault, parse_line};
 use macsec_secy::Refusal;
 use std::alloc::Global;
@@ -59,11 +59,17 @@ pub struct Answered {
 /// Answers line `n` with this text, without its line feed: carries out its command at end A, or shows counters or
 /// packet numbers. Writes what a script prints for the line to the beginning of the buffer. Changes nothing if the line
 /// is wrong or not about end A alone, if the buffer is too small, or if memory runs out.
-pub fn answer(alloc: Global, keeper: &mut Keeper, n: u32, text: &[u8], out: &mut [u8]) -> Answered
-    ensures { Answers keeper.old n text.now out.old result out.new keeper.new }
+pub fn answer(
+    alloc: Global,
+    endpoint: &mut AheadKeeper,
+    n: u32,
+    text: &[u8],
+    out: &mut [u8],
+) -> Answered
+    ensures { Answers endpoint.old n text.now out.old result out.new endpoint.new }
 {
     match parse_line(alloc, text) {
-        Ok(Some(line)) => answer_line(alloc, keeper, n, &line, out),
+        Ok(Some(line)) => answer_line(alloc, endpoint, n, &line, out),
         Ok(None) => write_answer(out, Ending::Done, &[]),
         Err(LineFault::Memory) => out_of_memory(),
         Err(fault) => answer_fault(alloc, n, fault, out),
@@ -71,28 +77,34 @@ pub fn answer(alloc: Global, keeper: &mut Keeper, n: u32, text: &[u8], out: &mut
 }
 
 /// Answers line `n`.
-fn answer_line(alloc: Global, keeper: &mut Keeper, n: u32, line: &Line, out: &mut [u8]) -> Answered
-    ensures { Writes keeper.old (answer_of_line keeper.old n line.now) out.old result out.new keeper.new }
+fn answer_line(
+    alloc: Global,
+    endpoint: &mut AheadKeeper,
+    n: u32,
+    line: &Line,
+    out: &mut [u8],
+) -> Answered
+    ensures { Writes endpoint.old (answer_of_line endpoint.old n line.now) out.old result out.new endpoint.new }
 {
     match line {
         Line::Action(Action::Event(Event::Command(End::A, command))) => answer_command(
-            keeper, n, command, out,
+            endpoint, n, command, out,
         ),
         Line::Action(Action::Counters(End::A)) => answer_shown(
             out,
-            counters_text(alloc, n, keeper.secy()),
+            counters_text(alloc, n, endpoint.keeper().secy()),
         ),
         Line::Action(Action::Numbers(End::A)) => answer_shown(
             out,
-            numbers_text(alloc, n, keeper.secy()),
+            numbers_text(alloc, n, endpoint.keeper().secy()),
         ),
         _ => answer_fault(alloc, n, LineFault::Ends, out),
     }
 }
 
 /// Answers a management command of line `n`.
-fn answer_command(keeper: &mut Keeper, n: u32, command: &Command, out: &mut [u8]) -> Answered
-    ensures { Writes keeper.old (answer_of_line keeper.old n (tells A command.now)) out.old result out.new keeper.new }
+fn answer_command(endpoint: &mut AheadKeeper, n: u32, command: &Command, out: &mut [u8]) -> Answered
+    ensures { Writes endpoint.old (answer_of_line endpoint.old n (tells A command.now)) out.old result out.new endpoint.new }
 {
     if out.len() < MIN_ANSWER_LEN {
         return Answered {
@@ -100,7 +112,7 @@ fn answer_command(keeper: &mut Keeper, n: u32, command: &Command, out: &mut [u8]
             length: MIN_ANSWER_LEN,
         };
     }
-    let outcome = keeper.command_forgetting(command);
+    let outcome = endpoint.command_forgetting(command);
     let text = command_text(n, outcome);
     let octets = text.as_str().as_bytes();
     put(out, octets);
@@ -122,7 +134,7 @@ fn ending_of(outcome: Result<(), Refusal>) -> Ending
 
 /// Answers a line by this text, unless memory ran out.
 fn answer_shown(out: &mut [u8], text: Result<Vec<u8>, ScriptFault>) -> Answered
-    ensures { (k : Keeping) (meant : List ℕ) → IfOk text (λ t. t.items ≡ meant) → Writes k (shown k meant) out.old result out.new k }
+    ensures { (e : Ahead) (meant : List ℕ) → IfOk text (λ t. t.items ≡ meant) → Writes e (shown e meant) out.old result out.new e }
 {
     match text {
         Ok(text) => write_answer(out, Ending::Done, text.as_slice()),
@@ -133,7 +145,7 @@ fn answer_shown(out: &mut [u8], text: Result<Vec<u8>, ScriptFault>) -> Answered
 /// Answers a line with a fault.
 fn answer_fault(alloc: Global, n: u32, fault: LineFault, out: &mut [u8]) -> Answered
     requires { is_answered (Wrong fault) ≡ true }
-    ensures { (k : Keeping) → Writes k (wrong k n fault) out.old result out.new k }
+    ensures { (e : Ahead) → Writes e (wrong e n fault) out.old result out.new e }
 {
     match fault_text(alloc, n, fault) {
         Ok(text) => write_answer(out, Ending::Wrong(fault), text.as_slice()),
@@ -143,7 +155,7 @@ fn answer_fault(alloc: Global, n: u32, fault: LineFault, out: &mut [u8]) -> Answ
 
 /// The answer where memory ran out.
 fn out_of_memory() -> Answered
-    ensures { (k : Keeping) (a : Answer) (before : List ℕ) → Writes k a before result before k }
+    ensures { (e : Ahead) (a : Answer) (before : List ℕ) → Writes e a before result before e }
 {
     Answered {
         ending: Ending::Wrong(LineFault::Memory),
@@ -154,7 +166,7 @@ fn out_of_memory() -> Answered
 /// Writes an answer that changes nothing, if the buffer is large enough.
 fn write_answer(out: &mut [u8], ending: Ending, text: &[u8]) -> Answered
     requires { is_answered ending ≡ true }
-    ensures { (k : Keeping) → Writes k (record { ending = ending; text = text.now; after = k }) out.old result out.new k }
+    ensures { (e : Ahead) → Writes e (record { ending = ending; text = text.now; after = e }) out.old result out.new e }
 {
     let needed = needed_for(text);
     if out.len() < needed {

@@ -7,18 +7,18 @@ ghost use Rattle.macsec_c_calls.specs.Commands.{commanded};
 ghost use Rattle.macsec_c_calls.specs.Keys.{new_key_of};
 
 use crate::{ArgumentFault, DONE, an_of, key_number_of, key_of, key_suite_of};
-use macsec_reserve::Keeper;
+use macsec_ahead::AheadKeeper;
 use macsec_secy::{Command, NewKey, Sci};
 
 /// Carries out a command, or refuses it and changes nothing. Returns the status.
-pub fn carry_out(keeper: &mut Keeper, command: Result<Command, ArgumentFault>) -> u32
-    ensures { (result, keeper.new) ≡ commanded keeper.old command }
+pub fn carry_out(endpoint: &mut AheadKeeper, command: Result<Command, ArgumentFault>) -> u32
+    ensures { (result, endpoint.new) ≡ commanded endpoint.old command }
 {
     let command = match command {
         Ok(command) => command,
         Err(fault) => return fault.status(),
     };
-    match keeper.command_forgetting(&command) {
+    match endpoint.command_forgetting(&command) {
         Ok(()) => DONE,
         Err(refusal) => u32::from(refusal.number()),
     }

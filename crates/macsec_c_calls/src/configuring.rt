@@ -11,8 +11,9 @@ use crate::{
     DONE, NOT_JOURNAL, carry_out, endpoint_alone, endpoint_beside, status_of_line_fault,
     status_of_new_fault, status_of_script_fault,
 };
+use macsec_ahead::AheadKeeper;
 use macsec_commands::{End, Event};
-use macsec_reserve::{Keeper, OpenFault};
+use macsec_reserve::OpenFault;
 use macsec_script_parser::{Action, Line, LineFault, ScriptFault, parse_config, parse_line};
 use macsec_secy::{Command, EndConfig, NewFault, Refusal};
 use std::alloc::Global;
@@ -103,21 +104,24 @@ fn command_of(line: &Line) -> Option<Command>
 }
 
 /// Carries out the command of line `n`.
-fn carry_out_line(keeper: &mut Keeper, n: u32, command: &Command) -> Result<(), ConfigFault>
-    ensures { map_ok (λ done. keeper.new) result ≡ after_command n keeper.old command.now }
+fn carry_out_line(endpoint: &mut AheadKeeper, n: u32, command: &Command) -> Result<(), ConfigFault>
+    ensures { map_ok (λ done. endpoint.new) result ≡ after_command n endpoint.old command.now }
 {
-    match keeper.command_forgetting(command) {
+    match endpoint.command_forgetting(command) {
         Ok(()) => Ok(()),
         Err(refusal) => Err(ConfigFault::Refused(n, refusal)),
     }
 }
 
 /// Carries out the commands of these lines, until one is refused.
-fn carry_out_lines(keeper: &mut Keeper, commands: &[(u32, Command)]) -> Result<(), ConfigFault>
-    ensures { map_ok (λ done. keeper.new) result ≡ carried_out keeper.old commands.now }
+fn carry_out_lines(
+    endpoint: &mut AheadKeeper,
+    commands: &[(u32, Command)],
+) -> Result<(), ConfigFault>
+    ensures { map_ok (λ done. endpoint.new) result ≡ carried_out endpoint.old commands.now }
 {
     for (n, command) in commands {
-        carry_out_line(keeper, *n, command)?;
+        carry_out_line(endpoint, *n, command)?;
     }
     Ok(())
 }
@@ -127,12 +131,12 @@ fn endpoint_of(
     alloc: Global,
     end: EndConfig,
     commands: &[(u32, Command)],
-) -> Result<Box<Keeper, Global>, ConfigFault>
-    ensures { MakesConfigured (endpoint_of created_alone (record { end = end; commands = commands.now })) (map_ok (λ keeper. keeper.value) result) }
+) -> Result<Box<AheadKeeper, Global>, ConfigFault>
+    ensures { MakesConfigured (endpoint_of created_alone (record { end = end; commands = commands.now })) (map_ok (λ endpoint. endpoint.value) result) }
 {
-    let mut keeper = endpoint_alone(alloc, end)?;
-    carry_out_lines(&mut *keeper, commands)?;
-    Ok(keeper)
+    let mut endpoint = endpoint_alone(alloc, end)?;
+    carry_out_lines(&mut *endpoint, commands)?;
+    Ok(endpoint)
 }
 
 /// Creates an endpoint beside a journal, and carries out these commands.
@@ -141,30 +145,33 @@ fn endpoint_of_beside(
     end: EndConfig,
     commands: &[(u32, Command)],
     journal: &[u8],
-) -> Result<Box<Keeper, Global>, ConfigFault>
-    ensures { MakesConfigured (endpoint_of (created_beside journal.now) (record { end = end; commands = commands.now }))
-        (map_ok (λ keeper. keeper.value) result) }
+    ahead: bool,
+) -> Result<Box<AheadKeeper, Global>, ConfigFault>
+    ensures { MakesConfigured (endpoint_of (created_beside ahead journal.now) (record { end = end; commands = commands.now }))
+        (map_ok (λ endpoint. endpoint.value) result) }
 {
-    let mut keeper = endpoint_beside(alloc, end, journal)?;
-    carry_out_lines(&mut *keeper, commands)?;
-    Ok(keeper)
+    let mut endpoint = endpoint_beside(alloc, end, journal, ahead)?;
+    carry_out_lines(&mut *endpoint, commands)?;
+    Ok(endpoint)
 }
 
 /// Creates the endpoint of a configuration, and carries out its commands.
-pub fn configured(alloc: Global, text: &[u8]) -> Result<Box<Keeper, Global>, ConfigFault>
-    ensures { MakesConfigured (configured created_alone text.now) (map_ok (λ keeper. keeper.value) result) }
+pub fn configured(alloc: Global, text: &[u8]) -> Result<Box<AheadKeeper, Global>, ConfigFault>
+    ensures { MakesConfigured (configured created_alone text.now) (map_ok (λ endpoint. endpoint.value) result) }
 {
     let parsed = parse_config(alloc, text)?;
     endpoint_of(alloc, parsed.end.config(), parsed.commands.as_slice())
 }
 
-/// Creates the endpoint of a configuration beside a journal, and carries out the configuration's commands.
+/// Creates the endpoint of a configuration beside a journal, and carries out the configuration's commands. With `ahead` it
+/// reserves ahead of receiving.
 pub fn configured_beside(
     alloc: Global,
     text: &[u8],
     journal: &[u8],
-) -> Result<Box<Keeper, Global>, ConfigFault>
-    ensures { MakesConfigured (configured (created_beside journal.now) text.now) (map_ok (λ keeper. keeper.value) result) }
+    ahead: bool,
+) -> Result<Box<AheadKeeper, Global>, ConfigFault>
+    ensures { MakesConfigured (configured (created_beside ahead journal.now) text.now) (map_ok (λ endpoint. endpoint.value) result) }
 {
     let parsed = parse_config(alloc, text)?;
     endpoint_of_beside(
@@ -172,6 +179,7 @@ pub fn configured_beside(
         parsed.end.config(),
         parsed.commands.as_slice(),
         journal,
+        ahead,
     )
 }
 
@@ -189,11 +197,11 @@ fn line_command(alloc: Global, text: &[u8]) -> Result<Option<Command>, LineFault
 }
 
 /// Carries out the command of a line at end A, or refuses it and changes nothing. Returns the status.
-pub fn command_line(alloc: Global, keeper: &mut Keeper, text: &[u8]) -> u32
-    ensures { CommandsLine keeper.old text.now result keeper.new }
+pub fn command_line(alloc: Global, endpoint: &mut AheadKeeper, text: &[u8]) -> u32
+    ensures { CommandsLine endpoint.old text.now result endpoint.new }
 {
     match line_command(alloc, text) {
-        Ok(Some(command)) => carry_out(keeper, Ok(command)),
+        Ok(Some(command)) => carry_out(endpoint, Ok(command)),
         Ok(None) => DONE,
         Err(fault) => status_of_line_fault(fault),
     }

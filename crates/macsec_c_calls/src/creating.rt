@@ -2,12 +2,13 @@
 
 ghost use Rattle.std.specs.Prelude.{◌≡◌};
 ghost use Rattle.macsec_script_parser.specs.Fields.{map_ok};
-ghost use Rattle.macsec_reserve.specs.Answers.{MakesAlone, MakesKeeper};
+ghost use Rattle.macsec_ahead.specs.Answers.{MakesAhead, MakesAloneWith};
 ghost use Rattle.macsec_c_calls.specs.Configs.{config_of};
 ghost use Rattle.macsec_c_calls.specs.Statuses.{status_of_open_fault};
 
 use crate::{ArgumentFault, NOT_JOURNAL, form_of, status_of_new_fault, suite_of};
-use macsec_reserve::{Keeper, OpenFault};
+use macsec_ahead::AheadKeeper;
+use macsec_reserve::OpenFault;
 use macsec_secy::{EndConfig, NewFault, Sci};
 use std::alloc::Global;
 
@@ -34,36 +35,40 @@ pub fn config_of(config: &Config) -> Result<EndConfig, ArgumentFault>
 }
 
 /// Creates an endpoint of this configuration without a journal on the heap.
-pub fn endpoint_alone(alloc: Global, config: EndConfig) -> Result<Box<Keeper, Global>, NewFault>
-    ensures { MakesAlone config (map_ok (λ keeper. keeper.value) result) }
+pub fn endpoint_alone(
+    alloc: Global,
+    config: EndConfig,
+) -> Result<Box<AheadKeeper, Global>, NewFault>
+    ensures { MakesAloneWith config (map_ok (λ endpoint. endpoint.value) result) }
 {
     // `?` and a second `match` would need twice the stack for the endpoint.
-    let keeper = match Keeper::new(alloc, config) {
-        Ok(keeper) => keeper,
+    let endpoint = match AheadKeeper::new(alloc, config) {
+        Ok(endpoint) => endpoint,
         Err(fault) => return Err(fault),
     };
-    let Ok(keeper) = Box::new(alloc, keeper) else {
+    let Ok(endpoint) = Box::new(alloc, endpoint) else {
         return Err(NewFault::Memory);
     };
-    Ok(keeper)
+    Ok(endpoint)
 }
 
-/// Creates an endpoint of this configuration beside a journal on the heap.
+/// Creates an endpoint of this configuration beside a journal on the heap. With `ahead` it reserves ahead of receiving.
 pub fn endpoint_beside(
     alloc: Global,
     config: EndConfig,
     journal: &[u8],
-) -> Result<Box<Keeper, Global>, OpenFault>
-    ensures { MakesKeeper config journal.now (map_ok (λ keeper. keeper.value) result) }
+    ahead: bool,
+) -> Result<Box<AheadKeeper, Global>, OpenFault>
+    ensures { MakesAhead ahead config journal.now (map_ok (λ endpoint. endpoint.value) result) }
 {
-    let keeper = match Keeper::open(alloc, config, journal) {
-        Ok(keeper) => keeper,
+    let endpoint = match AheadKeeper::open(alloc, config, journal, ahead) {
+        Ok(endpoint) => endpoint,
         Err(fault) => return Err(fault),
     };
-    let Ok(keeper) = Box::new(alloc, keeper) else {
+    let Ok(endpoint) = Box::new(alloc, endpoint) else {
         return Err(OpenFault::Memory);
     };
-    Ok(keeper)
+    Ok(endpoint)
 }
 
 /// The status of a fault of an endpoint beside a journal.

@@ -2,17 +2,19 @@
 
 ghost use Rattle.std.specs.Prelude.{◌≡◌, ℕ, List, Ok};
 ghost use Rattle.macsec_jobs.specs.Answers.{output_of_finished};
+ghost use Rattle.macsec_jobs.specs.declared.answers.Finished.TheVariants as by;
 ghost use Rattle.macsec_c_calls.specs.Jobs.{FinishesFrame, OpensWith, PlansToReceive, PlansToSend, SealsWith, parts_of_finished, planned_as, planned_for, taken_as, unplanned};
-ghost use Rattle.macsec_c_calls.specs.ReceivedParts.{parts_of_kept, unreceived};
+ghost use Rattle.macsec_c_calls.specs.ReceivedParts.{dropped_parts, parts_of_ahead, unreceived};
 ghost use Rattle.macsec_c_calls.specs.Statuses.{status_of_job_fault};
 
 use crate::receiving::place_of;
 use crate::{
     DONE, FATE_NO_RESERVATION, FATE_NO_SA, FATE_NONE, FATE_PLAIN, FATE_PROTECTED, FATE_TOO_LONG,
-    JOB, OTHER_KEY, SPACE, number_of_verdict, status_of_frame_fault,
+    JOB, OTHER_KEY, SPACE, VERDICT_EARLIER_RUN, VERDICT_NO_RESERVATION, number_of_verdict,
+    status_of_frame_fault,
 };
-use macsec_jobs::{Finished as Reception, JobFault, JobKey, SendPlan, Slot};
-use macsec_reserve::Keeper;
+use macsec_ahead::{AheadKeeper, RxPn};
+use macsec_jobs::{Finished as Outcome, JobFault, JobKey, Reception, SendPlan, Slot};
 use macsec_secy::{DropReason, FrameFault, MAX_FRAME_LEN};
 
 /// The plan for a frame.
@@ -39,7 +41,7 @@ pub struct Finished {
     pub length: usize,
     /// The status.
     pub status: u32,
-    /// The number of the verdict, 1 to 12, or 0 if the status is not 0.
+    /// The number of the verdict, 1 to 14, or 0 if the status is not 0.
     pub verdict: u32,
     /// The SA that the frame is for, if `has_sa` is true: the SCI of its SC, and its AN.
     pub sci: [u8; 8],
@@ -47,8 +49,10 @@ pub struct Finished {
     pub has_sa: bool,
     /// Whether a frame is delivered.
     pub delivered: bool,
+    /// The packet number of a frame with verdict 13 or 14, else 0.
+    pub pn: u64,
     /// Zeros.
-    pub reserved: [u64; 3],
+    pub reserved: [u64; 2],
 }
 
 /// The status of a job that is not done.
@@ -89,13 +93,13 @@ fn planned_as(fate: u32, key: u16, job: bool) -> Planned
 }
 
 /// Plans a client frame, in a slot without a frame.
-pub fn plan_to_send(keeper: &mut Keeper, slot: &mut Slot, frame: &[u8]) -> Planned
-    ensures { PlansToSend keeper.old slot.old frame.now result keeper.new slot.new }
+pub fn plan_to_send(endpoint: &mut AheadKeeper, slot: &mut Slot, frame: &[u8]) -> Planned
+    ensures { PlansToSend endpoint.old slot.old frame.now result endpoint.new slot.new }
 {
     if !slot.is_idle() {
         return unplanned(JOB);
     }
-    let plan = slot.plan_send(keeper, frame);
+    let plan = slot.plan_send(endpoint, frame);
     planned_for(plan, slot.key_number())
 }
 
@@ -114,13 +118,13 @@ fn planned_for(plan: Result<SendPlan, FrameFault>, key: u16) -> Planned
 }
 
 /// Plans a link frame, in a slot without a frame. Nothing of the endpoint changes.
-pub fn plan_to_receive(keeper: &Keeper, slot: &mut Slot, frame: &[u8]) -> Planned
-    ensures { PlansToReceive keeper.now slot.old frame.now result slot.new }
+pub fn plan_to_receive(endpoint: &AheadKeeper, slot: &mut Slot, frame: &[u8]) -> Planned
+    ensures { PlansToReceive endpoint.now slot.old frame.now result slot.new }
 {
     if !slot.is_idle() {
         return unplanned(JOB);
     }
-    let taken = slot.plan_receive(keeper, frame);
+    let taken = slot.plan_receive(endpoint.keeper(), frame);
     taken_as(taken, slot.key_number())
 }
 
@@ -170,13 +174,14 @@ pub fn unfinished(status: u32) -> Finished
         an: 0,
         has_sa: false,
         delivered: false,
-        reserved: [0; 3],
+        pn: 0,
+        reserved: [0; 2],
     }
 }
 
 /// The result for a frame that is received.
 fn finished_as(received: &Reception) -> Finished
-    ensures { (frame out : List ℕ) → parts_of_finished result out ≡ parts_of_kept (output_of_finished (Ok received.now) frame out) }
+    ensures { (frame out : List ℕ) → parts_of_finished result out ≡ parts_of_ahead (output_of_finished (Ok (by.Received received.now)) frame out) }
 {
     let (has_sa, sci, an) = place_of(received.row);
     let (delivered, length) = match received.delivered {
@@ -191,13 +196,32 @@ fn finished_as(received: &Reception) -> Finished
         an,
         has_sa,
         delivered,
-        reserved: [0; 3],
+        pn: 0,
+        reserved: [0; 2],
+    }
+}
+
+/// The result for a valid link frame that is dropped because of its packet number, with this verdict.
+fn dropped_as(verdict: u32, at: &RxPn) -> Finished
+    ensures { (out : List ℕ) → parts_of_finished result out ≡ dropped_parts verdict at.now }
+{
+    let (has_sa, sci, an) = place_of(Some((at.sci, at.an.number())));
+    Finished {
+        length: 0,
+        status: DONE,
+        verdict,
+        sci,
+        an,
+        has_sa,
+        delivered: false,
+        pn: at.number,
+        reserved: [0; 2],
     }
 }
 
 /// Receives the link frame of a slot, and writes what is delivered to a buffer.
-pub fn finish_frame(keeper: &mut Keeper, slot: &mut Slot, out: &mut [u8]) -> Finished
-    ensures { FinishesFrame keeper.old slot.old out.old result out.new keeper.new slot.new }
+pub fn finish_frame(endpoint: &mut AheadKeeper, slot: &mut Slot, out: &mut [u8]) -> Finished
+    ensures { FinishesFrame endpoint.old slot.old out.old result out.new endpoint.new slot.new }
 {
     if !slot.is_received() {
         return unfinished(JOB);
@@ -205,15 +229,17 @@ pub fn finish_frame(keeper: &mut Keeper, slot: &mut Slot, out: &mut [u8]) -> Fin
     if out.len() < MAX_FRAME_LEN {
         return unfinished(SPACE);
     }
-    finished_of(slot.finish_receive(keeper, out))
+    finished_of(slot.finish_receive(endpoint, out))
 }
 
 /// The result of receiving.
-fn finished_of(outcome: Result<Reception, FrameFault>) -> Finished
-    ensures { (frame out : List ℕ) → parts_of_finished result out ≡ parts_of_kept (output_of_finished outcome frame out) }
+fn finished_of(outcome: Result<Outcome, FrameFault>) -> Finished
+    ensures { (frame out : List ℕ) → parts_of_finished result out ≡ parts_of_ahead (output_of_finished outcome frame out) }
 {
     match outcome {
-        Ok(received) => finished_as(&received),
+        Ok(Outcome::Received(received)) => finished_as(&received),
+        Ok(Outcome::NoReservation(at)) => dropped_as(VERDICT_NO_RESERVATION, &at),
+        Ok(Outcome::BeforeThisRun(at)) => dropped_as(VERDICT_EARLIER_RUN, &at),
         Err(fault) => unfinished(status_of_frame_fault(fault)),
     }
 }

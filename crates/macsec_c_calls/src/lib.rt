@@ -6,7 +6,7 @@
 //!   status of each fault and the number of each verdict are the ones in `specs/Statuses.antt`.
 //! - A reader returns the status and shows the value of `specs/Shown.antt` or `specs/Reserving.antt`. If it finds
 //!   nothing, its output is unchanged.
-//! - A command has the status of its output in the machine of `macsec_reserve` that forgets retired keys
+//! - A command has the status of its output in the machine of `macsec_ahead` that forgets retired keys
 //!   (`specs/Commands.antt`). The result for a frame shows the output (`specs/SentParts.antt`,
 //!   `specs/ReceivedParts.antt`).
 //! - `configured` and `configured_beside` create the endpoint of a text after the steps of all its commands, or give
@@ -19,8 +19,8 @@
 //!   it. If the buffer is too small, or memory runs out, nothing is written and nothing has changed. A line that is
 //!   wrong, or that is not about end A alone, changes nothing; its answer is the fault's text. A law (`laws`): the text
 //!   is what the line prints in a script, and the endpoint is the one after the line there, except that a key which the
-//!   line retires is forgotten. Premises: the journal does not refuse the packet number of a command, and the line
-//!   installs no key that was forgotten. `macsec_script::laws::prints_of_end_a` says the same of every world of a
+//!   line retires is forgotten. Premises: no packet number of the line is refused because of a journal, and the
+//!   line installs no key that was forgotten. `macsec_script::laws::prints_of_end_a` says the same of every world of a
 //!   script.
 #![tactic(auto)]
 
@@ -51,9 +51,10 @@ pub use jobs::{
     Finished, Planned, finish_frame, open_job, plan_to_receive, plan_to_send, seal_job, unfinished,
     unplanned,
 };
-pub use receiving::{Received, received_of, unreceived};
+pub use receiving::{Received, received_of, unreceived, unreserved};
 pub use reserving::{
-    Record, note_durable, show_rx_floor, show_to_save, show_tx_floor, show_wanted, write_compacted,
+    Record, note_durable, show_rx_floor, show_to_accept, show_to_save, show_tx_floor, show_wanted,
+    write_compacted,
 };
 pub use sealing::seal;
 pub use sending::{Sent, sent_of, unsent};
@@ -65,7 +66,7 @@ pub use showing::{
 pub use statuses::{
     ANSWER_LONG, DONE, EMPTY, FATE_NO_RESERVATION, FATE_NO_SA, FATE_NONE, FATE_PLAIN,
     FATE_PROTECTED, FATE_TOO_LONG, JOB, NONE, NOT_JOURNAL, NOT_RECORD, OTHER_KEY, SPACE, TAKEN,
-    number_of_verdict, status_of_frame_fault, status_of_line_fault, status_of_new_fault,
-    status_of_script_fault,
+    VERDICT_EARLIER_RUN, VERDICT_NO_RESERVATION, number_of_verdict, status_of_frame_fault,
+    status_of_line_fault, status_of_new_fault, status_of_script_fault,
 };
 pub use taking::{new_slot, take_key};

@@ -3,9 +3,13 @@
 ghost use Rattle.std.specs.Prelude.{◌≡◌, ℕ, List, option_map};
 ghost use Rattle.std.specs.Borrow.{Bor};
 ghost use Rattle.macsec_secy.specs.Answers.{output_of_received};
-ghost use Rattle.macsec_c_calls.specs.ReceivedParts.{delivered_parts, parts_of_output, parts_of_received, place_parts, unreceived};
+ghost use Rattle.macsec_ahead.specs.Answers.{shown};
+ghost use Rattle.macsec_c_calls.specs.ReceivedParts.{delivered_parts, dropped_parts, parts_of_output, parts_of_received, place_parts, unreceived, unreserved_parts};
 
-use crate::{DONE, number_of_verdict, status_of_frame_fault};
+use crate::{
+    DONE, VERDICT_EARLIER_RUN, VERDICT_NO_RESERVATION, number_of_verdict, status_of_frame_fault,
+};
+use macsec_ahead::{PnStanding, RxPn};
 use macsec_secy::{FrameFault, Received as Reception, Sci};
 
 /// The result of receiving a link frame.
@@ -16,7 +20,7 @@ pub struct Received<'a> {
     pub frame: &'a [u8],
     /// The status.
     pub status: u32,
-    /// The number of the verdict, 1 to 12, or 0 if the status is not 0.
+    /// The number of the verdict, 1 to 14, or 0 if the status is not 0.
     pub verdict: u32,
     /// The SA that the frame is for, if `has_sa` is true: the SCI of its SC, and its AN.
     pub sci: [u8; 8],
@@ -24,8 +28,10 @@ pub struct Received<'a> {
     pub has_sa: bool,
     /// Whether a frame is delivered.
     pub delivered: bool,
+    /// The packet number of a frame with verdict 13 or 14, else 0.
+    pub pn: u64,
     /// Zeros.
-    pub reserved: [u64; 3],
+    pub reserved: [u64; 2],
 }
 
 /// The SA of a frame as C sees it: whether there is one, the SCI of its SC, and its AN.
@@ -64,7 +70,37 @@ pub fn unreceived<'a>(frame: &'a [u8], status: u32) -> Received<'a>
         an: 0,
         has_sa: false,
         delivered: false,
-        reserved: [0; 3],
+        pn: 0,
+        reserved: [0; 2],
+    }
+}
+
+/// The result for a valid link frame that is dropped because of its packet number, with this verdict.
+fn dropped_as<'a>(verdict: u32, at: &RxPn, frame: &'a [u8]) -> Received<'a>
+    ensures { parts_of_received result ≡ dropped_parts verdict at.now }
+{
+    let (has_sa, sci, an) = place_of(Some((at.sci, at.an.number())));
+    Received {
+        frame: &frame[..0],
+        status: DONE,
+        verdict,
+        sci,
+        an,
+        has_sa,
+        delivered: false,
+        pn: at.number,
+        reserved: [0; 2],
+    }
+}
+
+/// The result for a link frame that does not pass, by its standing.
+pub fn unreserved<'a>(standing: &PnStanding, frame: &'a [u8]) -> Received<'a>
+    ensures { parts_of_received result ≡ unreserved_parts (shown standing.now) }
+{
+    match standing {
+        PnStanding::Passes => unreceived(frame, DONE),
+        PnStanding::NotYet(at) => dropped_as(VERDICT_NO_RESERVATION, at, frame),
+        PnStanding::BeforeThisRun(at) => dropped_as(VERDICT_EARLIER_RUN, at, frame),
     }
 }
 
@@ -84,7 +120,8 @@ pub fn received_of<'a>(outcome: Result<Reception<'a>, FrameFault>, frame: &'a [u
                 an,
                 has_sa,
                 delivered,
-                reserved: [0; 3],
+                pn: 0,
+                reserved: [0; 2],
             }
         }
         Err(fault) => unreceived(frame, status_of_frame_fault(fault)),

@@ -54,6 +54,12 @@ pub const FATE_TOO_LONG: u32 = 4;
 /// The frame is dropped: its packet number is not reserved.
 pub const FATE_NO_RESERVATION: u32 = 5;
 
+/// The verdict on a valid link frame that is dropped: its packet number is not reserved yet.
+pub const VERDICT_NO_RESERVATION: u32 = 13;
+
+/// The verdict on a valid link frame that is dropped: an earlier run had reserved its packet number.
+pub const VERDICT_EARLIER_RUN: u32 = 14;
+
 /// The status of a fault of a configuration.
 pub fn status_of_new_fault(fault: NewFault) -> u32
     ensures { result ≡ status_of_new_fault fault }

@@ -1,4 +1,4 @@
--- The results of the calls of a slot, as outputs of the keeping machine.
+-- The results of the calls of a slot, as outputs of its endpoint.
 use Rattle.std.specs.Prelude.{◌≡◌, ℕ, List, take, Bool, true, false, Option, Some, None, IfSome, option_map, Result, Ok, Err}
 use Rattle.macsec_suite.specs.KeyRows.{InstalledKey, key_row, prepared_key, the_key}
 use Rattle.macsec_rx.specs.declared.OpenJob.{OpenJob}
@@ -6,7 +6,9 @@ use Rattle.macsec_secy.specs.declared.fault.FrameFault.{FrameFault}
 use Rattle.macsec_secy.specs.Answers.{drop_output}
 use Rattle.macsec_secy.specs.Step.{fault, leaves, received}
 use Rattle.macsec_reserve.specs.Keeping.{KeepingOutput, dropped_no_reservation, endpoint_output}
+use Rattle.macsec_ahead.specs.Ahead.{AheadOutput, dropped_before_this_run, dropped_not_reserved, kept}
 use Rattle.macsec_jobs.specs.declared.answers.Finished.{Finished}
+use Rattle.macsec_jobs.specs.declared.answers.Finished.TheVariants as by
 use Rattle.macsec_jobs.specs.declared.answers.SendPlan.{SendPlan}
 use Rattle.macsec_jobs.specs.declared.answers.SendPlan.TheVariants.{Job, Plain, Dropped, NoReservation}
 use Rattle.macsec_jobs.specs.declared.job_fault.JobFault.{JobFault}
@@ -50,6 +52,8 @@ PlansWork (Finish (Some opened)) key wanted keys = ⊥
 PlansWork (Finish None) key wanted keys = IfSome wanted (λ job. key_row keys job.key ≡ None)
 
 -- the output for a link frame; the delivered octets are at the beginning of the buffer
-abbrev pub output_of_finished : Result Finished FrameFault → List ℕ → List ℕ → KeepingOutput
-output_of_finished (Ok f) frame out = endpoint_output (received f.verdict f.row frame (option_map (λ n. take n out) f.delivered))
-output_of_finished (Err f) frame out = endpoint_output (fault f)
+abbrev pub output_of_finished : Result Finished FrameFault → List ℕ → List ℕ → AheadOutput
+output_of_finished (Ok (by.Received r)) frame out = kept (endpoint_output (received r.verdict r.row frame (option_map (λ n. take n out) r.delivered)))
+output_of_finished (Ok (by.NoReservation at)) frame out = dropped_not_reserved at
+output_of_finished (Ok (by.BeforeThisRun at)) frame out = dropped_before_this_run at
+output_of_finished (Err f) frame out = kept (endpoint_output (fault f))

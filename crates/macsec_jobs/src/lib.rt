@@ -1,11 +1,11 @@
-//! Slots for frames whose work of the cipher is left to other threads, over a keeping endpoint.
+//! Slots for frames whose work of the cipher is left to other threads, over an endpoint of `macsec_ahead`.
 //!
 //! A `Slot` has one frame, the job that was planned for it, and the buffer that the job writes. A `JobKey` is a key of an
 //! endpoint that was prepared once more. The two need no endpoint, so each may be in another thread.
 //!
-//! Proved: `plan_send` is the step of `Keeper::send`, and `frame_planned` of the slot is the frame of the step's output.
+//! Proved: `plan_send` is the step of `AheadKeeper::send`, and `frame_planned` of the slot is the frame of the step's output.
 //! `seal` writes that frame, if the key is the one of the plan (`specs/Slots.antt`, `seal_fault`), and leaves the slot
-//! without a frame: so a job is sealed at most once. `finish_receive` is the step of `Keeper::receive` for the frame of
+//! without a frame: so a job is sealed at most once. `finish_receive` is the step of `AheadKeeper::receive` for the frame of
 //! the slot, with any endpoint, whatever was opened before and with whatever key. No function but these writes a slot, so
 //! nothing is delivered but what the step delivers: a slot with an opened frame keeps the key with which that was opened,
 //! and the endpoint uses it only if it has the same key under the same number. By their types only `Slot::new` takes an
@@ -21,7 +21,7 @@ mod planned_key;
 mod slot;
 mod work;
 
-pub use answers::{Finished, SendPlan};
+pub use answers::{Finished, Reception, SendPlan};
 pub use job_fault::JobFault;
 pub use job_key::JobKey;
 pub use planned_key::PlannedKey;

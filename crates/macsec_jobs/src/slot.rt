@@ -8,13 +8,15 @@ ghost use Rattle.macsec_tx.specs.Transmit.{octets_added};
 ghost use Rattle.macsec_secy.specs.Jobs.{OpensFrame, job_of_frame};
 ghost use Rattle.macsec_secy.specs.Sound.{IsSound};
 ghost use Rattle.macsec_secy.specs.Step.{client_frame, frame_fault, link_frame};
-ghost use Rattle.macsec_reserve.specs.Keeping.{endpoint_input, keeping_step};
+ghost use Rattle.macsec_reserve.specs.Keeping.{endpoint_input};
+ghost use Rattle.macsec_ahead.specs.Ahead.{ahead_step, kept};
 ghost use Rattle.macsec_jobs.specs.Answers.{PlansWork, frame_fault_of, is_job, job_fault_of, output_of_finished, output_of_plan};
 ghost use Rattle.macsec_jobs.specs.declared.work.Work.TheVariants.{Seal};
 ghost use Rattle.macsec_jobs.specs.PlannedKeys.{is_installed, key_of};
 ghost use Rattle.macsec_jobs.specs.Slots.{frame_planned, is_idle, is_opening, is_received, is_sealing, open_fault, seal_fault, usable};
 
-use crate::{Finished, JobFault, JobKey, PlannedKey, SendPlan, Work};
+use crate::{Finished, JobFault, JobKey, PlannedKey, Reception, SendPlan, Work};
+use macsec_ahead::{AheadKeeper, AheadReceived};
 use macsec_reserve::{Keeper, KeptPlan};
 use macsec_rx::OpenedFrame;
 use macsec_secy::laws::lengths_of_frames;
@@ -99,17 +101,21 @@ impl Slot {
         self.key = PlannedKey::none();
     }
 
-    /// Plans a client frame, as `Keeper::plan_send`. A frame that is to be sealed is in the slot afterwards.
-    pub fn plan_send(&mut self, keeper: &mut Keeper, frame: &[u8]) -> Result<SendPlan, FrameFault>
+    /// Plans a client frame, as `AheadKeeper::plan_send`. A frame that is to be sealed is in the slot afterwards.
+    pub fn plan_send(
+        &mut self,
+        endpoint: &mut AheadKeeper,
+        frame: &[u8],
+    ) -> Result<SendPlan, FrameFault>
         requires idle { is_idle self.old.work ≡ true }
-        ensures after { keeper.new ≡ (keeping_step keeper.old (endpoint_input (client_frame frame.now))).1 }
-        ensures output { output_of_plan result self.new frame.now ≡ (keeping_step keeper.old (endpoint_input (client_frame frame.now))).0 }
+        ensures after { endpoint.new ≡ (ahead_step endpoint.old (endpoint_input (client_frame frame.now))).1 }
+        ensures output { kept (output_of_plan result self.new frame.now) ≡ (ahead_step endpoint.old (endpoint_input (client_frame frame.now))).0 }
         ensures sealing { is_sealing self.new.work ≡ is_job result }
         ensures left { is_idle self.new.work ≡ not (is_job result) }
     {
-        match keeper.plan_send(frame) {
+        match endpoint.plan_send(frame) {
             Ok(KeptPlan::Plan(Planned::Job(job))) => {
-                self.plan_job(keeper, job, frame);
+                self.plan_job(endpoint.keeper(), job, frame);
                 Ok(SendPlan::Job)
             }
             Ok(KeptPlan::Plan(Planned::Plain(_))) => Ok(SendPlan::Plain),
@@ -241,23 +247,23 @@ impl Slot {
         Ok(())
     }
 
-    /// Receives the link frame of the slot, as `Keeper::receive`. What was opened is used if this endpoint has the key
-    /// with which it was opened, and would now open the frame in the same way. The delivered octets are at the start of
-    /// `out`, which has `MAX_FRAME_LEN` octets or more. The slot is then without a frame.
+    /// Receives the link frame of the slot, as `AheadKeeper::receive`. What was opened is used if this endpoint has the
+    /// key with which it was opened, and would now open the frame in the same way. The delivered octets are at the start
+    /// of `out`, which has `MAX_FRAME_LEN` octets or more. The slot is then without a frame.
     pub fn finish_receive(
         &mut self,
-        keeper: &mut Keeper,
+        endpoint: &mut AheadKeeper,
         out: &mut [u8],
     ) -> Result<Finished, FrameFault>
         requires received { is_received self.old.work ≡ true }
         requires room { max_frame_len ≤ length out.old }
-        ensures after { keeper.new ≡ (keeping_step keeper.old (endpoint_input (link_frame self.old.frame))).1 }
-        ensures output { output_of_finished result self.old.frame out.new ≡ (keeping_step keeper.old (endpoint_input (link_frame self.old.frame))).0 }
+        ensures after { endpoint.new ≡ (ahead_step endpoint.old (endpoint_input (link_frame self.old.frame))).1 }
+        ensures output { output_of_finished result self.old.frame out.new ≡ (ahead_step endpoint.old (endpoint_input (link_frame self.old.frame))).0 }
         ensures left { is_idle self.new.work ≡ true }
     {
-        let opened = usable(&self.work, &self.key, keeper);
+        let opened = usable(&self.work, &self.key, endpoint.keeper());
         let frame = &self.frame.as_slice()[..self.frame_length];
-        let result = receive_frame(keeper, frame, &opened, self.out.as_mut_slice(), out);
+        let result = receive_frame(endpoint, frame, &opened, self.out.as_mut_slice(), out);
         self.work = Work::Nothing;
         self.key = PlannedKey::none();
         result
@@ -297,30 +303,32 @@ fn is_installed(planned: &PlannedKey, keeper: &Keeper) -> bool
 
 /// Receives a link frame, and copies what is delivered to the start of `out`.
 fn receive_frame(
-    keeper: &mut Keeper,
+    endpoint: &mut AheadKeeper,
     frame: &[u8],
     opened: &Option<OpenedFrame>,
     room: &mut [u8],
     out: &mut [u8],
 ) -> Result<Finished, FrameFault>
-    requires sound { IsSound keeper.old.secy }
+    requires sound { IsSound endpoint.old.k.secy }
     requires room { max_frame_len ≤ length room.old }
-    requires opened { OpensFrame opened.now keeper.old.secy.keys frame.now room.old }
+    requires opened { OpensFrame opened.now endpoint.old.k.secy.keys frame.now room.old }
     requires out { max_frame_len ≤ length out.old }
-    ensures after { keeper.new ≡ (keeping_step keeper.old (endpoint_input (link_frame frame.now))).1 }
-    ensures output { output_of_finished result frame.now out.new ≡ (keeping_step keeper.old (endpoint_input (link_frame frame.now))).0 }
+    ensures after { endpoint.new ≡ (ahead_step endpoint.old (endpoint_input (link_frame frame.now))).1 }
+    ensures output { output_of_finished result frame.now out.new ≡ (ahead_step endpoint.old (endpoint_input (link_frame frame.now))).0 }
 {
     // The proof cites this law; the call does nothing.
     lengths_of_frames();
-    match keeper.finish_receive(frame, opened, room) {
-        Ok(received) => {
+    match endpoint.finish_receive(frame, opened, room) {
+        Ok(AheadReceived::Received(received)) => {
             let delivered = delivered_to(received.controlled, out);
-            Ok(Finished {
+            Ok(Finished::Received(Reception {
                 verdict: received.verdict,
                 row: received.row,
                 delivered,
-            })
+            }))
         }
+        Ok(AheadReceived::NoReservation(pn)) => Ok(Finished::NoReservation(pn)),
+        Ok(AheadReceived::BeforeThisRun(pn)) => Ok(Finished::BeforeThisRun(pn)),
         Err(fault) => Err(fault),
     }
 }

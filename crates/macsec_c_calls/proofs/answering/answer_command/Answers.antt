@@ -5,7 +5,7 @@ use Rattle.macsec_c_calls.proofs.answering.answer_command.Goals as goal
 
 pub returns-then-out-lt-MIN_ANSWER_LEN : goal.returns-then-out-lt-MIN_ANSWER_LEN
 returns-then-out-lt-MIN_ANSWER_LEN c =
-    let is = command_needs c.args.keeper.now c.args.n c.args.command.now c.ranges.n.fits in
+    let is = command_needs c.args.endpoint.now c.args.n c.args.command.now c.ranges.n.fits in
     record {
       room = subst (λ (m : ℕ). length c.args.out.now < m) (sym is) c.if-out-lt-MIN_ANSWER_LEN.true;
       unwritten = record { len = sym is; octets = refl; endpoint = refl };

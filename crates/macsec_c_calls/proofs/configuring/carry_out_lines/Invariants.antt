@@ -4,4 +4,4 @@ use Rattle.macsec_c_calls.proofs.configuring.carry_out_lines.Given as goal
 
 -- the remaining commands, from here, give what all commands give
 abbrev pub invariant-loop-n : goal.invariant-loop-n
-invariant-loop-n l = carried_out l.initial.keeper l.commands ≡ carried_out l.keeper (drop l.n-index l.commands)
+invariant-loop-n l = carried_out l.initial.endpoint l.commands ≡ carried_out l.endpoint (drop l.n-index l.commands)

@@ -4,5 +4,5 @@ use Rattle.macsec_c_calls.proofs.configuring.configured_beside.Goals as goal
 
 pub returns : goal.returns
 returns c =
-    configured_by (created_beside c.args.journal.now) c.args.text.now _ c.parsed.inside.end c.config.result c.parsed.inside.commands.items c.as_slice.result.now _ c.in_ok-parsed.ensures
+    configured_by (created_beside c.args.ahead c.args.journal.now) c.args.text.now _ c.parsed.inside.end c.config.result c.parsed.inside.commands.items c.as_slice.result.now _ c.in_ok-parsed.ensures
     c.parsed.view_is c.config.ensures.config c.as_slice.ensures.value c.endpoint_of_beside.ensures

@@ -7,6 +7,6 @@ use Rattle.macsec_c_calls.proofs.configuring.endpoint_of_beside.Goals as goal
 
 pub returns : goal.returns
 returns c =
-    opened_beside (record { end = c.args.end; commands = c.args.commands.now }) c.args.journal.now _ _
-    c.in_ok-keeper.ensures.0 c.in_ok-keeper.ensures.1 c.in_ok-keeper.ensures.2
-    (c.in_ok-carry_out_lines.ensures ∙ ap (λ k. carried_out k c.args.commands.now) (search rules))
+    opened_beside (record { end = c.args.end; commands = c.args.commands.now }) c.args.ahead c.args.journal.now _ _
+    c.in_ok-endpoint.ensures.0.0 c.in_ok-endpoint.ensures.0.1 c.in_ok-endpoint.ensures.1
+    (c.in_ok-carry_out_lines.ensures ∙ ap (λ e. carried_out e c.args.commands.now) (search rules))

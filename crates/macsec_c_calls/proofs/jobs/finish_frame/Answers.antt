@@ -4,7 +4,7 @@ use Rattle.std.specs.Prelude.{length, nat_lt}
 use Rattle.std.proofs.lemmas.Bool.{le-ltb, lt-ltb}
 use Rattle.macsec_tag.specs.Limits.{max_frame_len}
 use Rattle.macsec_jobs.specs.Slots.{is_received}
-use Rattle.macsec_c_calls.specs.ReceivedParts.{parts_of_kept}
+use Rattle.macsec_c_calls.specs.ReceivedParts.{parts_of_ahead}
 use Rattle.macsec_c_calls.proofs.JobSteps.{finishes, no_frame, no_space}
 use Rattle.macsec_c_calls.proofs.jobs.finish_frame.Goals as goal
 
@@ -26,6 +26,6 @@ returns c =
     let step = c.finish_receive in
     finishes _ _ _ _ _ _ _ _ _ there wide (record {
       after = step.ensures.after;
-      shown = c.finished_of.ensures c.args.slot.now.frame step.new.out ∙ ap parts_of_kept step.ensures.output;
+      shown = c.finished_of.ensures c.args.slot.now.frame step.new.out ∙ ap parts_of_ahead step.ensures.output;
       idle = step.ensures.left;
     })

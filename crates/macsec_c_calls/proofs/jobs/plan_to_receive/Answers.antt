@@ -14,5 +14,5 @@ pub returns : goal.returns
 returns c =
     let idle : is_idle c.args.slot.now.work ≡ true = search rules in
     let taken = c.plan_receive-taken in
-    idle_takes _ _ _ _ _ _ idle (takes _ _ _ _ taken.result taken.ensures.fault taken.ensures.job taken.ensures.frame taken.ensures.planned taken.ensures.left
+    idle_takes _ _ _ _ _ _ idle (takes _ _ _ _ taken.result taken.ensures.fault taken.ensures.job taken.ensures.frame (rw c.keeper.ensures at taken.ensures.planned) taken.ensures.left
     (c.taken_as.ensures ∙ ap (taken_as taken.result) c.key_number.ensures))

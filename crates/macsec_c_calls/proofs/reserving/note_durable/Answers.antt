@@ -8,4 +8,4 @@ pub returns-in-None : goal.returns-in-None
 returns-in-None c = search rules steps 300000
 
 pub returns-in-Some : goal.returns-in-Some
-returns-in-Some c = search rules ∙ ap (λ rs. reported c.args.keeper.now rs) c.from_octets.ensures
+returns-in-Some c = search rules ∙ ap (λ rs. reported c.args.endpoint.now rs) c.from_octets.ensures
