@@ -46,9 +46,9 @@ DEVICE_SOURCES := $(sort $(filter-out device/macsecctl.c,$(wildcard device/*.c))
 
 # The checks that make a program or a library first, and the others.
 OVER_PROGRAM := altered-frames conformance conformance-controls peer planted stored-runs
-OVER_LIBRARY := c-programs constant-time device-forged device-fuzz instructions isolated isolated-controls \
-    isolated-unit journal keys-in-memory macsecd macsecd-controls macsecd-isolated macsecd-workers pages python readers \
-    two-hosts workers
+OVER_LIBRARY := c-programs constant-time delivered-once device-forged device-fuzz instructions isolated \
+    isolated-controls isolated-unit journal keys-in-memory macsecd macsecd-controls macsecd-isolated macsecd-workers \
+    pages python readers two-hosts workers
 CHECKS := $(OVER_PROGRAM) $(OVER_LIBRARY) against allocators any-order c-cost c-header controls cores device-analyzed \
     device-forged-linux device-installed device-kernel edits failures fuzz isolated-kinds kept-frames kernel-captures \
     lanes-used live mka moves needed packages style table version
@@ -130,7 +130,7 @@ failures: build/macsec
 $(OVER_LIBRARY): build/libmacsec.a
 c-programs pages python: build/macsec
 constant-time: $(BOTH)
-constant-time instructions keys-in-memory: build/$(HWCAPS)/libmacsec.a
+constant-time delivered-once instructions keys-in-memory: build/$(HWCAPS)/libmacsec.a
 packages: $(BOTH) $(LIBRARIES)
 controls: build/macsec build/macsec-x86-64-v2 build/macsec-rattle build/libmacsec.a
 against: $(BOTH) $(LIBRARIES)

@@ -19,7 +19,7 @@
 #include <sys/mman.h>
 #include <unistd.h>
 
-enum { HANDLES = 4, KEYS = 3, SLOTS = 3, MOST_WORDS = 16, LONGEST_LINE = 262144, MOST_ROOMS = 4 };
+enum { HANDLES = 4, KEYS = 3, SLOTS = 3, MOST_WORDS = 16, LONGEST_LINE = 524288, MOST_ROOMS = 4 };
 
 static macsec_endpoint handles[HANDLES];
 static macsec_key keys[KEYS];
@@ -168,9 +168,11 @@ void __wrap_free(void *block) {
     __real_free(block);
 }
 
-/* An endpoint has seven blocks, and one more beside a journal with records; a key has one, and a slot three. Only the
+/* An endpoint has twelve blocks, and one more beside a journal with records; a key has one, and a slot three. Only the
  * calls that make one, a line and a journal ask for blocks; one that answers MACSEC_E_TAKEN or MACSEC_E_EMPTY does not.
  */
+enum { BLOCKS = 12 };
+
 static void check_blocks(const char *name, unsigned handle, bool held_before, uint32_t status) {
     const char *reading[] = { "configure",    "command_line",      "answer",
                               "reserve_open", "reserve_configure", "journal_compacted" };
@@ -178,9 +180,9 @@ static void check_blocks(const char *name, unsigned handle, bool held_before, ui
     for (size_t i = 0; i < sizeof reading / sizeof reading[0]; i++)
         may_ask = may_ask || strcmp(name, reading[i]) == 0;
     int changed = made[handle] == held_before ? 0 : held_before ? -blocks[handle] : held;
-    if (held != changed + for_jobs || (changed > 0 && held != 7 && (held != 8 || !beside)))
+    if (held != changed + for_jobs || (changed > 0 && held != BLOCKS && (held != BLOCKS + 1 || !beside)))
         fail("the library holds another number of blocks");
-    if (refused == 0 && !may_ask && asked != (changed > 0 ? 7u : for_jobs > 0 ? (unsigned)for_jobs : 0u))
+    if (refused == 0 && !may_ask && asked != (unsigned)(changed > 0 ? BLOCKS : for_jobs > 0 ? for_jobs : 0))
         fail("the library asked for another number of blocks");
     if ((status == MACSEC_E_TAKEN || status == MACSEC_E_EMPTY) && asked != 0)
         fail("the library asked for blocks in vain");
@@ -242,6 +244,7 @@ static uint32_t receive(macsec_endpoint *e, const char *word) {
     printf(" %u %d", (unsigned)received->verdict, received->has_sa);
     print_octets(received->sci, sizeof received->sci);
     printf(" %u %d", (unsigned)received->an, received->delivered);
+    print_number(received->pn);
     print_octets(received->frame, received->length);
     return status;
 }
@@ -328,6 +331,7 @@ static uint32_t finish_receive(macsec_endpoint *e, char **w) {
     printf(" %u %d", (unsigned)finished->verdict, finished->has_sa);
     print_octets(finished->sci, sizeof finished->sci);
     printf(" %u %d", (unsigned)finished->an, finished->delivered);
+    print_number(finished->pn);
     print_octets(out, finished->length);
     return status;
 }
@@ -343,13 +347,13 @@ static const macsec_config *sealed_config(char **w) {
 }
 
 /* Makes an endpoint of a text, and beside a journal if there is one. */
-static uint32_t configure(macsec_endpoint *e, const char *text, const char *journal) {
+static uint32_t configure(macsec_endpoint *e, const char *text, const char *journal, bool ahead) {
     uint32_t *at = room_of(sizeof *at), status;
     const uint8_t *lines = sealed(text);
     if (journal == NULL)
         status = macsec_configure(e, lines, length_of(text), at);
     else
-        status = macsec_reserve_configure(e, lines, length_of(text), sealed(journal), length_of(journal), at);
+        status = macsec_reserve_configure(e, lines, length_of(text), sealed(journal), length_of(journal), ahead, at);
     print_number(*at);
     return status;
 }
@@ -534,9 +538,9 @@ static uint32_t call(macsec_endpoint *e, const char *name, char **w) {
         return MACSEC_OK;
     }
     CALL("new", macsec_new(e, sealed_config(w)));
-    CALL("configure", configure(e, w[0], NULL));
-    CALL("reserve_open", macsec_reserve_open(e, sealed_config(w), sealed(w[4]), length_of(w[4])));
-    CALL("reserve_configure", configure(e, w[0], w[1]));
+    CALL("configure", configure(e, w[0], NULL, false));
+    CALL("reserve_open", macsec_reserve_open(e, sealed_config(w), sealed(w[4]), length_of(w[4]), number(w[5]) != 0));
+    CALL("reserve_configure", configure(e, w[0], w[1], number(w[2]) != 0));
     CALL("send", send(e, w[0]));
     CALL("receive", receive(e, w[0]));
     CALL("answer", answer(e, w));
@@ -568,6 +572,8 @@ static uint32_t call(macsec_endpoint *e, const char *name, char **w) {
     CALL("get_rx_sa", show_rx_sa(macsec_get_rx_sa(e, sealed_sci(w[0]), (uint8_t)number(w[1]),
                                                   ROOM(macsec_rx_sa, 7, 7, 7, 7, 7, 7, false, { 7, 7, 7 }))));
     CALL("reserve_wanted", show_record(macsec_reserve_wanted(e, (uint8_t)number(w[0]), number(w[1]), RECORD)));
+    CALL("reserve_to_accept", show_record(macsec_reserve_to_accept(e, sealed_sci(w[0]), (uint8_t)number(w[1]),
+                                                                   number(w[2]), number(w[3]), RECORD)));
     CALL("reserve_to_save", show_record(macsec_reserve_to_save(e, sealed_sci(w[0]), (uint8_t)number(w[1]), RECORD)));
     CALL("reserve_tx_floor", show_floor(macsec_reserve_tx_floor(e, (uint16_t)number(w[0]), ROOM(uint64_t, 7))));
     CALL("reserve_rx_floor", show_floor(macsec_reserve_rx_floor(e, sealed_sci(w[0]), (uint8_t)number(w[1]),

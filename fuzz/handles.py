@@ -1,4 +1,4 @@
-"""What the handles of the C library hold, and what each call answers, worked out from expected.py and journals.py.
+"""What the handles of the C library hold, and what each call answers, worked out from keeping.py.
 
 calls.py compares the library with this. It needs Python 3.9 or later and its standard library alone.
 """
@@ -12,12 +12,15 @@ import struct
 
 import expected
 import journals
+from keeping import Dropped, Endpoint, NoReservation
 
 ROOT = pathlib.Path(__file__).resolve().parent.parent
 HEADER = (ROOT / "include/macsec.h").read_text()
 # The constants of the header, by their names without MACSEC_.
 CONSTANTS = {name: int(value) for name, value in re.findall(r"\bMACSEC_(\w+) = (\d+)", HEADER)}
 CONSTANTS |= {name: int(value) for name, value in re.findall(r"#define MACSEC_(\w+) (\d+)\n", HEADER)}
+# Its calls, by their names without macsec_; that of the version is made once.
+CALLS = set(re.findall(r"^(?:uint32_t|void) macsec_(\w+?)(?:_raw)?\(", HEADER, re.M)) - {"version"}
 FRAME_MIN, FRAME_MAX = CONSTANTS["FRAME_MIN"], CONSTANTS["FRAME_MAX"]
 
 HANDLES = 3
@@ -45,128 +48,6 @@ def constant_name(name):
 
 class Status(Exception):
     """Why nothing is done: the name of the status, and what is shown with it, if that is not the same for all."""
-
-
-class NoReservation(Exception):
-    """The packet number of a frame is not reserved."""
-
-
-class Endpoint(expected.Endpoint):
-    """An endpoint that also keeps what deleted associations had counted, and reservations, and that forgets the octets of
-    retired keys."""
-
-    def __init__(self, suite, sci, max_frame, form, journal=None):
-        super().__init__(suite, sci, max_frame, form)
-        self.keeps = journal is not None
-        self.salt = journals.salt_of(journal) if self.keeps else bytes(24)
-        self.before = list(journals.reservations(journal)) if self.keeps else []
-        # An entry for each key that was installed before the last report: its name, and the last number reserved.
-        self.granted = []
-
-    def key_name(self, number):
-        return journals.sending_name(self.salt, self.keys[number].octets if number in self.keys else b"")
-
-    def fingerprint(self, octets):
-        """What is kept of a forgotten key: as many octets of its name as it had itself."""
-        return journals.sending_name(self.salt, octets)[: len(octets)]
-
-    def do_key(self, number, octets, *rest):
-        """A forgotten key is refused by its fingerprint."""
-        mark = self.fingerprint(octets)
-        is_forgotten = any(it.retired and it.octets == mark for it in self.keys.values())
-        super().do_key(number, mark if is_forgotten else octets, *rest)
-
-    def do_retire(self, number):
-        """The key is forgotten, unless a key has its fingerprint already."""
-        super().do_retire(number)
-        mark = self.fingerprint(self.keys[number].octets)
-        if all(it.octets != mark for it in self.keys.values()):
-            self.granted = self.entries()
-            self.keys[number].octets = mark
-
-    def command(self, keyword, values):
-        if self.keeps and keyword in ("txsa", "rxsa"):
-            key, pn = values[1:3] if keyword == "txsa" else values[2:4]
-            name = self.key_name(key)
-            if keyword == "rxsa":
-                name = journals.receiving_name(name, *values[:2])
-            expected.refuse("PnFloor", 0 < pn <= journals.highest(self.before, name))
-        super().command(keyword, values)
-
-    def protected(self, frame, bits, an, sa, data):
-        name = self.key_name(sa.key)
-        if self.keeps and not journals.highest(self.before, name) < sa.next <= journals.highest(self.granted, name):
-            raise NoReservation
-        return super().protected(frame, bits, an, sa, data)
-
-    def wanted(self, an, amount):
-        """The reservation that a transmit association needs next, or None."""
-        if an not in self.tx:
-            return None
-        sa = self.tx[an]
-        name = self.key_name(sa.key)
-        last = journals.wanted_last(journals.highest(self.granted, name), sa.next, amount)
-        return None if last is None else (name, last)
-
-    def to_save(self, sci, an):
-        """What is to be saved of a receive association, if it exists."""
-        channel = self.channel(sci)
-        sa = channel and channel.sas.get(an)
-        if not sa:
-            return None
-        name = journals.receiving_name(self.key_name(sa.key), sci, an)
-        return name, min(max(sa.lowest - 1, 0), journals.LAST)
-
-    def floor(self, receiving, number):
-        """The highest number that the journal had when the endpoint was made, under a key's name, or under its name for
-        receiving from an SCI and AN; or None. A forgotten key has another name, under which the journal has nothing."""
-        if number not in self.keys:
-            return None
-        name = self.key_name(number)
-        return journals.highest(self.before, journals.receiving_name(name, *receiving) if receiving else name)
-
-    def entries(self):
-        """What was reported durable, with an entry for each key."""
-        names = [self.key_name(it) for it in self.keys]
-        return [*self.granted, *((it, 0) for it in names[len(self.granted) :])]
-
-    def note_durable(self, reservation):
-        """A reservation is durable: the entries of its name are raised."""
-        its, to = reservation
-        self.granted = [(name, max(last, to) if name == its else last) for name, last in self.entries()]
-
-    def do_rxsc(self, sci):
-        super().do_rxsc(sci)
-        self.channels[-1].removed = dict.fromkeys(expected.RX_COUNTERS, 0)
-
-    def do_rxdel(self, sci, an):
-        sa = self.rx_sa(sci, an)
-        super().do_rxdel(sci, an)
-        removed = self.channel(sci).removed
-        for name in expected.RX_COUNTERS:
-            removed[name] = (removed[name] + sa.counters[name]) % 2**64
-
-    def row_of(self, frame):
-        """The SCI and the number of the association that a link frame is for."""
-        read = expected.read_frame(frame)
-        if isinstance(read, str) or (read["tci"] & 8 and not read["tci"] & 4):
-            return None
-        channel, an = self.channel_of(read, frame), read["tci"] & 3
-        return (channel.sci, an) if channel and an in channel.sas and channel.sas[an].on else None
-
-    def identity(self, number):
-        """What distinguishes a key from every other one."""
-        key = self.keys[number]
-        return number, key.octets, key.suite, key.offset
-
-    def opened_with(self, frame):
-        """The number of the key with which a link frame would be opened now, if it would be."""
-        row = self.row_of(frame)
-        if row is None or self.mode == "disabled":
-            return None
-        sa = self.rx_sa(*row)
-        pn = self.recovered(sa, expected.read_frame(frame)["pn"])
-        return None if pn is None or (self.replay and pn < sa.lowest) else sa.key
 
 
 class Slot:
@@ -272,6 +153,10 @@ def shown_rx_sa(sa):
     return f"{sa.next:017x}", f"{sa.lowest:017x}", int.from_bytes(sa.ssci, "big"), sa.key, int(sa.on)
 
 
+def shown_record(reservation):
+    return [journals.record(found(reservation)).hex()]
+
+
 # The calls that show something of an endpoint.
 SHOWING = {
     "keys_left": lambda end: [CONSTANTS["KEY_COUNT"] - len(end.keys)],
@@ -283,8 +168,9 @@ SHOWING = {
     "get_rx_sc": lambda end, place: [found(dict(enumerate(end.channels)).get(place)).sci.hex()],
     "get_tx_sa": lambda end, an: shown_tx_sa(found(end.tx.get(an_of(an)))),
     "get_rx_sa": lambda end, sci, an: shown_rx_sa(rx_sa_of(end, sci, an)),
-    "reserve_wanted": lambda end, an, amount: [journals.record(found(end.wanted(an_of(an), amount))).hex()],
-    "reserve_to_save": lambda end, sci, an: [journals.record(found(end.to_save(sci, an_of(an)))).hex()],
+    "reserve_wanted": lambda end, an, amount: shown_record(end.wanted(an_of(an), amount)),
+    "reserve_to_accept": lambda end, sci, an, *numbers: shown_record(end.to_accept(sci, an_of(an), *numbers)),
+    "reserve_to_save": lambda end, sci, an: shown_record(end.to_save(sci, an_of(an))),
     "reserve_tx_floor": lambda end, number: [found(end.floor((), key_number_of(number)))],
     "reserve_rx_floor": lambda end, sci, an, number: [found(end.floor((sci, an_of(an)), key_number_of(number)))],
 }
@@ -294,12 +180,13 @@ UNSHOWN = {
     "configure": " 0",
     "reserve_configure": " 0",
     "send": f" {CONSTANTS['FATE_NONE']} 0 -",
-    "receive": f" {CONSTANTS['VERDICT_NONE']} 0 {'00' * 8} 0 0 -",
+    "receive": f" {CONSTANTS['VERDICT_NONE']} 0 {'00' * 8} 0 0 0 -",
     "plan_send": f" {CONSTANTS['FATE_NONE']} 0 0",
     "plan_receive": f" {CONSTANTS['FATE_NONE']} 0 0",
     "seal_job": " 7 -",
-    "finish_receive": f" {CONSTANTS['VERDICT_NONE']} 0 {'00' * 8} 0 0 -",
+    "finish_receive": f" {CONSTANTS['VERDICT_NONE']} 0 {'00' * 8} 0 0 0 -",
     "reserve_wanted": " " + "07" * journals.RECORD,
+    "reserve_to_accept": " " + "07" * journals.RECORD,
     "reserve_to_save": " " + "07" * journals.RECORD,
     "reserve_tx_floor": " 7",
     "reserve_rx_floor": " 7",
@@ -359,7 +246,7 @@ class Model:
 
     # Creation and end.
 
-    def call_new(self, handle, sci, suite, form, max_frame, journal=None):
+    def call_new(self, handle, sci, suite, form, max_frame, journal=None, ahead=0):
         if self.ends[handle] is not None:
             raise Status("E_TAKEN")
         suite, form = named(SUITES, suite, "E_NO_SUCH_SUITE"), named(FORMS, form, "E_NO_SUCH_FORM")
@@ -369,17 +256,17 @@ class Model:
             raise Status("E_NEW_MAX_FRAME")
         if not expected.form_fits(form, sci):
             raise Status("E_NEW_SCI_FORM")
-        self.ends[handle] = Endpoint(suite, sci, max_frame, form, journal)
+        self.ends[handle] = Endpoint(suite, sci, max_frame, form, journal, ahead != 0)
 
     call_reserve_open = call_new
 
-    def call_configure(self, handle, text, journal=None):
+    def call_configure(self, handle, text, journal=None, ahead=0):
         if self.ends[handle] is not None:
             raise Status("E_TAKEN")
         (_, _, _, (_, suite, sci, max_frame, form)), *commands = parsed(text, lambda line: f" {line or 0}")
         if journal is not None and not journals.is_journal(journal):
             raise Status("E_NOT_JOURNAL")
-        made = Endpoint(suite, sci, max_frame, form, journal)
+        made = Endpoint(suite, sci, max_frame, form, journal, ahead != 0)
         for line, keyword, _, values in commands:
             try:
                 made.command(keyword, values)
@@ -512,13 +399,16 @@ class Model:
         framed(frame)
 
     def call_receive(self, handle, frame):
-        end = self.ends[handle]
+        end, pn = self.ends[handle], 0
         row = end.row_of(framed(frame))
-        verdict, delivered = end.receive(frame)
+        try:
+            verdict, delivered = end.receive(frame)
+        except Dropped as it:
+            (verdict, pn), delivered = it.args, None
         verdict = "VERDICT_" + constant_name(verdict)
         self.met[verdict] += 1
         sci, an = row or (bytes(8), 0)
-        told = f"{int(row is not None)} {sci.hex()} {an} {int(delivered is not None)} {hex_of(delivered or b'')}"
+        told = f"{int(row is not None)} {sci.hex()} {an} {int(delivered is not None)} {pn} {hex_of(delivered or b'')}"
         return f" {CONSTANTS[verdict]} {told}"
 
     def call_seal(self, handle, octets, salt, ssci, suite, number, length, offset, sci, pn, conf, head, frame):

@@ -10,7 +10,7 @@ struct Sent { frame: *const u8, length: usize, status: u32, fate: u32, key: u16,
 #[repr(C)]
 struct Received {
     frame: *const u8, length: usize, status: u32, verdict: u32, sci: [u8; 8], an: u8, has_sa: bool, delivered: bool,
-    reserved: [u64; 3],
+    pn: u64, reserved: [u64; 2],
 }
 
 extern "C" {

@@ -2,6 +2,7 @@
  * jobs are compared with two other endpoints, which take the same commands and frames by macsec_send and
  * macsec_receive: each frame, verdict and counter must be the same. Commands come between a plan and its job, keys
  * change and are retired, jobs are done in any order, with the wrong key first, or not at all, and frames are altered.
+ * The receivers reserve packet numbers ahead of receiving, but not always in time.
  *
  * It prints how many frames there were. tests/library/c-programs also builds it with the thread sanitizer. Two
  * endpoints send under one key here: a test alone may do so. */
@@ -18,7 +19,7 @@ static const uint8_t SENDER[8] = { 2, 0, 0, 0, 0, 1, 0, 1 }, RECEIVER[8] = { 2, 
 
 /* The sender and the receiver with jobs, and those without. */
 static macsec_endpoint sends, receives, sends_alone, receives_alone;
-static unsigned sealed_count, opened_count, refused_count;
+static unsigned sealed_count, opened_count, refused_count, unreserved_count;
 
 static void fail(const char *what) {
     fprintf(stderr, "jobs: %s\n", what);
@@ -216,15 +217,33 @@ static unsigned send_frames(uint16_t key, bool changes) {
 static void compare(const macsec_finished *finished, const uint8_t *out, const macsec_received *received) {
     if (finished->verdict != received->verdict || finished->delivered != received->delivered ||
         finished->has_sa != received->has_sa || finished->an != received->an ||
-        memcmp(finished->sci, received->sci, 8) != 0 || finished->length != received->length ||
-        memcmp(out, received->frame, finished->length) != 0)
+        memcmp(finished->sci, received->sci, 8) != 0 || finished->pn != received->pn ||
+        finished->length != received->length || memcmp(out, received->frame, finished->length) != 0)
         fail("a frame is received in another way");
 }
 
+/* Reserves packet numbers for the association under this key, after that of a frame that was dropped: both receivers
+ * want the same record, or none. */
+static void reserve(uint16_t key, uint64_t dropped) {
+    macsec_record records[2];
+    uint8_t an = key % MACSEC_AN_COUNT;
+    uint32_t status = macsec_reserve_to_accept(&receives, SENDER, an, 8, dropped, &records[0]);
+    if (macsec_reserve_to_accept(&receives_alone, SENDER, an, 8, dropped, &records[1]) != status)
+        fail("a record is wanted at one receiver");
+    if (status == MACSEC_E_NOT_FOUND)
+        return;
+    must(status);
+    if (memcmp(&records[0], &records[1], sizeof records[0]) != 0)
+        fail("the receivers want different records");
+    must(macsec_reserve_granted(&receives, &records[0]));
+    must(macsec_reserve_granted(&receives_alone, &records[1]));
+}
+
 /* Gives the receivers the frames, some of them altered, some twice, some overtaken, and some not opened before. */
-static void receive_frames(unsigned count, unsigned at_once) {
+static void receive_frames(uint16_t key, unsigned count, unsigned at_once) {
     static uint8_t out[MACSEC_FRAME_MAX];
     unsigned order[SLOTS];
+    uint64_t dropped = 0;
     for (unsigned i = 0; i < count; i++) {
         order[i] = below(8) == 0 ? below(count) : i;
         if (below(8) == 0)
@@ -247,9 +266,15 @@ static void receive_frames(unsigned count, unsigned at_once) {
     for (unsigned i = 0; i < count; i++) {
         macsec_finished finished;
         macsec_received received;
+        if (below(4) == 0)
+            reserve(key, dropped);
         must(macsec_finish_receive(&receives, &works[i].slot, out, sizeof out, &finished));
         must(macsec_receive(&receives_alone, links[order[i]], link_lengths[order[i]], &received));
         compare(&finished, out, &received);
+        if (finished.pn != 0) {
+            dropped = finished.pn;
+            unreserved_count++;
+        }
         if (macsec_finish_receive(&receives, &works[i].slot, out, sizeof out, &finished) != MACSEC_E_JOB)
             fail("a frame is finished twice");
     }
@@ -275,11 +300,17 @@ static void compare_counters(void) {
 static void begin(pthread_t *threads) {
     macsec_config config = { { 0 }, MACSEC_SUITE_GCM_AES_128, MACSEC_FORM_SCI, 1600 };
     macsec_endpoint *all[] = { &sends, &sends_alone, &receives, &receives_alone };
+    const uint8_t salt[24] = { 1 };
+    macsec_record header;
+    must(macsec_journal_header(salt, &header));
     for (int i = 0; i < 4; i++) {
         memcpy(config.sci, i < 2 ? SENDER : RECEIVER, 8);
-        must(macsec_new(all[i], &config));
-        if (i >= 2)
+        if (i < 2) {
+            must(macsec_new(all[i], &config));
+        } else {
+            must(macsec_reserve_open(all[i], &config, header.octets, sizeof header.octets, true));
             must(macsec_add_rx_sc(all[i], SENDER));
+        }
     }
     for (int i = 0; i < SLOTS; i++)
         must(macsec_slot_new(&works[i].slot));
@@ -320,11 +351,11 @@ int main(void) {
             change_key(key);
         }
         unsigned count = send_frames(key, last);
-        receive_frames(count, round % 3 != 0);
+        receive_frames(key, count, round % 3 != 0);
     }
     compare_counters();
     end(threads);
-    printf("%u frames sealed and %u opened in jobs, as without them; %u other keys refused\n", sealed_count,
-           opened_count, refused_count);
+    printf("%u frames sealed and %u opened in jobs, as without them; %u other keys refused; %u frames not reserved\n",
+           sealed_count, opened_count, refused_count, unreserved_count);
     return fflush(stdout) == 0 ? 0 : 1;
 }

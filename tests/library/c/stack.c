@@ -1,20 +1,33 @@
-/* The calls that create an endpoint, and macsec_free, each in a thread with the 96 KB of stack that the header asks
- * for, less what the C library takes of it. No proof says how much stack the library takes: without enough, this
- * program ends with SIGSEGV. */
+/* The calls that create an endpoint, macsec_free, and the calls that receive a frame whose packet number is not
+ * reserved and so is opened on the stack: each in a thread with the 96 KB of stack that the header asks for, less what
+ * the C library takes of it. No proof says how much stack the library takes: without enough, this program ends with
+ * SIGSEGV. It says so too where a call takes more than the header says that it was measured to take. */
+#define _XOPEN_SOURCE 700
 #include "macsec.h"
 #include <pthread.h>
 #include <stdio.h>
 #include <string.h>
 
-#define STACK (96 * 1024)
+enum { STACK = 96 * 1024, CREATING = 66 * 1024, OTHERS = 33 * 1024, MARK = 0x5a };
 
-static const uint8_t own_sci[8] = { 2, 0, 0, 0, 0, 1, 0, 1 };
+static const uint8_t own_sci[8] = { 2, 0, 0, 0, 0, 1, 0, 1 }, sender_sci[8] = { 2, 0, 0, 0, 0, 2, 0, 1 };
 static const char lines[] = "end A gcm128 0200000000010001 9248 sci\nA key 0 2b2b2b2b2b2b2b2b2b2b2b2b2b2b2b2b 0\n"
                             "A txsa 0 0 1 conf\nA txon 0\n";
-static macsec_endpoint endpoint = MACSEC_ENDPOINT_INIT;
+static const char sender_lines[] = "end A gcm128 0200000000020001 9248 sci\n"
+                                   "A key 0 2b2b2b2b2b2b2b2b2b2b2b2b2b2b2b2b 0\nA txsa 0 0 1 conf\nA txon 0\n";
+static const char receiver_lines[] = "end A gcm128 0200000000010001 9248 sci\n"
+                                     "A key 0 2b2b2b2b2b2b2b2b2b2b2b2b2b2b2b2b 0\nA rxsc 0200000000020001\n"
+                                     "A rxsa 0200000000020001 0 0 1\nA rxon 0200000000020001 0\n";
+static macsec_endpoint endpoint = MACSEC_ENDPOINT_INIT, receiver = MACSEC_ENDPOINT_INIT;
+static macsec_slot slot = MACSEC_SLOT_INIT;
 static macsec_config config = { { 0 }, MACSEC_SUITE_GCM_AES_128, MACSEC_FORM_SCI, 1518 };
 static macsec_record journal;
-static uint32_t status, line;
+static uint8_t link[MACSEC_FRAME_MAX], out[MACSEC_FRAME_MAX];
+static uint32_t status, line, verdict;
+
+static void *nothing(void *unused) {
+    return unused;
+}
 
 static void *make(void *unused) {
     status = macsec_new(&endpoint, &config);
@@ -27,13 +40,13 @@ static void *configure(void *unused) {
 }
 
 static void *open_beside(void *unused) {
-    status = macsec_reserve_open(&endpoint, &config, journal.octets, sizeof journal.octets);
+    status = macsec_reserve_open(&endpoint, &config, journal.octets, sizeof journal.octets, true);
     return unused;
 }
 
 static void *configure_beside(void *unused) {
     status = macsec_reserve_configure(&endpoint, (const uint8_t *)lines, sizeof lines - 1, journal.octets,
-                                      sizeof journal.octets, &line);
+                                      sizeof journal.octets, true, &line);
     return unused;
 }
 
@@ -42,34 +55,104 @@ static void *release(void *unused) {
     return unused;
 }
 
-/* Makes a call in a thread of its own. */
-static int run(void *(*call)(void *)) {
+static void *receive(void *unused) {
+    macsec_received received;
+    status = macsec_receive(&receiver, link, sizeof link, &received);
+    verdict = received.verdict;
+    return unused;
+}
+
+static void *finish(void *unused) {
+    macsec_finished finished;
+    status = macsec_finish_receive(&receiver, &slot, out, sizeof out, &finished);
+    verdict = finished.verdict;
+    return unused;
+}
+
+/* Makes a call in a thread of its own, and says how many octets of stack the thread took; 0 if it can't be made. */
+static size_t run(void *(*call)(void *)) {
+    static uint8_t area[STACK] __attribute__((aligned(4096)));
     pthread_attr_t attributes;
     pthread_t thread;
-    int failed = pthread_attr_init(&attributes);
-    if (failed != 0)
-        return failed;
-    failed = pthread_attr_setstacksize(&attributes, STACK);
+    size_t unused = 0;
+    memset(area, MARK, sizeof area);
+    if (pthread_attr_init(&attributes) != 0)
+        return 0;
+    int failed = pthread_attr_setstack(&attributes, area, sizeof area);
     if (failed == 0)
         failed = pthread_create(&thread, &attributes, call, NULL);
     if (failed == 0)
         failed = pthread_join(thread, NULL);
-    return pthread_attr_destroy(&attributes) != 0 ? -1 : failed;
+    if (pthread_attr_destroy(&attributes) != 0 || failed != 0)
+        return 0;
+    while (unused < sizeof area && area[unused] == MARK)
+        unused++;
+    return sizeof area - unused;
+}
+
+/* Makes a call, and says if it takes more stack than this, beside what a thread takes without it. */
+static int measure(const char *name, void *(*call)(void *), size_t most) {
+    size_t thread = run(nothing), used = run(call);
+    if (thread == 0 || used == 0)
+        return -1;
+    if (used - thread > most)
+        printf("%s took %zu octets of stack, and not %zu at most\n", name, used - thread, most);
+    return 0;
+}
+
+static int create(void) {
+    void *(*const calls[])(void *) = { make, configure, open_beside, configure_beside };
+    const char *const names[] = { "macsec_new", "macsec_configure", "macsec_reserve_open", "macsec_reserve_configure" };
+    for (size_t i = 0; i < sizeof calls / sizeof calls[0]; i++) {
+        if (measure(names[i], calls[i], CREATING) != 0)
+            return -1;
+        printf("%s: %s\n", names[i], macsec_status_name(status));
+        if (measure("macsec_free", release, OTHERS) != 0)
+            return -1;
+    }
+    return 0;
+}
+
+/* A receiver that reserves ahead, and the longest frame for it. */
+static int prepare(void) {
+    static const uint8_t frame[MACSEC_FRAME_MAX - MACSEC_OVERHEAD_MAX];
+    macsec_endpoint sender = MACSEC_ENDPOINT_INIT;
+    macsec_planned planned;
+    macsec_sent sent;
+    if (macsec_configure(&sender, (const uint8_t *)sender_lines, sizeof sender_lines - 1, &line) != MACSEC_OK ||
+        macsec_send(&sender, frame, sizeof frame, &sent) != MACSEC_OK || sent.length != sizeof link)
+        return -1;
+    memcpy(link, sent.frame, sent.length);
+    macsec_free(&sender);
+    if (macsec_reserve_configure(&receiver, (const uint8_t *)receiver_lines, sizeof receiver_lines - 1, journal.octets,
+                                 sizeof journal.octets, true, &line) != MACSEC_OK ||
+        macsec_slot_new(&slot) != MACSEC_OK)
+        return -1;
+    return macsec_plan_receive(&receiver, &slot, link, sizeof link, &planned) == MACSEC_OK && planned.job ? 0 : -1;
+}
+
+/* The frame is not reserved, and then it is. */
+static int receive_frames(void) {
+    macsec_record record;
+    if (measure("macsec_receive", receive, OTHERS) != 0)
+        return -1;
+    printf("macsec_receive: %s, %s\n", macsec_status_name(status), macsec_verdict_name(verdict));
+    if (measure("macsec_finish_receive", finish, OTHERS) != 0)
+        return -1;
+    printf("macsec_finish_receive: %s, %s\n", macsec_status_name(status), macsec_verdict_name(verdict));
+    if (macsec_reserve_to_accept(&receiver, sender_sci, 0, 8, 0, &record) != MACSEC_OK ||
+        macsec_reserve_granted(&receiver, &record) != MACSEC_OK || measure("macsec_receive", receive, OTHERS) != 0)
+        return -1;
+    printf("macsec_receive: %s, %s\n", macsec_status_name(status), macsec_verdict_name(verdict));
+    return 0;
 }
 
 int main(void) {
-    void *(*const calls[])(void *) = { make, configure, open_beside, configure_beside };
-    const char *const names[] = { "macsec_new", "macsec_configure", "macsec_reserve_open", "macsec_reserve_configure" };
     const uint8_t salt[24] = { 1 };
     memcpy(config.sci, own_sci, sizeof own_sci);
-    if (macsec_journal_header(salt, &journal) != MACSEC_OK)
+    if (macsec_journal_header(salt, &journal) != MACSEC_OK || create() != 0 || prepare() != 0 || receive_frames() != 0)
         return 1;
-    for (size_t i = 0; i < sizeof calls / sizeof calls[0]; i++) {
-        if (run(calls[i]) != 0)
-            return 1;
-        printf("%s: %s\n", names[i], macsec_status_name(status));
-        if (run(release) != 0)
-            return 1;
-    }
-    return 0;
+    macsec_slot_free(&slot);
+    macsec_free(&receiver);
+    return fflush(stdout) == 0 ? 0 : 1;
 }

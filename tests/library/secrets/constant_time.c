@@ -3,6 +3,7 @@
  * usage: constant_time MODE, with some of these letters in MODE:
  *   k  keys are secret        d  the client's data is secret, from octet 12 on
  *   j  beside a journal       t  keys are installed as lines of text, and one in a CONFIG
+ *   a  the receiver is beside a journal too, and reserves packet numbers ahead of receiving
  *   s b c e  a planted mistake each: an S-box read by index, a branch on an octet of a key, a tag compared octet by
  *            octet, a search for a key that ends at the first octet that differs
  *
@@ -17,8 +18,8 @@
 
 #define COUNT(array) (sizeof(array) / sizeof *(array))
 
-static bool keys, data, journal, text;
-static unsigned frames, hidden;
+static bool keys, data, journal, ahead, text;
+static unsigned frames, hidden, unreserved;
 
 static void secret(void *octets, size_t length) {
     (void)VALGRIND_MAKE_MEM_UNDEFINED(octets, length);
@@ -56,8 +57,8 @@ static size_t stored;
 static void open_endpoint(macsec_endpoint *e, const uint8_t sci[8], uint32_t suite) {
     macsec_config config = { { 0 }, suite, MACSEC_FORM_SCI, MACSEC_FRAME_MAX };
     memcpy(config.sci, sci, sizeof config.sci);
-    if (journal && sci == own)
-        must("open", macsec_reserve_open(e, &config, store, stored), MACSEC_OK);
+    if (sci == own ? journal : ahead)
+        must("open", macsec_reserve_open(e, &config, store, stored, sci != own), MACSEC_OK);
     else
         must("new", macsec_new(e, &config), MACSEC_OK);
 }
@@ -143,14 +144,40 @@ static void configure(void) {
     macsec_free(&e);
 }
 
+/* A record is on the disk. */
+static void grant(macsec_endpoint *e, macsec_record *record) {
+    shown(record, sizeof *record);
+    memcpy(store + stored, record->octets, MACSEC_RECORD_LENGTH);
+    stored += MACSEC_RECORD_LENGTH;
+    must("granted", macsec_reserve_granted(e, record), MACSEC_OK);
+}
+
+/* A valid frame was dropped because of its packet number: reserves this one and the next one. */
+static void accept(macsec_endpoint *b, uint64_t pn) {
+    macsec_record record;
+    unreserved++;
+    must("to accept", macsec_reserve_to_accept(b, own, 0, 1, pn, &record), MACSEC_OK);
+    grant(b, &record);
+}
+
+static macsec_received received(macsec_endpoint *b, const uint8_t *frame, size_t length) {
+    macsec_received got;
+    must("receive", macsec_receive(b, frame, length, &got), MACSEC_OK);
+    shown(&got, sizeof got);
+    return got;
+}
+
+/* With a wrong tag, and as it was sent: again, if its packet number was not reserved. */
 static void receive_twice(macsec_endpoint *b, uint8_t *frame, size_t length) {
-    for (int good = 0; good < 2; good++) {
-        macsec_received got;
-        frame[length - 1] ^= 1;
-        must("receive", macsec_receive(b, frame, length, &got), MACSEC_OK);
-        shown(&got, sizeof got);
-        must_be("verdict", got.verdict, good ? MACSEC_VERDICT_OK : MACSEC_VERDICT_NOT_VALID);
+    frame[length - 1] ^= 1;
+    must_be("verdict", received(b, frame, length).verdict, MACSEC_VERDICT_NOT_VALID);
+    frame[length - 1] ^= 1;
+    macsec_received got = received(b, frame, length);
+    if (ahead && got.verdict == MACSEC_VERDICT_NO_RESERVATION) {
+        accept(b, got.pn);
+        got = received(b, frame, length);
     }
+    must_be("verdict", got.verdict, MACSEC_VERDICT_OK);
 }
 
 static uint8_t *client_frame(size_t length) {
@@ -204,19 +231,29 @@ static void free_slots(void) {
     macsec_slot_free(&at_b);
 }
 
-static void open_twice(macsec_endpoint *b, uint8_t *link, size_t length) {
+static macsec_finished finished(macsec_endpoint *b, const uint8_t *link, size_t length) {
     static uint8_t out[MACSEC_FRAME_MAX];
-    for (int good = 0; good < 2; good++) {
-        macsec_planned planned;
-        macsec_finished finished;
-        link[length - 1] ^= 1;
-        must("plan a link frame", macsec_plan_receive(b, &at_b, link, length, &planned), MACSEC_OK);
-        must("open by another", macsec_open_job(&at_b, &another), MACSEC_E_OTHER_KEY);
-        must("open", macsec_open_job(&at_b, &of_b), MACSEC_OK);
-        must("finish", macsec_finish_receive(b, &at_b, out, sizeof out, &finished), MACSEC_OK);
-        shown(&finished, sizeof finished);
-        must_be("verdict", finished.verdict, good ? MACSEC_VERDICT_OK : MACSEC_VERDICT_NOT_VALID);
+    macsec_planned planned;
+    macsec_finished got;
+    must("plan a link frame", macsec_plan_receive(b, &at_b, link, length, &planned), MACSEC_OK);
+    must("open by another", macsec_open_job(&at_b, &another), MACSEC_E_OTHER_KEY);
+    must("open", macsec_open_job(&at_b, &of_b), MACSEC_OK);
+    must("finish", macsec_finish_receive(b, &at_b, out, sizeof out, &got), MACSEC_OK);
+    shown(&got, sizeof got);
+    return got;
+}
+
+/* The same in a slot. */
+static void open_twice(macsec_endpoint *b, uint8_t *link, size_t length) {
+    link[length - 1] ^= 1;
+    must_be("verdict", finished(b, link, length).verdict, MACSEC_VERDICT_NOT_VALID);
+    link[length - 1] ^= 1;
+    macsec_finished got = finished(b, link, length);
+    if (ahead && got.verdict == MACSEC_VERDICT_NO_RESERVATION) {
+        accept(b, got.pn);
+        got = finished(b, link, length);
     }
+    must_be("verdict", got.verdict, MACSEC_VERDICT_OK);
 }
 
 /* One frame from a to b by jobs, with a wrong tag first. */
@@ -239,10 +276,7 @@ static void pass_in_slots(macsec_endpoint *a, macsec_endpoint *b, size_t length)
 static void reserve(macsec_endpoint *a) {
     macsec_record record;
     must("wanted", macsec_reserve_wanted(a, 0, 65536, &record), MACSEC_OK);
-    shown(&record, sizeof record);
-    memcpy(store + stored, record.octets, MACSEC_RECORD_LENGTH);
-    stored += MACSEC_RECORD_LENGTH;
-    must("granted", macsec_reserve_granted(a, &record), MACSEC_OK);
+    grant(a, &record);
 }
 
 static void run(uint32_t suite, uint8_t offset, bool encrypts, unsigned seed) {
@@ -325,7 +359,8 @@ static void plant(const char *mode) {
 int main(int words, char **word) {
     const char *mode = words > 1 ? word[1] : "";
     keys = strchr(mode, 'k'), data = strchr(mode, 'd'), journal = strchr(mode, 'j'), text = strchr(mode, 't');
-    if (journal) {
+    ahead = strchr(mode, 'a');
+    if (journal || ahead) {
         uint8_t salt[24] = { 9 };
         macsec_record header;
         must("header", macsec_journal_header(salt, &header), MACSEC_OK);
@@ -339,6 +374,7 @@ int main(int words, char **word) {
         for (uint8_t offset = 0; offset <= (is_xpn(suite) ? 0 : 50); offset = offset == 0 ? 30 : offset + 20)
             for (int encrypts = 0; encrypts < 2; encrypts++, seed += 2)
                 run(suite, offset, encrypts, seed);
+    must_be("frames that were not reserved", ahead ? unreserved > frames / 4 : unreserved, ahead);
     /* If no mark reaches a tag, the reports mean nothing. */
     printf("%u frames, %u with a hidden tag\n", frames, hidden);
     return 0;

@@ -2,8 +2,8 @@
  *
  * usage: memory WAY SUITE KEYS: SUITE is 1 to 4. WAY is struct, line or config, and KEYS how many keys come one after
  * another. Or, as with struct: rekeys, and KEYS is how many changes of keys there are; beside, and a third endpoint
- * lives on; locked, and the memory is locked; journal, and the endpoints have a journal; jobs, and the frames pass in
- * slots; kept, and no key is retired.
+ * lives on; locked, and the memory is locked; journal, and the endpoints have a journal; ahead, and they also reserve
+ * packet numbers ahead of receiving; jobs, and the frames pass in slots; kept, and no key is retired.
  *
  * Its standard input has the octets of the first key, for each of two rounds, those of the next one for each change of
  * keys, and an octet for each step. The octets of a key are in no variable when a step is announced. The endpoints of
@@ -85,11 +85,11 @@ static void install(macsec_endpoint *e, const macsec_sak *key) {
 static void make(macsec_endpoint *e, const uint8_t sci[8], const macsec_sak *key) {
     macsec_config config = { { 0 }, suite, MACSEC_FORM_SCI, 1546 };
     memcpy(config.sci, sci, sizeof config.sci);
-    if (is_way("journal")) {
+    if (is_way("journal") || is_way("ahead")) {
         const uint8_t salt[24] = { 9 };
         macsec_record header;
         must("header", macsec_journal_header(salt, &header));
-        must("open", macsec_reserve_open(e, &config, header.octets, sizeof header.octets));
+        must("open", macsec_reserve_open(e, &config, header.octets, sizeof header.octets, is_way("ahead")));
         return;
     }
     if (!is_way("config")) {
@@ -164,16 +164,47 @@ static void give_up(macsec_endpoint *a, macsec_endpoint *b, uint8_t an, uint16_t
     retire(b, number);
 }
 
+/* A frame on the link. */
+static uint8_t sent_frame[1500];
+static size_t sent_length;
+
+static void send_frame(macsec_endpoint *a, size_t length) {
+    const uint8_t frame[1400] = { 2 };
+    macsec_sent sent;
+    must("send", macsec_send(a, frame, length, &sent));
+    memcpy(sent_frame, sent.frame, sent.length);
+    sent_length = sent.length;
+}
+
+static macsec_received receive_frame(macsec_endpoint *b) {
+    macsec_received got;
+    must("receive", macsec_receive(b, sent_frame, sent_length, &got));
+    return got;
+}
+
+/* With `ahead` a frame whose packet number is not reserved is opened on the stack, and dropped. Then this number and
+ * the next seven are reserved. */
+static void accept(macsec_endpoint *b, const macsec_received *got) {
+    macsec_record record;
+    must("to accept", macsec_reserve_to_accept(b, got->sci, got->an, 7, got->pn, &record));
+    must("granted", macsec_reserve_granted(b, &record));
+}
+
+/* Passes frames. With `ahead` the last one is dropped. */
 static void pass_frames(macsec_endpoint *a, macsec_endpoint *b) {
-    uint8_t frame[1400] = { 2 }, link[1500];
     for (size_t i = 0; i < 100; i++) {
-        macsec_sent sent;
-        macsec_received got;
-        must("send", macsec_send(a, frame, 14 + i * 13, &sent));
-        memcpy(link, sent.frame, sent.length);
-        must("receive", macsec_receive(b, link, sent.length, &got));
+        send_frame(a, 14 + i * 13);
+        macsec_received got = receive_frame(b);
+        if (is_way("ahead") && got.verdict == MACSEC_VERDICT_NO_RESERVATION) {
+            accept(b, &got);
+            got = receive_frame(b);
+        }
         if (!got.delivered)
             exit(4);
+    }
+    for (bool delivered = is_way("ahead"); delivered;) {
+        send_frame(a, 1400);
+        delivered = receive_frame(b).delivered;
     }
 }
 
