@@ -37,7 +37,7 @@ class Sent(ctypes.Structure):
 class Received(ctypes.Structure):
     _fields_ = [
         ("frame", c_void_p), ("length", c_size_t), ("status", c_uint32), ("verdict", c_uint32), ("sci", Sci),
-        ("an", c_uint8), ("has_sa", c_bool), ("delivered", c_bool), ("reserved", c_uint64 * 3),
+        ("an", c_uint8), ("has_sa", c_bool), ("delivered", c_bool), ("pn", c_uint64), ("reserved", c_uint64 * 2),
     ]  # fmt: skip
 
 
@@ -134,9 +134,10 @@ CALLS = {
     "get_rx_sc": (c_size_t, _TO_FILL),
     "get_tx_sa": (c_uint8, _TO_FILL),
     "get_rx_sa": (_SCI, c_uint8, _TO_FILL),
-    "reserve_open_raw": (_TO_FILL, c_char_p, c_size_t),
-    "reserve_configure_raw": (c_char_p, c_size_t, c_char_p, c_size_t, _TO_FILL),
+    "reserve_open_raw": (_TO_FILL, c_char_p, c_size_t, c_bool),
+    "reserve_configure_raw": (c_char_p, c_size_t, c_char_p, c_size_t, c_bool, _TO_FILL),
     "reserve_wanted": (c_uint8, c_uint64, _TO_FILL),
+    "reserve_to_accept": (_SCI, c_uint8, c_uint64, c_uint64, _TO_FILL),
     "reserve_to_save": (_SCI, c_uint8, _TO_FILL),
     "reserve_granted": (c_char_p,),
     "reserve_tx_floor": (c_uint16, _TO_FILL),

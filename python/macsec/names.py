@@ -78,7 +78,7 @@ class Status(_Number):
 
 
 class Suite(IntEnum):
-    """A cipher suite. `default` is the suite of the endpoint, for keys alone."""
+    """A cipher suite (clause 14). `default` is the suite of the endpoint, for keys alone."""
 
     default = 0
     gcm128 = 1
@@ -98,7 +98,7 @@ class Suite(IntEnum):
 
 
 class Form(IntEnum):
-    """Which SecTAG a frame gets."""
+    """Which SecTAG a frame gets (9.5)."""
 
     auto = 0
     sci = 1
@@ -107,7 +107,7 @@ class Form(IntEnum):
 
 
 class Mode(IntEnum):
-    """How received frames are validated."""
+    """How received frames are validated (10.6)."""
 
     disabled = 0
     check = 1
@@ -115,7 +115,7 @@ class Mode(IntEnum):
 
 
 class Fate(_Number):
-    """What becomes of a client frame."""
+    """What becomes of a client frame (10.5)."""
 
     Protected = 1
     Plain = 2
@@ -125,7 +125,11 @@ class Fate(_Number):
 
 
 class Verdict(_Number):
-    """What becomes of a link frame. Each is named as its counter is, without InPkts."""
+    """What becomes of a link frame (10.6). Each is named as its counter is, without InPkts (10.7).
+
+    The last two are no verdicts of the standard, and no counter counts them. An endpoint with `ahead` drops a valid
+    frame whose packet number is not reserved yet (`NoReservation`), or that an earlier run had reserved (`EarlierRun`).
+    """
 
     Untagged = 1
     NoTag = 2
@@ -139,6 +143,8 @@ class Verdict(_Number):
     Delayed = 10
     Invalid = 11
     OK = 12
+    NoReservation = 13
+    EarlierRun = 14
 
 
 # The order of each structure of counters in include/macsec.h.

@@ -22,7 +22,7 @@ _VERDICTS = {int(it): it for it in Verdict}
 _SENT_OCTETS = ctypes.c_char * ctypes.sizeof(_library.Sent)
 _RECEIVED_OCTETS = ctypes.c_char * ctypes.sizeof(_library.Received)
 # The members of both after `frame` and before `reserved`, read at once.
-_SENT_MEMBERS, _RECEIVED_MEMBERS = struct.Struct("=8xQ4xIH"), struct.Struct("=20xI8sB??")
+_SENT_MEMBERS, _RECEIVED_MEMBERS = struct.Struct("=8xQ4xIH"), struct.Struct("=20xI8sB??5xQ")
 _sent_of, _received_of = _SENT_MEMBERS.unpack_from, _RECEIVED_MEMBERS.unpack_from
 # Answers that name no frame, as MACSEC_SENT_INIT and MACSEC_RECEIVED_INIT are.
 _NOTHING = ctypes.create_string_buffer(1)
@@ -47,12 +47,14 @@ class Sent(NamedTuple):
 
 
 class Received(NamedTuple):
-    """What becomes of a link frame. `frame` is what the client gets, or None; `sci` and `an` name the association."""
+    """What becomes of a link frame. `frame` is what the client gets, or None; `sci` and `an` name the association. `pn`
+    is the packet number of a frame that is dropped as `Verdict.NoReservation` or `Verdict.EarlierRun`, else None."""
 
     verdict: Verdict
     frame: bytes | None
     sci: bytes | None
     an: int | None
+    pn: int | None = None
 
 
 class Options(NamedTuple):
@@ -137,6 +139,13 @@ def sak_of(key: Octets, *, number: int, offset: int, suite: Suite | int | str, s
     return sak
 
 
+def journal_of(journal: Octets | None, ahead: bool) -> bytes | None:
+    """The octets of a journal. Without one nothing is reserved, and `ahead` would protect nothing."""
+    if journal is None and ahead:
+        raise ValueError("ahead needs a journal")
+    return None if journal is None else octets_of(journal)
+
+
 def _frame_of(made: Any, kind: Any) -> Any:
     """Address and length of the frame in a structure, as they are whenever they are used."""
     return ctypes.c_void_p.from_buffer(made, kind.frame.offset), ctypes.c_size_t.from_buffer(made, kind.length.offset)
@@ -148,6 +157,16 @@ class SecY:
     A refused command raises `Refused`, and nothing has changed. An endpoint is closed by `close`, at the end of a
     `with`, or when nothing refers to it any more. Threads may share it: one call at a time is made. After a fork only
     one of the processes may send by it. Never give two endpoints that send the same key and packet number.
+
+    `journal` is all octets of a journal's file. Beside it the endpoint uses only packet numbers that a record reserves,
+    and begins no association at a number that an earlier run reserved. It creates no receive association again at a
+    number that it may have accepted from it. include/macsec.h says how to keep the file.
+
+    With `ahead` the endpoint also accepts only packet numbers that a record reserves, so it accepts no frame again that
+    an earlier run accepted, whatever the moment at which that run ended. Its caller then has to write records for its
+    receive associations (`reserve_to_accept`); until the first one it accepts no frame. So `ahead` is False unless it
+    is given. Without it a later run can accept frames again that came after the last record of `reserve_to_save`.
+    `ahead` without a journal raises ValueError.
 
     >>> key = bytes.fromhex("ad7a2bd03eac835a6f620fdcb506b345")
     >>> with SecY("0200000000010001") as a, SecY("0200000000020001") as b:
@@ -172,16 +191,20 @@ class SecY:
         form: Form | int | str = Form.sci,
         max_frame: int = 9248,
         journal: Octets | None = None,
+        *,
+        ahead: bool = False,
     ) -> None:
         self._begin()
+        kept = journal_of(journal, ahead)
         config = _library.Config(
             _library.Sci(*sci_of(sci)), named(Suite, suite), named(Form, form), number_of(max_frame, 32, "max_frame")
         )
-        if journal is None:
+        if kept is None:
             status = self._library.macsec_new(self._handle, ctypes.byref(config))
         else:
-            octets = octets_of(journal)
-            status = self._library.macsec_reserve_open_raw(self._handle, ctypes.byref(config), octets, len(octets))
+            status = self._library.macsec_reserve_open_raw(
+                self._handle, ctypes.byref(config), kept, len(kept), bool(ahead)
+            )
         if status:
             raise error(status)
 
@@ -199,11 +222,10 @@ class SecY:
         self._send_raw, self._receive_raw = _library.frame_calls()
 
     @classmethod
-    def configure(cls, text: str | Octets, journal: Octets | None = None) -> SecY:
+    def configure(cls, text: str | Octets, journal: Octets | None = None, *, ahead: bool = False) -> SecY:
         """The endpoint of the text of a CONFIG. A fault or a refused line raises, with its line, and makes nothing.
-
-        With a journal, all octets of its file, the endpoint uses only the packet numbers that a record reserves, and
-        begins at none that an earlier run reserved. include/macsec.h says how to keep the file.
+        `journal` and `ahead` are as for `SecY`: a line `txsa` or `rxsa` at a number that an earlier run reserved is
+        refused.
 
         >>> SecY.configure("end A gcm128 0200000000010001 1546 sci\\nA txon 0\\n")
         Traceback (most recent call last):
@@ -212,13 +234,12 @@ class SecY:
         """
         made = cls.__new__(cls)
         made._begin()
-        octets, line = _text(text), ctypes.c_uint32()
-        if journal is None:
+        octets, line, kept = _text(text), ctypes.c_uint32(), journal_of(journal, ahead)
+        if kept is None:
             status = made._library.macsec_configure_raw(made._handle, octets, len(octets), ctypes.byref(line))
         else:
-            kept = octets_of(journal)
             status = made._library.macsec_reserve_configure_raw(
-                made._handle, octets, len(octets), kept, len(kept), ctypes.byref(line)
+                made._handle, octets, len(octets), kept, len(kept), bool(ahead), ctypes.byref(line)
             )
         if status:
             raise error(status, line.value)
@@ -245,7 +266,7 @@ class SecY:
     # Frames.
 
     def send(self, frame: Octets) -> Sent:
-        """What becomes of a client frame at the controlled port."""
+        """What becomes of a client frame at the controlled port (10.5)."""
         octets = frame if type(frame) is bytes else octets_of(frame)
         with self._lock:
             self._sent.raw = _NO_SENT
@@ -259,7 +280,7 @@ class SecY:
         return made
 
     def receive(self, frame: Octets) -> Received:
-        """What becomes of a frame from the link."""
+        """What becomes of a frame from the link (10.6)."""
         octets = frame if type(frame) is bytes else octets_of(frame)
         with self._lock:
             self._received.raw = _NO_RECEIVED
@@ -267,10 +288,10 @@ class SecY:
             status = self._receive_raw(self._endpoint_at, octets, self._length, self._received_at)
             if status:
                 raise error(status)
-            verdict, sci, an, has_sa, is_delivered = _received_of(self._received)
+            verdict, sci, an, has_sa, is_delivered, pn = _received_of(self._received)
             client = _octets_at(*self._client) if is_delivered else None
         sa = (sci, an) if has_sa else _NO_SA
-        made: Received = _new(Received, (_VERDICTS.get(verdict) or Verdict(verdict), client, *sa))
+        made: Received = _new(Received, (_VERDICTS.get(verdict) or Verdict(verdict), client, *sa, pn or None))
         return made
 
     def send_uncontrolled(self, frame: Octets) -> bytes:
@@ -279,7 +300,7 @@ class SecY:
         self._call("send_uncontrolled_raw", octets, len(octets))
         return octets
 
-    # Commands.
+    # Commands (10.7).
 
     def _call(self, name: str, *arguments: Any) -> None:
         """Makes a call, and raises its status if it is not OK."""
@@ -319,19 +340,19 @@ class SecY:
         return status, written.value, out.raw[:room]
 
     def set_protect(self, on: bool) -> None:
-        """Protects client frames, or sends them as they are."""
+        """Protects client frames, or sends them as they are (10.7.17)."""
         self._call("set_protect", bool(on))
 
     def set_validation(self, mode: Mode | int | str) -> None:
-        """Sets how received frames are validated."""
+        """Sets how received frames are validated (10.7.8)."""
         self._call("set_validation", named(Mode, mode))
 
     def set_replay(self, on: bool, window: int = 0) -> None:
-        """Drops late frames or not, and sets the replay window."""
+        """Drops late frames or not, and sets the replay window, in packet numbers (10.7.8)."""
         self._call("set_replay", bool(on), number_of(window, 64, "window"))
 
     def set_tag_form(self, form: Form | int | str) -> None:
-        """Sets the tag form."""
+        """Sets the tag form: which SecTAG a frame gets (9.5)."""
         self._call("set_tag_form", named(Form, form))
 
     def install_key(
@@ -344,81 +365,104 @@ class SecY:
         ssci: int = 0,
         salt: Octets = bytes(12),
     ) -> None:
-        """Installs a key (SAK). SSCI, the endpoint's own, and salt are for extended packet numbers."""
+        """Installs a key (SAK, 10.7.27). SSCI, the endpoint's own, and salt are for extended packet numbers."""
         sak = sak_of(key, number=number, offset=offset, suite=suite, ssci=ssci, salt=salt)
         self._call("install_key", ctypes.byref(sak))
 
     def retire_key(self, number: int) -> None:
-        """Retires a key that no association uses."""
+        """Retires a key that no association uses (10.7.28)."""
         self._call("retire_key", number_of(number, 16, "number"))
 
     def add_tx_sa(self, an: int, key: int, pn: int, conf: bool) -> None:
-        """Creates a transmit association, disabled. It encrypts if `conf`. `pn` must be above all that the key used."""
+        """Creates a transmit association, disabled (10.7.22). It encrypts if `conf`. `pn` must be above all that the
+        key used; beside a journal above `reserve_tx_floor`, else it is refused."""
         self._call("add_tx_sa", number_of(an, 8, "an"), number_of(key, 16, "key"), number_of(pn, 64, "pn"), bool(conf))
 
     def enable_tx_sa(self, an: int) -> None:
-        """Enables a transmit association, and disables every other one."""
+        """Enables a transmit association, and disables every other one (10.7.24)."""
         self._call("enable_tx_sa", number_of(an, 8, "an"))
 
     def disable_tx_sa(self, an: int) -> None:
-        """Disables a transmit association."""
+        """Disables a transmit association (10.7.24)."""
         self._call("disable_tx_sa", number_of(an, 8, "an"))
 
     def delete_tx_sa(self, an: int) -> None:
-        """Deletes a transmit association."""
+        """Deletes a transmit association (10.7.22)."""
         self._call("delete_tx_sa", number_of(an, 8, "an"))
 
     def add_rx_sc(self, sci: SciLike) -> None:
-        """Creates a receive channel, of another endpoint's SCI."""
+        """Creates a receive channel, of another endpoint's SCI (10.7.11)."""
         self._call("add_rx_sc", sci_of(sci))
 
     def delete_rx_sc(self, sci: SciLike) -> None:
-        """Deletes a receive channel with its associations and counters."""
+        """Deletes a receive channel with its associations and counters (10.7.11)."""
         self._call("delete_rx_sc", sci_of(sci))
 
     def add_rx_sa(self, sci: SciLike, an: int, key: int, pn: int, ssci: int = 0) -> None:
-        """Creates a receive association, disabled. `pn` is its lowest acceptable packet number, `ssci` the sender's."""
+        """Creates a receive association, disabled (10.7.13). `pn` is its lowest acceptable packet number, `ssci` the
+        sender's.
+
+        Beside a journal `pn` must be above `reserve_rx_floor`, else it is refused: an association that was deleted does
+        not begin again at a number that it may have accepted.
+        """
         numbers = number_of(an, 8, "an"), number_of(key, 16, "key"), number_of(pn, 64, "pn")
         self._call("add_rx_sa", sci_of(sci), *numbers, number_of(ssci, 32, "ssci"))
 
     def enable_rx_sa(self, sci: SciLike, an: int) -> None:
-        """Enables a receive association."""
+        """Enables a receive association (10.7.15)."""
         self._call("enable_rx_sa", sci_of(sci), number_of(an, 8, "an"))
 
     def disable_rx_sa(self, sci: SciLike, an: int) -> None:
-        """Disables a receive association."""
+        """Disables a receive association (10.7.15)."""
         self._call("disable_rx_sa", sci_of(sci), number_of(an, 8, "an"))
 
     def set_lowest_pn(self, sci: SciLike, an: int, pn: int) -> None:
-        """Raises the lowest acceptable packet number of a receive association."""
+        """Raises the lowest acceptable packet number of a receive association (10.7.15)."""
         self._call("set_lowest_pn", sci_of(sci), number_of(an, 8, "an"), number_of(pn, 64, "pn"))
 
     def delete_rx_sa(self, sci: SciLike, an: int) -> None:
-        """Deletes a receive association."""
+        """Deletes a receive association (10.7.13)."""
         self._call("delete_rx_sa", sci_of(sci), number_of(an, 8, "an"))
 
     # Reservations. include/macsec.h says in which order a caller makes these calls and writes its file.
 
-    def reserve_wanted(self, an: int, amount: int) -> bytes | None:
-        """The record to write next for a transmit association: it reserves the packet numbers up to its next one plus
-        `amount`. None if there is no such association, or if half of `amount` are still reserved."""
+    def _record(self, name: str, *arguments: Any) -> bytes | None:
+        """The record that a call shows, or None."""
         try:
-            words = number_of(an, 8, "an"), number_of(amount, 64, "amount")
-            return bytes(self._shown(_library.Record, "reserve_wanted", *words).octets)
+            return bytes(self._shown(_library.Record, name, *arguments).octets)
         except LookupError:
             return None
 
+    def reserve_wanted(self, an: int, amount: int) -> bytes | None:
+        """The record to write next for a transmit association: it reserves the packet numbers up to its next one plus
+        `amount`. None if there is no such association, or if half of `amount` are still reserved."""
+        return self._record("reserve_wanted", number_of(an, 8, "an"), number_of(amount, 64, "amount"))
+
+    def reserve_to_accept(self, sci: SciLike, an: int, amount: int, pn: int = 0) -> bytes | None:
+        """The record to write next for a receive association of an endpoint with `ahead`: it reserves the packet
+        numbers up to the next one plus `amount`. The next one is the association's own, or `pn` if that is higher: the
+        packet number of a frame that was dropped as `Verdict.NoReservation`. Once the record is on the disk and
+        `reserve_granted` is called, the same frame can be given again.
+
+        None if there is no such association, or if half of `amount` are still reserved.
+        """
+        numbers = number_of(an, 8, "an"), number_of(amount, 64, "amount"), number_of(pn, 64, "pn")
+        return self._record("reserve_to_accept", sci_of(sci), *numbers)
+
     def reserve_to_save(self, sci: SciLike, an: int) -> bytes:
-        """The record that saves the lowest acceptable packet number of a receive association."""
+        """The record that saves the lowest acceptable packet number of a receive association: without `ahead`, to be
+        written before an orderly end and from time to time."""
         shown = self._shown(_library.Record, "reserve_to_save", sci_of(sci), number_of(an, 8, "an"))
         return bytes(shown.octets)
 
     def reserve_tx_floor(self, key: int) -> int:
-        """The highest packet number that earlier runs reserved under a key, 0 if none. Associations begin above it."""
+        """The highest packet number that earlier runs reserved under a key, 0 if none. Transmit associations begin
+        above it."""
         return int(self._shown(ctypes.c_uint64, "reserve_tx_floor", number_of(key, 16, "key")).value)
 
     def reserve_rx_floor(self, sci: SciLike, an: int, key: int) -> int:
-        """The highest packet number that earlier runs saved of a receive association under a key, 0 if none."""
+        """The highest packet number of a receive association under a key that earlier runs reserved or saved, or that
+        this run may have accepted before it deleted the association; 0 if none. The association begins above it."""
         words = sci_of(sci), number_of(an, 8, "an"), number_of(key, 16, "key")
         return int(self._shown(ctypes.c_uint64, "reserve_rx_floor", *words).value)
 
@@ -447,14 +491,15 @@ class SecY:
         return int(self._shown(ctypes.c_uint32, "keys_left").value)
 
     def counters(self) -> dict[str, int]:
-        """The counters of the endpoint and of its transmit channel, by the names that the program prints."""
+        """The counters of the endpoint and of its transmit channel (10.7.9, 10.7.10, 10.7.18, 10.7.19), by the names
+        that the program prints."""
         return {
             **_counters(self._shown(_library.Counters, "get_counters"), ENDPOINT_COUNTERS),
             **_counters(self._shown(_library.TxCounters, "get_tx_counters"), TX_COUNTERS),
         }
 
     def rx_counters(self, sci: SciLike, an: int | None = None) -> dict[str, int]:
-        """The counters of a receive channel, or of one of its associations."""
+        """The counters of a receive channel (10.7.9), or of one of its associations."""
         if an is None:
             return _counters(self._shown(_library.RxCounters, "get_rx_counters", sci_of(sci)), RX_COUNTERS)
         words = sci_of(sci), number_of(an, 8, "an")
@@ -478,12 +523,12 @@ class SecY:
             return found
 
     def tx_sa(self, an: int) -> TxSa:
-        """A transmit association."""
+        """A transmit association (10.7.23)."""
         it = self._shown(_library.TxSa, "get_tx_sa", number_of(an, 8, "an"))
         return TxSa(it.key, it.next_high << 64 | it.next, it.conf, it.on)
 
     def rx_sa(self, sci: SciLike, an: int) -> RxSa:
-        """A receive association."""
+        """A receive association (10.7.14)."""
         it = self._shown(_library.RxSa, "get_rx_sa", sci_of(sci), number_of(an, 8, "an"))
         return RxSa(it.key, it.next_high << 64 | it.next, it.lowest_high << 64 | it.lowest, it.ssci, it.on)
 

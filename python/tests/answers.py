@@ -37,7 +37,8 @@ def send(it: SecY, frame: str) -> str:
 def receive(it: SecY, frame: str) -> str:
     got = it.receive(bytearray(octets(frame)))
     has_sa, sci = got.sci is not None, (got.sci or bytes(8)).hex()
-    return f" {int(got.verdict)} {int(has_sa)} {sci} {got.an or 0} {int(got.frame is not None)} {hex_of(got.frame)}"
+    delivered = f"{int(got.frame is not None)} {got.pn or 0} {hex_of(got.frame)}"
+    return f" {int(got.verdict)} {int(has_sa)} {sci} {got.an or 0} {delivered}"
 
 
 def install_key(it: SecY, *words: str) -> str:
@@ -47,11 +48,18 @@ def install_key(it: SecY, *words: str) -> str:
     return ""
 
 
-def wanted(it: SecY, an: str, amount: str) -> str:
-    record = it.reserve_wanted(int(an), int(amount))
+def shown_record(record: bytes | None) -> str:
     if record is None:
         raise error(NOT_FOUND)
     return f" {record.hex()}"
+
+
+def wanted(it: SecY, an: str, amount: str) -> str:
+    return shown_record(it.reserve_wanted(int(an), int(amount)))
+
+
+def to_accept(it: SecY, sci: str, an: str, amount: str, pn: str) -> str:
+    return shown_record(it.reserve_to_accept(sci, int(an), int(amount), int(pn)))
 
 
 def seal(*words: str) -> tuple[str, int]:
@@ -145,6 +153,7 @@ CALLS: dict[str, Callable[..., str]] = {
     "get_tx_sa": tx_sa,
     "get_rx_sa": rx_sa,
     "reserve_wanted": wanted,
+    "reserve_to_accept": to_accept,
     "reserve_to_save": lambda it, sci, an: f" {it.reserve_to_save(sci, int(an)).hex()}",
     "reserve_granted": done(lambda it, record: it.reserve_granted(octets(record))),
     "reserve_tx_floor": lambda it, key: f" {it.reserve_tx_floor(int(key))}",
@@ -158,11 +167,12 @@ FREE_CALLS: dict[str, Callable[..., tuple[str, int]]] = {
 }
 # What fuzz/calls.c shows if a call does nothing: the values before it.
 UNSHOWN = {
-    "send": " 0 0 -", "receive": f" 0 0 {'00' * 8} 0 0 -", "get_options": " 7 7 7 0 0", "keys_left": " 7",
+    "send": " 0 0 -", "receive": f" 0 0 {'00' * 8} 0 0 0 -", "get_options": " 7 7 7 0 0", "keys_left": " 7",
     "get_counters": " 7" * 11, "get_tx_counters": " 7" * 4, "get_rx_counters": " 7" * 6, "get_rx_sa_counters": " 7" * 6,
     "get_removed_counters": " 7" * 6, "get_rx_sc": " " + "07" * 8, "get_tx_sa": f" {wide(7 << 64 | 7)} 7 0 0",
     "get_rx_sa": f" {wide(7 << 64 | 7)} {wide(7 << 64 | 7)} 7 7 0", "reserve_wanted": " " + "07" * 64,
-    "reserve_to_save": " " + "07" * 64, "reserve_tx_floor": " 7", "reserve_rx_floor": " 7",
+    "reserve_to_accept": " " + "07" * 64, "reserve_to_save": " " + "07" * 64, "reserve_tx_floor": " 7",
+    "reserve_rx_floor": " 7",
 }  # fmt: skip
 
 
@@ -173,9 +183,12 @@ def made(name: str, words: list[str]) -> SecY:
     if name == "configure":
         return SecY.configure(octets(words[0]))
     if name == "reserve_configure":
-        return SecY.configure(octets(words[0]), octets(words[1]))
-    sci, suite, form, most, *journal = words
-    return SecY(sci, int(suite), int(form), int(most), *map(octets, journal))
+        text, journal, ahead = words
+        return SecY.configure(octets(text), octets(journal), ahead=ahead != "0")
+    sci, suite, form, most = words[0], *map(int, words[1:4])
+    if name == "reserve_open":
+        return SecY(sci, suite, form, most, octets(words[4]), ahead=words[5] != "0")
+    return SecY(sci, suite, form, most)
 
 
 def creation(name: str, handle: int, words: list[str]) -> tuple[str, int]:

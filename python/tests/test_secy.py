@@ -37,7 +37,7 @@ class Frames(unittest.TestCase):
             with receiver(suite, key) as b:
                 for link, client in zip(protected(frames, suite=suite, key=key), frames):
                     self.assertNotEqual(link, client)
-                    self.assertEqual(b.receive(link), (Verdict.OK, client, bytes.fromhex(SENDER), 0))
+                    self.assertEqual(b.receive(link), (Verdict.OK, client, bytes.fromhex(SENDER), 0, None))
                 self.assertEqual(b.rx_counters(SENDER)["InPktsOK"], 3)
                 self.assertEqual(b.rx_counters(SENDER, 0)["InPktsOK"], 3)
                 self.assertEqual(b.rx_sa(SENDER, 0).next, 4)
@@ -88,7 +88,7 @@ class Frames(unittest.TestCase):
     def test_dropped(self) -> None:
         with SecY(SENDER) as a:
             self.assertEqual(a.send(bytes(14)), (Fate.NoSA, None, None))
-            self.assertEqual(a.receive(bytes(14)), (Verdict.NoTag, None, None, None))
+            self.assertEqual(a.receive(bytes(14)), (Verdict.NoTag, None, None, None, None))
 
 
 class Errors(unittest.TestCase):
@@ -206,6 +206,95 @@ class Journals(unittest.TestCase):
             b.add_rx_sc(SENDER)
             self.assertRaises(macsec.Refused, b.add_rx_sa, SENDER, 0, 0, 3)
             b.add_rx_sa(SENDER, 0, 0, 4)
+
+    def test_ahead_is_an_option_of_a_journal(self) -> None:
+        config = f"end A gcm128 {RECEIVER} 1546 sci\n"
+        self.assertRaises(ValueError, lambda: SecY(RECEIVER, ahead=True))
+        self.assertRaises(ValueError, lambda: SecY.configure(config, ahead=True))
+        self.assertRaises(TypeError, lambda: SecY(RECEIVER, 1, 1, 1546, b"", True))  # type: ignore[misc]
+        self.assertRaises(macsec.JournalFault, lambda: SecY(RECEIVER, journal=b"", ahead=True))
+
+
+class Ahead(unittest.TestCase):
+    """Receivers beside a journal, and frames that come again."""
+
+    def setUp(self) -> None:
+        self.journal = macsec.journal_header(bytes(range(24)))
+        self.frames = client_frames(6)
+        self.links = protected(self.frames)
+
+    def beside(self, pn: int = 1, ahead: bool = True) -> SecY:
+        """A receiver beside the journal as it is now."""
+        lines = f"A key 0 {KEYS[0].hex()} 0\nA rxsc {SENDER}\nA rxsa {SENDER} 0 0 {pn:x}\nA rxon {SENDER} 0\n"
+        it = SecY.configure(f"end A gcm128 {RECEIVER} 1546 sci\n{lines}", self.journal, ahead=ahead)
+        self.addCleanup(it.close)
+        return it
+
+    def reserve(self, it: SecY, amount: int, pn: int = 0) -> None:
+        """Writes a record, and reports it."""
+        record = it.reserve_to_accept(SENDER, 0, amount, pn)
+        assert record is not None
+        self.journal += record
+        it.reserve_granted(record)
+
+    def test_numbers_are_reserved_before_they_are_accepted(self) -> None:
+        sci = bytes.fromhex(SENDER)
+        with self.beside() as b:
+            before = b.counters(), b.rx_counters(SENDER), b.rx_sa(SENDER, 0)
+            for _ in range(2):
+                self.assertEqual(b.receive(self.links[1]), (Verdict.NoReservation, None, sci, 0, 2))
+            self.assertEqual((b.counters(), b.rx_counters(SENDER), b.rx_sa(SENDER, 0)), before)
+            self.reserve(b, 2, 2)
+            self.assertIsNone(b.reserve_to_accept(SENDER, 0, 2, 2))
+            self.assertIsNone(b.reserve_to_accept(SENDER, 1, 2))
+            self.assertEqual(b.receive(self.links[1]), (Verdict.OK, self.frames[1], sci, 0, None))
+            self.assertEqual(b.receive(self.links[4]), (Verdict.NoReservation, None, sci, 0, 5))
+            altered = self.links[4][:-1] + bytes([self.links[4][-1] ^ 1])
+            self.assertEqual(b.receive(altered), (Verdict.NotValid, None, sci, 0, None))
+
+    def test_what_an_earlier_run_accepted_is_not_accepted_again(self) -> None:
+        with self.beside() as b:
+            self.reserve(b, 3)
+            self.assertEqual([b.receive(it).verdict for it in self.links[:4]], [Verdict.OK] * 4)
+        for ahead, verdict in ((True, Verdict.EarlierRun), (False, Verdict.Delayed)):
+            with self.assertRaises(macsec.Refused) as why:
+                self.beside(4, ahead)
+            self.assertEqual((why.exception.name, why.exception.line), ("PnFloor", 4))
+            with self.beside(5, ahead) as b:
+                self.assertEqual(b.reserve_rx_floor(SENDER, 0, 0), 4)
+                self.assertEqual(b.receive(self.links[0]).verdict, Verdict.Late)
+                b.set_replay(False)
+                wanted = b.reserve_to_accept(SENDER, 0, 8)
+                for number, link in enumerate(self.links[:4], 1):
+                    received = b.receive(link)
+                    self.assertEqual((received.verdict, received.pn), (verdict, number if ahead else None))
+                    self.assertEqual(received.frame is None, ahead)
+                self.assertEqual(b.reserve_to_accept(SENDER, 0, 8), wanted)
+
+    def test_a_deleted_association_does_not_begin_again(self) -> None:
+        for ahead in (False, True):
+            with self.beside(ahead=ahead) as b:
+                if ahead:
+                    self.reserve(b, 9)
+                self.assertEqual(b.receive(self.links[0]).verdict, Verdict.OK)
+                b.delete_rx_sa(SENDER, 0)
+                self.assertEqual(b.reserve_rx_floor(SENDER, 0, 0), 1)
+                for again in (lambda: b.add_rx_sa(SENDER, 0, 0, 1), lambda: b.command(f"A rxsa {SENDER} 0 0 1")):
+                    with self.assertRaises(macsec.Refused) as why:
+                        again()
+                    self.assertEqual(why.exception.name, "PnFloor")
+                b.delete_rx_sc(SENDER)
+                with self.assertRaises(macsec.Refused) as first:
+                    b.add_rx_sa(SENDER, 0, 0, 1)
+                self.assertEqual(first.exception.name, "PnFloor")
+                b.add_rx_sc(SENDER)
+                b.add_rx_sa(SENDER, 0, 0, 2)
+                b.enable_rx_sa(SENDER, 0)
+                self.assertEqual([b.receive(it).verdict for it in self.links[:2]], [Verdict.Late, Verdict.OK])
+                b.delete_rx_sa(SENDER, 0)
+                b.retire_key(0)
+                self.assertEqual(b.reserve_rx_floor(SENDER, 0, 0), 0)
+            self.journal = macsec.journal_header(bytes(range(24)))
 
 
 class Options(unittest.TestCase):
