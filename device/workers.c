@@ -23,8 +23,14 @@
  * the calls of jobs need less and can leave octets of keys there. */
 enum { PAGE = 4096, STACK = 1024 * 1024, USED = 64 * 1024 };
 
-/* How often a worker looks before it sleeps, which is for some 15 us, and how many jobs wake one. */
-enum { LOOKS = 300, WAKES = 8 };
+/* How often a worker looks before it sleeps, which is for some 15 us. Under ThreadSanitizer a look takes ten times as
+ * long, so a test there has fewer. */
+#ifndef WORKERS_LOOKS
+#define WORKERS_LOOKS 300
+#endif
+
+/* How many jobs wake a worker. */
+enum { LOOKS = WORKERS_LOOKS, WAKES = 8 };
 
 /* How many keys have copies at a time. */
 enum { COPIES = 64 };
