@@ -86,7 +86,7 @@ static const struct meaning meanings[] = {
     { MACSEC_E_NO_SA, "there is no such association", "begin it in a line before this one" },
     { MACSEC_E_PN_RANGE, "the packet number is not from 1 to the last", "write 1" },
     { MACSEC_E_PN_LOWER, "the packet number is below the lowest acceptable one", "write a higher one" },
-    { MACSEC_E_PN_FLOOR, "the packet number is below the key's first unused one", "write a higher one" },
+    { MACSEC_E_PN_FLOOR, "the packet number may have been used before", "write a higher one" },
     { MACSEC_E_SSCI_OWN, "packet numbers are extended, and the SSCI is the key's own", "write the peer's" },
     { MACSEC_E_WINDOW, "the replay window is too wide", "write 0" },
     { MACSEC_E_SCI_FORM, "the tag form does not fit the endpoint's SCI", "write sci" },

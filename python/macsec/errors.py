@@ -22,7 +22,7 @@ MEANINGS = {
     Status.NoSa: "there is no such association",
     Status.PnRange: "the packet number is not from 1 to the last",
     Status.PnLower: "the packet number is below the lowest acceptable one",
-    Status.PnFloor: "the packet number may have been used before: begin at a higher one",
+    Status.PnFloor: "the packet number may have been used before",
     Status.SsciOwn: "packet numbers are extended, and the SSCI is the key's own",
     Status.Window: "the replay window is too wide",
     Status.SciForm: "the tag form does not fit the endpoint's SCI",
