@@ -310,7 +310,7 @@ class Calls(Rarely):
         """What each receive association of an endpoint is to reserve next, which mostly is on the disk then."""
         amount = self.pick((1, 2, 3, 8))
         for sci, an in list(self.model.ends[end].rows()):
-            pn = self.pick((0, 0, self.model.ends[end].rows()[sci, an].next + 2))
+            pn = self.pick((0, 0, min(self.model.ends[end].rows()[sci, an].next + 2, journals.LAST)))
             wanted = self.model.ends[end].to_accept(sci, an, amount, pn)
             yield "reserve_to_accept", (end, sci, an, amount, pn)
             if wanted and self.random.random() < chance:
