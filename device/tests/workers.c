@@ -1,10 +1,11 @@
 /* Sends frames from one device with workers to another in one process, and looks at each of them. LINK and TAP are
  * queues: frames come in bursts and alone, LINK takes some frames at a time and loses a few, and keys change meanwhile.
  *
- *     workers FRAMES WORKERS SEED SECONDS
+ *     workers FRAMES WORKERS SEED SECONDS LONGEST
  *
- * A device has to be woken within SECONDS when a frame is finished. The program prints what is wrong, and else how many
- * frames were sent, lost and delivered, how many keys there were, and how often a device waited. */
+ * A device has to be woken within SECONDS when a frame is finished. Client frames have less than LONGEST octets. The
+ * program prints what is wrong, and else how many frames were sent, lost and delivered, how many keys there were, and
+ * how often a device waited. */
 #define _GNU_SOURCE
 #include "workers.h"
 #include <inttypes.h>
@@ -14,9 +15,9 @@
 #include <stdlib.h>
 #include <string.h>
 
-/* The wire between the two, the shortest client frame with a number in it, the octets of its header, and how many
- * devices end early. */
-enum { WIRE = 4 * RING, SHORTEST = 22, HEADER = 14, LONGEST = 1400, ENDS = 50 };
+/* The wire between the two, the shortest client frame with a number in it, the octets of its header, the most octets of
+ * one, and how many devices end early. */
+enum { WIRE = 4 * RING, SHORTEST = 22, HEADER = 14, MOST = 1400, ENDS = 50 };
 
 static const uint8_t sender_sci[8] = { 2, 0, 0, 0, 0, 1, 0, 1 };
 
@@ -29,10 +30,11 @@ static size_t wire_length[WIRE];
 static unsigned wire_first, wire_count;
 static uint8_t waiting[BATCH][MACSEC_FRAME_MAX];
 static size_t waiting_length[BATCH];
-static unsigned waiting_count;
+static unsigned waiting_first, waiting_count;
 static int patience;   /* in milliseconds */
 static uint64_t state; /* of random numbers */
-static uint8_t rising[256 + LONGEST];
+static uint8_t rising[256 + MOST];
+static size_t longest;
 
 /* ---- Random numbers and faults ---- */
 
@@ -57,7 +59,7 @@ __attribute__((format(printf, 1, 2), noreturn)) static void wrong(const char *fo
 /* What a client frame has: its number, and octets that follow from it, each one greater than the one before. */
 static size_t make_frame(uint64_t number, uint8_t *frame) {
     static const uint8_t header[HEADER] = { 2, 0, 0, 0, 0, 2, 2, 0, 0, 0, 0, 1, 0x88, 0xb5 };
-    size_t length = SHORTEST + number * 37 % (LONGEST - SHORTEST);
+    size_t length = SHORTEST + number * 37 % (longest - SHORTEST);
     memcpy(frame, header, HEADER);
     memcpy(frame + HEADER, &number, sizeof number);
     memcpy(frame + SHORTEST, rising + number % 256, length - SHORTEST);
@@ -100,12 +102,14 @@ unsigned link_waiting(void) {
 }
 
 void link_append(const uint8_t *octets, size_t length, struct counts *c) {
+    unsigned at = (waiting_first + waiting_count) % BATCH;
     if (waiting_count == BATCH) {
         c->link_refused++;
         return;
     }
-    memcpy(waiting[waiting_count], octets, length);
-    waiting_length[waiting_count++] = length;
+    memcpy(waiting[at], octets, length);
+    waiting_length[at] = length;
+    waiting_count++;
 }
 
 /* Transmits a frame, or loses it. Packet numbers of a key have to rise by one each. */
@@ -134,12 +138,13 @@ enum outcome link_flush(struct link *l, struct counts *c) {
         taken = waiting_count;
     if (taken > WIRE - wire_count)
         taken = WIRE - wire_count;
-    for (unsigned i = 0; i < taken; i++)
-        transmit(waiting[i], waiting_length[i]);
+    for (unsigned i = 0; i < taken; i++) {
+        unsigned at = (waiting_first + i) % BATCH;
+        transmit(waiting[at], waiting_length[at]);
+    }
     a.counts.link_out += taken;
+    waiting_first = (waiting_first + taken) % BATCH;
     waiting_count -= taken;
-    memmove(waiting, waiting + taken, waiting_count * sizeof *waiting);
-    memmove(waiting_length, waiting_length + taken, waiting_count * sizeof *waiting_length);
     return waiting_count == 0 ? DONE : BUSY;
 }
 
@@ -316,9 +321,12 @@ static void end_early(unsigned workers) {
 
 int main(int count, char **words) {
     uint64_t frames, frames_lost;
-    if (count != 5)
-        wrong("usage: workers FRAMES WORKERS SEED SECONDS");
+    if (count != 6)
+        wrong("usage: workers FRAMES WORKERS SEED SECONDS LONGEST");
     to_send = strtoull(words[1], NULL, 10);
+    longest = strtoull(words[5], NULL, 10);
+    if (longest <= SHORTEST || longest > MOST)
+        wrong("LONGEST is from %d to %d", SHORTEST + 1, MOST);
     for (unsigned i = 0; i < sizeof rising; i++)
         rising[i] = (uint8_t)i;
     keys_last = 20 + (unsigned)(to_send / 100000); /* an endpoint takes 4,096 keys */
