@@ -25,10 +25,10 @@ use Rattle.macsec_reserve.proofs.HighestOf.{highest-append}
 use Rattle.macsec_reserve.proofs.Pairs.{pairs-head, pairs-tail}
 use Rattle.macsec_reserve.proofs.Steps.{keeps_stays}
 use Rattle.macsec_ahead.specs.Ahead.{Ahead, Standing, ahead_after, ahead_by, ahead_step, before_this_run, begins_again, closing_with, lets_through, not_yet, opening_with, passes, run_inside, standing, through}
-use Rattle.macsec_restarts.specs.AheadOrder.{ComesInOrderOnceWith, ComesInOrderWith, IsOrderlyInside, IsStrictInput, delivered_so_far_with, inside, inside_from, is_inside, reaches_inside}
+use Rattle.macsec_restarts.specs.AheadOrder.{ComesInOrderOnceWith, ComesInOrderWith, IsOrderlyInside, IsStrictInput, delivered_so_far_with, inside, is_inside, reaches_inside}
 use Rattle.macsec_restarts.specs.AheadRuns.{delivered_from_with, delivered_in_all_with, newly_delivered_with, sent_in_all_with}
 use Rattle.macsec_restarts.specs.Delivered.{Delivery, delivered_at, delivered_in_all, newly_delivered}
-use Rattle.macsec_restarts.specs.Happenings.{AtEach, Happening, begins, comes_in, last_run, runs_of, same_end}
+use Rattle.macsec_restarts.specs.Happenings.{AtEach, Happening, begins, comes_in, last_run, passing_from, runs_of, same_end}
 use Rattle.macsec_restarts.specs.Order.{ComesInOrder, CreatesAbove, IsOrderedAt, IsOrderedInput, IsOrderly, SavedIn, delivered_in, delivered_so_far, numbered_delivery, numbered_sent}
 use Rattle.macsec_restarts.specs.Peers.{ArePeers}
 use Rattle.macsec_restarts.specs.Sent.{SentIn, sent_in_all, sent_under}
@@ -37,6 +37,7 @@ use Rattle.macsec_restarts.proofs.AheadInside.{delivered_in_all_inside, delivere
 use Rattle.macsec_restarts.proofs.AheadPast.{IsNewPast, IsPast, creates_above, new_past, past_stays}
 use Rattle.macsec_restarts.proofs.InOrder.{Fresh, in_order, same_is}
 use Rattle.macsec_restarts.proofs.Lists.{at_end}
+use Rattle.macsec_restarts.proofs.Passing.{passing-append, passing-push, reaches, runs_passing}
 use Rattle.macsec_restarts.proofs.Prefixes.{peers_before}
 use Rattle.macsec_restarts.proofs.Pushed.{last_run-push, last_run-with_last, runs_of-begins, runs_of-input, runs_of-other_input, run_with, with_input, with_last}
 use Rattle.macsec_restarts.proofs.Sends.{last_member}
@@ -95,104 +96,32 @@ reported-push (endpoint_input i ∷ inputs) input name = reported-push inputs in
 
 -- ---- the runs of the keeping endpoints inside
 
-map_with_last : (ahead : Bool) (input : KeepingInput) (rs : List Run) →
-    map (run_inside ahead) (with_last input rs) ≡ (if reaches_inside ahead input (last_run rs) then with_last input (map (run_inside ahead) rs) else map (run_inside ahead) rs)
-map_with_last ahead input [] = refl
-map_with_last ahead input (run ∷ []) =
-    ap (λ (is : List KeepingInput). record run { inputs = is } ∷ []) (through-push run.inputs (opening_with ahead run) input) ∙ by_test (lets_through (closing_with ahead run) input)
-  where
-    inputs : List KeepingInput
-    inputs = through (opening_with ahead run) run.inputs
-
-    by_test : (b : Bool) → record run { inputs = inputs ++ (if b then input ∷ [] else []) } ∷ [] ≡
-        (if b then with_last input (run_inside ahead run ∷ []) else run_inside ahead run ∷ [])
-    by_test true = refl
-    by_test false = ap (λ (is : List KeepingInput). record run { inputs = is } ∷ []) (append-nil inputs)
-map_with_last ahead input (run ∷ later ∷ more) = by_test (reaches_inside ahead input (last_run (later ∷ more))) (map_with_last ahead input (later ∷ more))
-  where
-    rest : List Run
-    rest = map (run_inside ahead) (later ∷ more)
-
-    by_test : (b : Bool) → map (run_inside ahead) (with_last input (later ∷ more)) ≡ (if b then with_last input rest else rest) →
-        run_inside ahead run ∷ map (run_inside ahead) (with_last input (later ∷ more)) ≡ (if b then with_last input (run_inside ahead run ∷ rest) else run_inside ahead run ∷ rest)
-    by_test true it = ap (λ rs. run_inside ahead run ∷ rs) it
-    by_test false it = ap (λ rs. run_inside ahead run ∷ rs) it
-
 last_of_map : (f : Run → Run) (rs : List Run) → last_run (map f rs) ≡ option_map f (last_run rs)
 last_of_map f [] = refl
 last_of_map f (run ∷ []) = refl
 last_of_map f (run ∷ later ∷ more) = last_of_map f (later ∷ more)
 
-inside-append : (ahead : End → Bool) (before xs ys : List Happening) → inside_from ahead before (xs ++ ys) ≡ inside_from ahead before xs ++ inside_from ahead (before ++ xs) ys
-inside-append ahead before [] ys = ap (λ hs. inside_from ahead hs ys) (sym (append-nil before))
-inside-append ahead before (x ∷ xs) ys =
-    by_test (is_inside ahead before x)
-    (inside-append ahead (before ++ x ∷ []) xs ys ∙ ap (λ hs. inside_from ahead (before ++ x ∷ []) xs ++ inside_from ahead hs ys) (append_assoc before (x ∷ []) xs))
+-- the run inside of a run with one more input
+inside_pushed : (ahead : Bool) (input : KeepingInput) (run : Run) →
+    run_inside ahead (with_input input run) ≡ (if lets_through (closing_with ahead run) input then with_input input (run_inside ahead run) else run_inside ahead run)
+inside_pushed ahead input run =
+    ap (λ (is : List KeepingInput). record run { inputs = is }) (through-push run.inputs (opening_with ahead run) input) ∙ by_test (lets_through (closing_with ahead run) input)
   where
-    first : List Happening
-    first = inside_from ahead (before ++ x ∷ []) xs
+    inputs : List KeepingInput
+    inputs = through (opening_with ahead run) run.inputs
 
-    by_test : (b : Bool) → inside_from ahead (before ++ x ∷ []) (xs ++ ys) ≡ first ++ inside_from ahead (before ++ x ∷ xs) ys →
-        (if b then x ∷ inside_from ahead (before ++ x ∷ []) (xs ++ ys) else inside_from ahead (before ++ x ∷ []) (xs ++ ys)) ≡
-        (if b then x ∷ first else first) ++ inside_from ahead (before ++ x ∷ xs) ys
-    by_test true rest = ap (λ hs. x ∷ hs) rest
-    by_test false rest = rest
+    by_test : (b : Bool) → record run { inputs = inputs ++ (if b then input ∷ [] else []) } ≡ (if b then with_input input (run_inside ahead run) else run_inside ahead run)
+    by_test true = refl
+    by_test false = ap (λ (is : List KeepingInput). record run { inputs = is }) (append-nil inputs)
 
--- one more happening reaches them, or it does not
-inside-push : (ahead : End → Bool) (before : List Happening) (h : Happening) → inside ahead (before ++ h ∷ []) ≡ inside ahead before ++ (if is_inside ahead before h then h ∷ [] else [])
-inside-push ahead before h = inside-append ahead [] before (h ∷ [])
-
-run_more : (ahead : End → Bool) (e : End) (before : List Happening) (h : Happening) → runs_of e (inside ahead before) ≡ map (run_inside (ahead e)) (runs_of e before) →
-    runs_of e (inside ahead (before ++ h ∷ [])) ≡ map (run_inside (ahead e)) (runs_of e (before ++ h ∷ []))
-run_more ahead e before (begins f config journal) same =
-    ap (runs_of e) (inside-push ahead before (begins f config journal))
-    ∙ runs_of-begins e f config journal (inside ahead before)
-    ∙ ap (λ rs. rs ++ (if same_end e f then run_with config journal [] ∷ [] else [])) same
-    ∙ ap (λ rs. map (run_inside (ahead e)) (runs_of e before) ++ rs) (by_end (same_end e f))
-    ∙ sym (map-append (run_inside (ahead e)) (runs_of e before) (if same_end e f then run_with config journal [] ∷ [] else []))
-    ∙ ap (map (run_inside (ahead e))) (sym (runs_of-begins e f config journal before))
-  where
-    by_end : (b : Bool) → (if b then run_with config journal [] ∷ [] else []) ≡ map (run_inside (ahead e)) (if b then run_with config journal [] ∷ [] else [])
-    by_end true = refl
-    by_end false = refl
-run_more ahead e before (comes_in f input) same = by_end (same_end e f) refl
-  where
-    R : Run → Run
-    R = run_inside (ahead e)
-
-    other : (b : Bool) → same_end e f ≡ false → runs_of e (inside ahead before ++ (if b then comes_in f input ∷ [] else [])) ≡ runs_of e (inside ahead before)
-    other true is = runs_of-other_input e f input (inside ahead before) is
-    other false is = ap (runs_of e) (append-nil (inside ahead before))
-
-    own : (b : Bool) → same_end e e ≡ true → runs_of e (inside ahead before ++ (if b then comes_in e input ∷ [] else [])) ≡ (if b then with_last input (map R (runs_of e before)) else map R (runs_of e before))
-    own true is = runs_of-input e e input (inside ahead before) is ∙ ap (with_last input) same
-    own false is = ap (runs_of e) (append-nil (inside ahead before)) ∙ same
-
-    at_own : same_end e e ≡ true → runs_of e (inside ahead (before ++ comes_in e input ∷ [])) ≡ map R (runs_of e (before ++ comes_in e input ∷ []))
-    at_own is =
-        ap (runs_of e) (inside-push ahead before (comes_in e input))
-        ∙ own (reaches_inside (ahead e) input (last_run (runs_of e before))) is
-        ∙ sym (map_with_last (ahead e) input (runs_of e before))
-        ∙ ap (map R) (sym (runs_of-input e e input before is))
-
-    by_end : (b : Bool) → same_end e f ≡ b → runs_of e (inside ahead (before ++ comes_in f input ∷ [])) ≡ map R (runs_of e (before ++ comes_in f input ∷ []))
-    by_end false is =
-        ap (runs_of e) (inside-push ahead before (comes_in f input)) ∙ other (is_inside ahead before (comes_in f input)) is ∙ same
-        ∙ ap (map R) (sym (runs_of-other_input e f input before is))
-    by_end true is =
-        let one = same_is e f is in
-        subst (λ (d : End). runs_of e (inside ahead (before ++ comes_in d input ∷ [])) ≡ map R (runs_of e (before ++ comes_in d input ∷ []))) (sym one)
-        (at_own (subst (λ (d : End). same_end e d ≡ true) one is))
-
-runs_from : (ahead : End → Bool) (e : End) (before more : List Happening) → runs_of e (inside ahead before) ≡ map (run_inside (ahead e)) (runs_of e before) →
-    runs_of e (inside ahead (before ++ more)) ≡ map (run_inside (ahead e)) (runs_of e (before ++ more))
-runs_from ahead e before [] same = subst (λ (hs : List Happening). runs_of e (inside ahead hs) ≡ map (run_inside (ahead e)) (runs_of e hs)) (sym (append-nil before)) same
-runs_from ahead e before (h ∷ more) same =
-    subst (λ (hs : List Happening). runs_of e (inside ahead hs) ≡ map (run_inside (ahead e)) (runs_of e hs)) (append_assoc before (h ∷ []) more)
-    (runs_from ahead e (before ++ h ∷ []) more (run_more ahead e before h same))
+reaches_is : (ahead : Bool) (input : KeepingInput) (o : Option Run) → reaches_inside ahead input o ≡ reaches (λ run. lets_through (closing_with ahead run) input) o
+reaches_is ahead input None = refl
+reaches_is ahead input (Some run) = refl
 
 pub runs_inside : (ahead : End → Bool) (e : End) (events : List Happening) → runs_of e (inside ahead events) ≡ map (run_inside (ahead e)) (runs_of e events)
-runs_inside ahead e events = runs_from ahead e [] events refl
+runs_inside ahead e events =
+    runs_passing (is_inside ahead) (λ f. run_inside (ahead f)) (λ f input run. lets_through (closing_with (ahead f) run) input) (λ before f config journal. refl)
+    (λ before f input. reaches_is (ahead f) input (last_run (runs_of f before))) (λ f config journal. refl) (λ f input run. inside_pushed (ahead f) input run) e events
 
 -- ---- the premises of order
 
@@ -486,8 +415,8 @@ module _ (laws : EndpointLaws) (ahead : End → Bool) (e : End) (bytes : List �
 
   -- ---- all happenings
 
-  each_next : (before more : List Happening) → AtEach (IsOrderlyInside on e bytes sci an) (inside ahead before) (inside_from ahead before more) →
-      ArePeers (inside ahead (before ++ more)) → Now before → AtEach (IsOrderly e bytes sci an) (inside ahead before) (inside_from ahead before more)
+  each_next : (before more : List Happening) → AtEach (IsOrderlyInside on e bytes sci an) (inside ahead before) (passing_from (is_inside ahead) before more) →
+      ArePeers (inside ahead (before ++ more)) → Now before → AtEach (IsOrderly e bytes sci an) (inside ahead before) (passing_from (is_inside ahead) before more)
   each_next before [] each peers now = tt
   each_next before (h ∷ more) each peers now =
       by_test (is_inside ahead before h) refl each (λ each' now'. each_next (before ++ h ∷ []) more each' whole now')
@@ -496,16 +425,16 @@ module _ (laws : EndpointLaws) (ahead : End → Bool) (e : End) (bytes : List �
       I = inside ahead before
 
       rest : List Happening
-      rest = inside_from ahead (before ++ h ∷ []) more
+      rest = passing_from (is_inside ahead) (before ++ h ∷ []) more
 
       whole : ArePeers (inside ahead ((before ++ h ∷ []) ++ more))
       whole = subst (λ (hs : List Happening). ArePeers (inside ahead hs)) (sym (append_assoc before (h ∷ []) more)) peers
 
       peers_next : ArePeers (inside ahead (before ++ h ∷ []))
-      peers_next = peers_before laws (inside ahead (before ++ h ∷ [])) rest (subst ArePeers (inside-append ahead [] (before ++ h ∷ []) more) whole)
+      peers_next = peers_before laws (inside ahead (before ++ h ∷ [])) rest (subst ArePeers (passing-append (is_inside ahead) [] (before ++ h ∷ []) more) whole)
 
       peers_now : ArePeers I
-      peers_now = peers_before laws I (inside_from ahead before (h ∷ more)) (subst ArePeers (inside-append ahead [] before (h ∷ more)) peers)
+      peers_now = peers_before laws I (passing_from (is_inside ahead) before (h ∷ more)) (subst ArePeers (passing-append (is_inside ahead) [] before (h ∷ more)) peers)
 
       Later : Type 0
       Later = AtEach (IsOrderlyInside on e bytes sci an) (inside ahead (before ++ h ∷ [])) rest → Now (before ++ h ∷ []) → AtEach (IsOrderly e bytes sci an) (inside ahead (before ++ h ∷ [])) rest
@@ -513,7 +442,7 @@ module _ (laws : EndpointLaws) (ahead : End → Bool) (e : End) (bytes : List �
       by_test : (b : Bool) → is_inside ahead before h ≡ b → AtEach (IsOrderlyInside on e bytes sci an) I (if b then h ∷ rest else rest) → Later →
           AtEach (IsOrderly e bytes sci an) I (if b then h ∷ rest else rest)
       by_test true reaches each' later =
-          let one_more : inside ahead (before ++ h ∷ []) ≡ I ++ h ∷ [] = inside-push ahead before h ∙ ap (λ (b : Bool). I ++ (if b then h ∷ [] else [])) reaches in
+          let one_more : inside ahead (before ++ h ∷ []) ≡ I ++ h ∷ [] = passing-push (is_inside ahead) before h ∙ ap (λ (b : Bool). I ++ (if b then h ∷ [] else [])) reaches in
           let now' = next before h (λ r. each'.0) peers_now peers_next now in
           let then_on = later (subst (λ (hs : List Happening). AtEach (IsOrderlyInside on e bytes sci an) hs rest) (sym one_more) each'.1) now' in (
             record { genuine = each'.0.genuine; octets = each'.0.octets; ordered = ordered before h each'.0 peers_now peers_next now reaches },
@@ -521,7 +450,7 @@ module _ (laws : EndpointLaws) (ahead : End → Bool) (e : End) (bytes : List �
           )
       by_test false reaches each' later =
           let none_more : inside ahead (before ++ h ∷ []) ≡ I =
-          inside-push ahead before h ∙ ap (λ (b : Bool). I ++ (if b then h ∷ [] else [])) reaches ∙ append-nil I in
+          passing-push (is_inside ahead) before h ∙ ap (λ (b : Bool). I ++ (if b then h ∷ [] else [])) reaches ∙ append-nil I in
           let now' = next before h (λ r. absurd (differ reaches r)) peers_now peers_next now in
           subst (λ (hs : List Happening). AtEach (IsOrderly e bytes sci an) hs rest) none_more
           (later (subst (λ (hs : List Happening). AtEach (IsOrderlyInside on e bytes sci an) hs rest) (sym none_more) each') now')
@@ -539,17 +468,17 @@ module _ (laws : EndpointLaws) (ahead : End → Bool) (e : End) (bytes : List �
       (subst (λ (xs : List SentIn). IsSubsequence (map numbered_delivery (delivered_so_far e bytes sci an (inside ahead events))) (map numbered_sent (sent_under bytes xs))) sends it)
 
 -- a list is its first elements and others
-record IsCut (k : ℕ) (events : List Happening) : Type 0 where
-  rest : List Happening
-  is : take k events ++ rest ≡ events
+pub record IsCut (k : ℕ) (events : List Happening) : Type 0 where
+  pub rest : List Happening
+  pub is : take k events ++ rest ≡ events
 
-cut : (k : ℕ) (events : List Happening) → IsCut k events
+pub cut : (k : ℕ) (events : List Happening) → IsCut k events
 cut zero events = record { rest = events; is = refl }
 cut (suc k) [] = record { rest = []; is = refl }
 cut (suc k) (h ∷ more) = let it = cut k more in record { rest = it.rest; is = ap (λ hs. h ∷ hs) it.is }
 
 -- what holds at each moment holds at each moment of the first ones
-first_moments : (P : List Happening → Happening → Type 0) (before xs ys : List Happening) → AtEach P before (xs ++ ys) → AtEach P before xs
+pub first_moments : (P : List Happening → Happening → Type 0) (before xs ys : List Happening) → AtEach P before (xs ++ ys) → AtEach P before xs
 first_moments P before [] ys each = tt
 first_moments P before (h ∷ xs) ys each = (each.0, first_moments P (before ++ h ∷ []) xs ys each.1)
 
@@ -557,8 +486,8 @@ pub comes_in_order_once_with : EndpointLaws → Grammar → Fresh → (ahead : E
 comes_in_order_once_with laws grammar fresh ahead events e bytes sci an each peers k =
     let it = cut k events in
     let first : List Happening = take k events in
-    let rest : List Happening = inside_from ahead first it.rest in
-    let these : inside ahead events ≡ inside ahead first ++ rest = ap (inside ahead) (sym it.is) ∙ inside-append ahead [] first it.rest in
+    let rest : List Happening = passing_from (is_inside ahead) first it.rest in
+    let these : inside ahead events ≡ inside ahead first ++ rest = ap (inside ahead) (sym it.is) ∙ passing-append (is_inside ahead) [] first it.rest in
     in_order_with laws ahead e bytes sci an grammar fresh first
     (first_moments (IsOrderlyInside (ahead e) e bytes sci an) [] (inside ahead first) rest (subst (AtEach (IsOrderlyInside (ahead e) e bytes sci an) []) these each))
     (peers_before laws (inside ahead first) rest (subst ArePeers these peers))

@@ -17,5 +17,6 @@ mod AheadReserved
 mod EndTables
 mod AheadEnds
 mod AheadPast
+mod Passing
 mod AheadOrder
 mod Examples

@@ -1,6 +1,6 @@
 -- Order, and each frame at most once, of an end whose endpoint remembers where deleted SAs ended: no premise is about
 -- commands. If it also reserves ahead of receiving, no premise is about saving.
-use Rattle.std.specs.Prelude.{◌≡◌, ℕ, List, [], ◌∷◌, ◌++◌, map, take, Bool, true, false, if◌then◌else◌, Option, Some, None, IfSome, Contains}
+use Rattle.std.specs.Prelude.{◌≡◌, ℕ, List, [], map, take, Bool, true, false, Option, Some, None, IfSome, Contains}
 use Rattle.macsec_tag.specs.declared.identifiers.Sci.{Sci}
 use Rattle.macsec_commands.specs.declared.event.End.{End}
 use Rattle.macsec_link.specs.World.{other_end}
@@ -10,7 +10,7 @@ use Rattle.macsec_reserve.specs.Keeping.{Keeping, KeepingInput}
 use Rattle.macsec_ahead.specs.Ahead.{closing_with, lets_through}
 use Rattle.macsec_restarts.specs.AheadRuns.{delivered_in_all_with, sent_in_all_with}
 use Rattle.macsec_restarts.specs.Delivered.{Delivery, delivered_at, newly_delivered}
-use Rattle.macsec_restarts.specs.Happenings.{AtEach, Happening, begins, comes_in, last_run, runs_of, same_end}
+use Rattle.macsec_restarts.specs.Happenings.{AtEach, Happening, begins, comes_in, last_run, passing_from, runs_of, same_end}
 use Rattle.macsec_restarts.specs.Order.{HasStrictOrder, SavedIn, delivered_so_far, numbered_delivery, numbered_sent}
 use Rattle.macsec_restarts.specs.Peers.{ArePeers, HasOctets, IsGenuineAt}
 use Rattle.macsec_restarts.specs.Sent.{sent_under}
@@ -27,13 +27,8 @@ is_inside ahead before (begins e config journal) = true
 is_inside ahead before (comes_in e input) = reaches_inside (ahead e) input (last_run (runs_of e before))
 
 -- what happens at the keeping endpoints inside: all but what is refused or dropped before it reaches them
-abbrev pub inside_from : (End → Bool) → List Happening → List Happening → List Happening
-inside_from ahead before [] = []
-inside_from ahead before (h ∷ more) =
-    if is_inside ahead before h then h ∷ inside_from ahead (before ++ h ∷ []) more else inside_from ahead (before ++ h ∷ []) more
-
 abbrev pub inside : (End → Bool) → List Happening → List Happening
-inside ahead events = inside_from ahead [] events
+inside ahead events = passing_from (is_inside ahead) [] events
 
 -- ---- the premises on the receiver
 

@@ -40,3 +40,9 @@ last_run (run ∷ later ∷ more) = last_run (later ∷ more)
 abbrev pub AtEach : (List Happening → Happening → Type 0) → List Happening → List Happening → Type 0
 AtEach P before [] = Unit {0}
 AtEach P before (h ∷ more) = P before h × AtEach P (before ++ h ∷ []) more
+
+-- the happenings that pass a test, which may look at all that happened before
+abbrev pub passing_from : (List Happening → Happening → Bool) → List Happening → List Happening → List Happening
+passing_from test before [] = []
+passing_from test before (h ∷ more) =
+    if test before h then h ∷ passing_from test (before ++ h ∷ []) more else passing_from test (before ++ h ∷ []) more

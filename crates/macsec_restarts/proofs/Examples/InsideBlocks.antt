@@ -8,8 +8,8 @@ use Rattle.macsec_reserve.specs.Histories.{Run}
 use Rattle.macsec_reserve.specs.Keeping.{Keeping, KeepingInput, KeepingOutput, endpoint_input, keeping_step}
 use Rattle.macsec_secy.specs.Step.{Input}
 use Rattle.macsec_ahead.specs.Ahead.{Ahead, Standing, ahead_after, ahead_by, ahead_step, before_this_run, begins_again, closing_with, ended_after, is_through, lets_through, not_yet, opening_with, passes, run_inside, standing, through}
-use Rattle.macsec_restarts.specs.AheadOrder.{inside_from, is_inside, reaches_inside}
-use Rattle.macsec_restarts.specs.Happenings.{Happening, begins, comes_in, last_run, runs_of, same_end}
+use Rattle.macsec_restarts.specs.AheadOrder.{is_inside, reaches_inside}
+use Rattle.macsec_restarts.specs.Happenings.{Happening, begins, comes_in, last_run, passing_from, runs_of, same_end}
 use Rattle.macsec_restarts.proofs.AheadInside.{stays}
 use Rattle.macsec_restarts.proofs.AheadOrder.{closing_with-input}
 use Rattle.macsec_restarts.proofs.Examples.Blocks.{EndRun, blocks}
@@ -62,23 +62,23 @@ own_end B = refl
 
 module _ (ahead : End → Bool) where
   inputs_inside : (e : End) (inputs : List KeepingInput) (before more : List Happening) (run : Run) (a : Ahead) → last_run (runs_of e before) ≡ Some run → closing_with (ahead e) run ≡ a →
-      inside_from ahead before (map (comes_in e) inputs ++ more) ≡ map (comes_in e) (through a inputs) ++ inside_from ahead (before ++ map (comes_in e) inputs) more
-  inputs_inside e [] before more run a last is = ap (λ hs. inside_from ahead hs more) (sym (append-nil before))
+      passing_from (is_inside ahead) before (map (comes_in e) inputs ++ more) ≡ map (comes_in e) (through a inputs) ++ passing_from (is_inside ahead) (before ++ map (comes_in e) inputs) more
+  inputs_inside e [] before more run a last is = ap (λ hs. passing_from (is_inside ahead) hs more) (sym (append-nil before))
   inputs_inside e (input ∷ inputs) before more run a last is =
       by_test (lets_through a input) (ap (reaches_inside (ahead e) input) last ∙ ap (λ (x : Ahead). lets_through x input) is)
       (inputs_inside e inputs (before ++ h ∷ []) more (with_input input run) (ahead_step a input).1
       (ap last_run (runs_of-input e e input before (own_end e)) ∙ last_run-with_last input (runs_of e before) ∙ ap (option_map (with_input input)) last)
       (closing_with-input (ahead e) input run ∙ ap (λ (x : Ahead). (ahead_step x input).1) is)
-      ∙ ap (λ hs. map (comes_in e) (through (ahead_step a input).1 inputs) ++ inside_from ahead hs more) (append_assoc before (h ∷ []) (map (comes_in e) inputs)))
+      ∙ ap (λ hs. map (comes_in e) (through (ahead_step a input).1 inputs) ++ passing_from (is_inside ahead) hs more) (append_assoc before (h ∷ []) (map (comes_in e) inputs)))
     where
       h : Happening
       h = comes_in e input
 
       later : List Happening
-      later = inside_from ahead (before ++ h ∷ map (comes_in e) inputs) more
+      later = passing_from (is_inside ahead) (before ++ h ∷ map (comes_in e) inputs) more
 
       next : List Happening
-      next = inside_from ahead (before ++ h ∷ []) (map (comes_in e) inputs ++ more)
+      next = passing_from (is_inside ahead) (before ++ h ∷ []) (map (comes_in e) inputs ++ more)
 
       by_test : (b : Bool) → is_inside ahead before h ≡ b → next ≡ map (comes_in e) (through (ahead_step a input).1 inputs) ++ later →
           (if is_inside ahead before h then h ∷ next else next) ≡ map (comes_in e) (if b then input ∷ through (ahead_step a input).1 inputs else through (ahead_step a input).1 inputs) ++ later
@@ -88,7 +88,7 @@ module _ (ahead : End → Bool) where
   abbrev pub inside_of : EndRun → EndRun
   inside_of it = (it.0, run_inside (ahead it.0) it.1)
 
-  pub inside_blocks : (before : List Happening) (its : List EndRun) → inside_from ahead before (blocks its) ≡ blocks (map inside_of its)
+  pub inside_blocks : (before : List Happening) (its : List EndRun) → passing_from (is_inside ahead) before (blocks its) ≡ blocks (map inside_of its)
   inside_blocks before [] = refl
   inside_blocks before (it ∷ more) =
       let first = begins it.0 it.1.config it.1.journal in
