@@ -10,3 +10,5 @@ pub mod Replays
 pub mod InsideBlocks
 pub mod ReservesAhead
 pub mod Extended
+pub mod OtherSuites
+pub mod Rewound

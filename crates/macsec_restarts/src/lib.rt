@@ -21,7 +21,7 @@
 //! - `comes_in_order_once_ahead`: order and once, without a premise about commands, and with the option without one about
 //!   saving.
 //!
-//! `proofs/Examples/` has runs that meet all premises, with the lists of what was sent and delivered, and for ten
+//! `proofs/Examples/` has runs that meet all premises, with the lists of what was sent and delivered, and for fourteen
 //! premises of order runs that break it without that one. It uses the worked runs of `macsec_counterexamples`.
 //!
 //! Trusted: what was reported durable is read by every later run, and no ICV is forged.

@@ -1,11 +1,11 @@
 -- Runs with extended packet numbers that meet all premises of order and once but one, and in which B delivers a client frame
--- that A never sent with that packet number: B has another own SSCI in its second run, and receives the frame that it sent
--- in its first one; the key has another salt at B, under which the frame has the IV of another packet number; or the salt
+-- that A never sent with that packet number: B has another own SSCI in its second run, or another salt, and receives the
+-- frame that it sent in its first one; the key has another salt at B, under which the frame has the IV of another packet number; or the salt
 -- has no octets at both ends, which are not sound, so that all packet numbers have one IV.
 use Rattle.std.proofs.Common.{◌≡◌, ◌≢◌, ℕ, zero, suc, ◌<◌, ◌≤◌, ◌+◌, Bool, true, false, List, [], ◌∷◌, ◌++◌, map, take, refl, ap, sym, subst, ◌∙◌, arith, All, AllPairs, Contains}
 use Rattle.std.specs.Prelude.{◌^◌, ◌*◌, ◌||◌, ◌&&◌, not, nat_le, max, replicate, slice_get, if◌then◌else◌, Some, None, IfSome}
 use Rattle.std.proofs.lemmas.Bool.{lt-ltb}
-use Rattle.std.proofs.lemmas.List.Elements.{All-append, All-cons, All-nil}
+use Rattle.std.proofs.lemmas.List.Elements.{All-append, All-nil}
 use Rattle.macsec_aes.specs.Aes.{add_round_key, added_word, aes, after_rounds, key_expansion, key_words, mix_columns, rot_word, round_key, shift_rows}
 use Rattle.macsec_aes.specs.Aes.{sub_bytes, sub_word, sum_of_words}
 use Rattle.macsec_aes.specs.Field.{affine_transformation, byte_product, inverse, polynomial_product, remainder, s_box, sum_below}
@@ -16,7 +16,7 @@ use Rattle.macsec_tag.specs.Table.{parts_at}
 use Rattle.macsec_tag.specs.declared.identifiers.Sci.{Sci}
 use Rattle.macsec_suite.specs.CipherUses.{CipherUse, cipher_use}
 use Rattle.macsec_suite.specs.KeyRows.{AreKeyRows, InstalledKey}
-use Rattle.macsec_suite.specs.Suites.{iv_of}
+use Rattle.macsec_suite.specs.Suites.{is_xpn, iv_of}
 use Rattle.macsec_suite.specs.declared.suite.Suite.TheVariants.{Xpn128}
 use Rattle.macsec_commands.specs.Scis.{IsSci}
 use Rattle.macsec_commands.specs.declared.command.Command.TheVariants.{Key, RxOn, RxSa, RxSc, TxOn, TxSa}
@@ -27,8 +27,10 @@ use Rattle.macsec_tx.specs.Rows.{AreTxRows}
 use Rattle.macsec_tx.specs.Transmit.{tag_sent, use_sent}
 use Rattle.macsec_tx.specs.declared.TxOptions.{TxOptions}
 use Rattle.macsec_tx.specs.declared.TxRow.{TxRow}
+use Rattle.macsec_rx.specs.declared.RxRow.{RxRow}
 use Rattle.macsec_rx.specs.declared.Verdict.TheVariants.{Passed}
 use Rattle.macsec_rx.specs.Judge.{Judgement, at_row, judge_opened}
+use Rattle.macsec_rx.specs.Rows.{AreChannels}
 use Rattle.macsec_secy.specs.Commands.{effect}
 use Rattle.macsec_secy.specs.Reception.{judgement_of, state_after_receiving}
 use Rattle.macsec_secy.specs.Sound.{IsSound}
@@ -42,7 +44,7 @@ use Rattle.macsec_reserve.specs.Histories.{AgreeOnKey, AgreeOnKeys, KeepsDurable
 use Rattle.macsec_reserve.specs.Journal.{highest, sending_name}
 use Rattle.macsec_reserve.specs.Keeping.{Keeping, KeepingInput, endpoint_input, keeping_after, keeping_step, may_go, now_durable}
 use Rattle.macsec_reserve.proofs.HighestOf.{highest_of_one}
-use Rattle.macsec_reserve.proofs.Pairs.{no_pairs, one_alone}
+use Rattle.macsec_reserve.proofs.Pairs.{no_pairs}
 use Rattle.macsec_reserve.proofs.Written.{same_octets-refl}
 use Rattle.macsec_counterexamples.proofs.Link.Exchange.{client}
 use Rattle.macsec_counterexamples.proofs.Link.SealedFrames.{Sealed, aad_sent, frame_with, items, opens, parts_with, sealed, tag_of, with_tag}
@@ -57,9 +59,9 @@ use Rattle.macsec_restarts.specs.Happenings.{runs_of}
 use Rattle.macsec_restarts.specs.Order.{SavedIn}
 use Rattle.macsec_restarts.specs.Sent.{SentIn, newly_sent, sent_by, sent_from}
 use Rattle.macsec_restarts.proofs.Examples.Blocks.{AreOwn, AreSteps, EndRun, after_own, blocks, no_step, runs_of-blocks, step_next}
-use Rattle.macsec_restarts.proofs.Examples.Histories.{nothing_saved, refuted, seals_are}
+use Rattle.macsec_restarts.proofs.Examples.Histories.{nothing_saved, one_run_each, refuted, seals_are}
 use Rattle.macsec_restarts.proofs.Examples.NotSent.{names_differ, not_of_none}
-use Rattle.macsec_restarts.proofs.Examples.Premises.{AgreeAtBothBut, AreOfTwoEndsBut, ArePeersBut, HasOneSalt, HasStrictOrderBut, IsHistoryBut, IsSameEndBut, KeepsSsci, LawWithout, Premise, StaysSoundAlways}
+use Rattle.macsec_restarts.proofs.Examples.Premises.{AgreeAtBothBut, AreOfTwoEndsBut, ArePeersBut, HasOneSalt, HasStrictOrderBut, IsHistoryBut, IsSameEndBut, KeepsKeys, KeepsSsci, LawWithout, Premise, StaysSoundAlways}
 use Rattle.macsec_restarts.proofs.Examples.Receivers.{heard_sound, tables}
 use Rattle.macsec_restarts.proofs.Examples.Tags.{are_small, small, small_at, tag_is}
 use Rattle.macsec_restarts.proofs.Examples.TwoRunsEach.{both, is_durable, is_free, none_is, pair, reads, reserved_2, reserved_is}
@@ -278,57 +280,71 @@ abbrev run_s : Salt → Sci → Run
 run_s s sci = record { journal = journal false []; config = config_of sci; inputs = sends s }
 
 -- ---- B receives it: with the same salt, from packet number 1 on; from 2^32 on, with a salt that flips the lowest bit of the
--- upper half, or with one of no octets
+-- upper half, or with one of no octets; or with a salt under which A's SSCI gives the IV of B's own
 
 pub data Receiver : Type 0 where
   Same : Receiver
   Salted : Receiver
   Unsalted : Receiver
+  Turned : Receiver
 
 -- the salt at the sender
 abbrev sender_salt : Receiver → Salt
 sender_salt Same = Zeros
 sender_salt Salted = Zeros
 sender_salt Unsalted = Empty
+sender_salt Turned = Zeros
 
 abbrev salt_of_key : Receiver → List ℕ
 salt_of_key Same = no_salt
 salt_of_key Salted = replicate 7 0 ++ 1 ∷ replicate 4 0
 salt_of_key Unsalted = []
+salt_of_key Turned = 0 ∷ 0 ∷ 0 ∷ 3 ∷ replicate 8 0
 
 abbrev lowest_of : Receiver → ℕ
 lowest_of Same = 1
 lowest_of Salted = 2 ^ 32
 lowest_of Unsalted = 2 ^ 32
+lowest_of Turned = 1
 
 abbrev number_of : Receiver → ℕ
 number_of Same = 1
 number_of Salted = 2 ^ 32 + 1
 number_of Unsalted = 2 ^ 32 + 1
+number_of Turned = 1
+
+-- B's own SSCI, and A's at B
+abbrev own_ssci : Receiver → ℕ
+own_ssci Turned = 1
+own_ssci r = 2
+
+abbrev peer_ssci : Receiver → ℕ
+peer_ssci Turned = 2
+peer_ssci r = 1
 
 abbrev rx_key : Receiver → InstalledKey
-rx_key r = key_at (salt_of_key r) 2 1
+rx_key r = key_at (salt_of_key r) (own_ssci r) 1
 
 abbrev with_key : Receiver → State
-with_key r = effect (start (config_of sci_b)) (Key (new_key (salt_of_key r) 2))
+with_key r = effect (start (config_of sci_b)) (Key (new_key (salt_of_key r) (own_ssci r)))
 
 abbrev with_sc : Receiver → State
 with_sc r = effect (with_key r) (RxSc sci_a)
 
 abbrev with_sa : Receiver → State
-with_sa r = effect (with_sc r) (RxSa sci_a 0 0 1 (lowest_of r))
+with_sa r = effect (with_sc r) (RxSa sci_a 0 0 (peer_ssci r) (lowest_of r))
 
 abbrev ready : Receiver → State
 ready r = effect (with_sa r) (RxOn sci_a 0)
 
 abbrev key_in : Receiver → KeepingInput
-key_in r = command (Key (new_key (salt_of_key r) 2))
+key_in r = command (Key (new_key (salt_of_key r) (own_ssci r)))
 
 abbrev sc_in : KeepingInput
 sc_in = command (RxSc sci_a)
 
 abbrev rx_sa_in : Receiver → KeepingInput
-rx_sa_in r = command (RxSa sci_a 0 0 1 (lowest_of r))
+rx_sa_in r = command (RxSa sci_a 0 0 (peer_ssci r) (lowest_of r))
 
 abbrev rx_on_in : KeepingInput
 rx_on_in = command (RxOn sci_a 0)
@@ -342,22 +358,27 @@ f r = frame_of (icv (sender_salt r))
 abbrev link : Receiver → KeepingInput
 link r = endpoint_input (link_frame (f r))
 
-abbrev accepts : Receiver → Judgement
-accepts r = at_row (rx_from (lowest_of r)) (number_of r) 13 Passed (Some (client 1))
+abbrev row_from : Receiver → RxRow
+row_from r = record (rx_from (lowest_of r)) { ssci = peer_ssci r }
 
-iv_is : (r : Receiver) → iv_of Xpn128 sci_a 1 (salt_of_key r) (number_of r) ≡ iv (sender_salt r)
+abbrev accepts : Receiver → Judgement
+accepts r = at_row (row_from r) (number_of r) 13 Passed (Some (client 1))
+
+iv_is : (r : Receiver) → iv_of Xpn128 sci_a (peer_ssci r) (salt_of_key r) (number_of r) ≡ iv (sender_salt r)
 unfolding sum_with_stream
 iv_is Same = refl
 iv_is Salted = refl
 iv_is Unsalted = refl
+iv_is Turned = refl
 
-opens_as : (r : Receiver) → open_of bytes (iv_of Xpn128 sci_a 1 (salt_of_key r) (number_of r)) aad [] (items 16 (icv (sender_salt r))) ≡ Some []
+opens_as : (r : Receiver) → open_of bytes (iv_of Xpn128 sci_a (peer_ssci r) (salt_of_key r) (number_of r)) aad [] (items 16 (icv (sender_salt r))) ≡ Some []
 opens_as r = ap (λ (i : List ℕ). open_of bytes i aad [] (items 16 (icv (sender_salt r)))) (iv_is r) ∙ opens_it (sender_salt r)
 
 judged : (r : Receiver) → judgement_of (ready r) (f r) ≡ accepts r
 judged Same = ap (judge_opened (rx_options (ready Same)) (rx_key Same) (rx_from 1) 1 (parts_at (f Same))) (opens_as Same)
 judged Salted = ap (judge_opened (rx_options (ready Salted)) (rx_key Salted) (rx_from (2 ^ 32)) (2 ^ 32 + 1) (parts_at (f Salted))) (opens_as Salted)
 judged Unsalted = ap (judge_opened (rx_options (ready Unsalted)) (rx_key Unsalted) (rx_from (2 ^ 32)) (2 ^ 32 + 1) (parts_at (f Unsalted))) (opens_as Unsalted)
+judged Turned = ap (judge_opened (rx_options (ready Turned)) (rx_key Turned) (row_from Turned) 1 (parts_at (f Turned))) (opens_as Turned)
 
 abbrev heard : Receiver → State
 heard r = state_after_receiving (ready r) (f r) (accepts r)
@@ -366,6 +387,7 @@ is_heard : (r : Receiver) → (step (ready r) (link_frame (f r))).1 ≡ heard r
 is_heard Same = ap (λ (j : Judgement). state_after_receiving (ready Same) (f Same) j) (judged Same)
 is_heard Salted = ap (λ (j : Judgement). state_after_receiving (ready Salted) (f Salted) j) (judged Salted)
 is_heard Unsalted = ap (λ (j : Judgement). state_after_receiving (ready Unsalted) (f Unsalted) j) (judged Unsalted)
+is_heard Turned = ap (λ (j : Judgement). state_after_receiving (ready Turned) (f Turned) j) (judged Turned)
 
 abbrev delivery : Receiver → Delivery
 delivery r = record { bytes = bytes; sci = sci_a; an = 0; number = number_of r; frame = client 1 }
@@ -378,21 +400,25 @@ module _ (before : List Reservation) (free : highest (reads before) (name_of (sa
   keyed Same = command_step (at (start (config_of sci_b))) (Key (new_key no_salt 2)) refl
   keyed Salted = command_step (at (start (config_of sci_b))) (Key (new_key (salt_of_key Salted) 2)) refl
   keyed Unsalted = command_step (at (start (config_of sci_b))) (Key (new_key [] 2)) refl
+  keyed Turned = command_step (at (start (config_of sci_b))) (Key (new_key (salt_of_key Turned) 1)) refl
 
   channelled : (r : Receiver) → (keeping_step (at (with_key r)) sc_in).1 ≡ at (with_sc r)
   channelled Same = command_step (at (with_key Same)) (RxSc sci_a) refl
   channelled Salted = command_step (at (with_key Salted)) (RxSc sci_a) refl
   channelled Unsalted = command_step (at (with_key Unsalted)) (RxSc sci_a) refl
+  channelled Turned = command_step (at (with_key Turned)) (RxSc sci_a) refl
 
   creates : (r : Receiver) → (keeping_step (at (with_sc r)) (rx_sa_in r)).1 ≡ at (with_sa r)
   creates Same = command_step (at (with_sc Same)) (RxSa sci_a 0 0 1 1) (is_new (reads before) (name_of (salt false)) 1 free)
   creates Salted = command_step (at (with_sc Salted)) (RxSa sci_a 0 0 1 (2 ^ 32)) (is_new (reads before) (name_of (salt false)) (2 ^ 32) (omega (arith, free)))
   creates Unsalted = command_step (at (with_sc Unsalted)) (RxSa sci_a 0 0 1 (2 ^ 32)) (is_new (reads before) (name_of (salt false)) (2 ^ 32) (omega (arith, free)))
+  creates Turned = command_step (at (with_sc Turned)) (RxSa sci_a 0 0 2 1) (is_new (reads before) (name_of (salt false)) 1 free)
 
   enables : (r : Receiver) → (keeping_step (at (with_sa r)) rx_on_in).1 ≡ at (ready r)
   enables Same = command_step (at (with_sa Same)) (RxOn sci_a 0) refl
   enables Salted = command_step (at (with_sa Salted)) (RxOn sci_a 0) refl
   enables Unsalted = command_step (at (with_sa Unsalted)) (RxOn sci_a 0) refl
+  enables Turned = command_step (at (with_sa Turned)) (RxOn sci_a 0) refl
 
   hears : (r : Receiver) → (keeping_step (at (ready r)) (link r)).1 ≡ at (heard r)
   hears r = link_step (at (ready r)) (f r) ∙ ap at (is_heard r)
@@ -401,6 +427,7 @@ module _ (before : List Reservation) (free : highest (reads before) (name_of (sa
   gives Same = ap (λ (j : Judgement). delivered_by (ready Same) j None j.row j.delivered) (judged Same)
   gives Salted = ap (λ (j : Judgement). delivered_by (ready Salted) j None j.row j.delivered) (judged Salted)
   gives Unsalted = ap (λ (j : Judgement). delivered_by (ready Unsalted) j None j.row j.delivered) (judged Unsalted)
+  gives Turned = ap (λ (j : Judgement). delivered_by (ready Turned) j None j.row j.delivered) (judged Turned)
 
   does_from : (r : Receiver) (inputs : List KeepingInput) (ds : List Delivery) (last : Keeping) → Does (at (ready r)) inputs [] ds last →
       Does (at (start (config_of sci_b))) (commands r ++ inputs) [] ds last
@@ -422,11 +449,14 @@ module _ (before : List Reservation) (free : highest (reads before) (name_of (sa
       genuine_at (ready Salted) (f Salted) (accepts Salted) uses (judged Salted) (subst (λ (i : List ℕ). Contains uses (record (use_of Zeros) { iv = i })) (sym (iv_is Salted)) there)
   genuine Unsalted uses there =
       genuine_at (ready Unsalted) (f Unsalted) (accepts Unsalted) uses (judged Unsalted) (subst (λ (i : List ℕ). Contains uses (record (use_of Empty) { iv = i })) (sym (iv_is Unsalted)) there)
+  genuine Turned uses there =
+      genuine_at (ready Turned) (f Turned) (accepts Turned) uses (judged Turned) (subst (λ (i : List ℕ). Contains uses (record (use_of Zeros) { iv = i })) (sym (iv_is Turned)) there)
 
   strict : (left_out : Premise) (r : Receiver) → HasStrictOrderBut left_out (ready r)
   strict left_out Same = record { mode = λ n. refl; replay = λ n. refl; window = λ n. refl }
   strict left_out Salted = record { mode = λ n. refl; replay = λ n. refl; window = λ n. refl }
   strict left_out Unsalted = record { mode = λ n. refl; replay = λ n. refl; window = λ n. refl }
+  strict left_out Turned = record { mode = λ n. refl; replay = λ n. refl; window = λ n. refl }
 
   receiver_steps : (left_out : Premise) (r : Receiver) (b : Run) → opening b ≡ at (start (config_of sci_b)) → (uses : List CipherUse) → Contains uses (use_of (sender_salt r)) →
       AreSteps left_out bytes sci_a 0 (opening b) [] uses (commands r ++ link r ∷ [])
@@ -448,6 +478,7 @@ module _ (before : List Reservation) (free : highest (reads before) (name_of (sa
   has_salt Same = true
   has_salt Salted = true
   has_salt Unsalted = false
+  has_salt Turned = true
 
   rx_start : IsSound (start (config_of sci_b))
   rx_start = at_start (config_of sci_b) refl other_sci (record { keys = tt; tx = tt; rx = none_are })
@@ -456,16 +487,24 @@ module _ (before : List Reservation) (free : highest (reads before) (name_of (sa
   rx_key_is Same is = (record { number = omega arith; bytes = refl; salt = refl; ssci = omega arith; first_unused_least = omega arith; first_unused = omega arith }, refl, tt)
   rx_key_is Salted is = (record { number = omega arith; bytes = refl; salt = refl; ssci = omega arith; first_unused_least = omega arith; first_unused = omega arith }, refl, tt)
   rx_key_is Unsalted is = cc
+  rx_key_is Turned is = (record { number = omega arith; bytes = refl; salt = refl; ssci = omega arith; first_unused_least = omega arith; first_unused = omega arith }, refl, tt)
 
   rx_key_sound : (r : Receiver) → has_salt r ≡ true → IsSound (with_key r)
   rx_key_sound Same is = after_effect (start (config_of sci_b)) (Key (new_key no_salt 2)) refl (record { keys = rx_key_is Same is; tx = tt; rx = none_are }) rx_start
   rx_key_sound Salted is = after_effect (start (config_of sci_b)) (Key (new_key (salt_of_key Salted) 2)) refl (record { keys = rx_key_is Salted is; tx = tt; rx = none_are }) rx_start
   rx_key_sound Unsalted is = cc
+  rx_key_sound Turned is = after_effect (start (config_of sci_b)) (Key (new_key (salt_of_key Turned) 1)) refl (record { keys = rx_key_is Turned is; tx = tt; rx = none_are }) rx_start
 
   rx_sc_sound : (r : Receiver) → has_salt r ≡ true → IsSound (with_sc r)
   rx_sc_sound Same is = after_effect (with_key Same) (RxSc sci_a) refl (record { keys = rx_key_is Same is; tx = tt; rx = channels_are [] tt }) (rx_key_sound Same is)
   rx_sc_sound Salted is = after_effect (with_key Salted) (RxSc sci_a) refl (record { keys = rx_key_is Salted is; tx = tt; rx = channels_are [] tt }) (rx_key_sound Salted is)
   rx_sc_sound Unsalted is = cc
+  rx_sc_sound Turned is = after_effect (with_key Turned) (RxSc sci_a) refl (record { keys = rx_key_is Turned is; tx = tt; rx = channels_are [] tt }) (rx_key_sound Turned is)
+
+  turned_tables : (number : ℕ) (on : Bool) → 1 ≤ number → number ≤ 2 ^ 64 →
+      AreChannels (record { scis = sci_a ∷ []; rows = record { sci = sci_a; an = 0; key = 0; ssci = 2; next = number; lowest = number; on = on } ∷ [] })
+  turned_tables number on least most =
+      channels_are _ (record { channel = refl; an = omega arith; key = omega arith; ssci = omega arith; next = most; lowest_least = least; lowest = omega arith }, refl, tt)
 
   rx_sa_sound : (r : Receiver) → has_salt r ≡ true → IsSound (with_sa r)
   rx_sa_sound Same is =
@@ -474,6 +513,8 @@ module _ (before : List Reservation) (free : highest (reads before) (name_of (sa
       after_effect (with_sc Salted) (RxSa sci_a 0 0 1 (2 ^ 32)) refl
       (record { keys = rx_key_is Salted is; tx = tt; rx = tables (2 ^ 32) (2 ^ 32) false (omega arith) (omega arith) (omega arith) }) (rx_sc_sound Salted is)
   rx_sa_sound Unsalted is = cc
+  rx_sa_sound Turned is =
+      after_effect (with_sc Turned) (RxSa sci_a 0 0 2 1) refl (record { keys = rx_key_is Turned is; tx = tt; rx = turned_tables 1 false (omega arith) (omega arith) }) (rx_sc_sound Turned is)
 
   ready_sound : (r : Receiver) → has_salt r ≡ true → IsSound (ready r)
   ready_sound Same is =
@@ -482,6 +523,8 @@ module _ (before : List Reservation) (free : highest (reads before) (name_of (sa
       after_effect (with_sa Salted) (RxOn sci_a 0) refl
       (record { keys = rx_key_is Salted is; tx = tt; rx = tables (2 ^ 32) (2 ^ 32) true (omega arith) (omega arith) (omega arith) }) (rx_sa_sound Salted is)
   ready_sound Unsalted is = cc
+  ready_sound Turned is =
+      after_effect (with_sa Turned) (RxOn sci_a 0) refl (record { keys = rx_key_is Turned is; tx = tt; rx = turned_tables 1 true (omega arith) (omega arith) }) (rx_sa_sound Turned is)
 
   heard_is_sound : (r : Receiver) → has_salt r ≡ true → IsSound (heard r)
   heard_is_sound Same is =
@@ -491,6 +534,9 @@ module _ (before : List Reservation) (free : highest (reads before) (name_of (sa
       heard_sound (ready Salted) (f Salted) (accepts Salted) (is_heard Salted)
       (record { keys = rx_key_is Salted is; tx = tt; rx = tables (2 ^ 32 + 2) (2 ^ 32 + 2) true (omega arith) (omega arith) (omega arith) }) (ready_sound Salted is)
   heard_is_sound Unsalted is = cc
+  heard_is_sound Turned is =
+      heard_sound (ready Turned) (f Turned) (accepts Turned) (is_heard Turned)
+      (record { keys = rx_key_is Turned is; tx = tt; rx = turned_tables 2 true (omega arith) (omega arith) }) (ready_sound Turned is)
 
   receiver_sound : (r : Receiver) → has_salt r ≡ true → StaysSound (at (start (config_of sci_b))) (commands r ++ link r ∷ [])
   receiver_sound r is =
@@ -511,10 +557,10 @@ of_last R p q x y keys keys' holds x' y' there there' =
 abbrev IsSoundRun : Run → Type 0
 IsSoundRun run = StaysSound (opening run) run.inputs
 
--- ---- B has another own SSCI in its second run, and delivers what it sent in the first one
+-- ---- B has another own SSCI or another salt in its second run, and delivers what it sent in the first one
 
-abbrev run_r : Run
-run_r = record { journal = journal false (reserved_2 ∷ []); config = config_of sci_b; inputs = commands Same ++ link Same ∷ [] }
+abbrev run_r : Receiver → Run
+run_r r = record { journal = journal false (reserved_2 ∷ []); config = config_of sci_b; inputs = commands r ++ link r ∷ [] }
 
 abbrev first_run : Run
 first_run = run_s Zeros sci_b
@@ -525,8 +571,8 @@ free_r = is_free (reserved_2 ∷ []) (name_of (salt false)) 1 reserved_is (omega
 does_s : Does (opening first_run) (sends Zeros) (sent_1 Zeros ∷ []) [] (k_sent sci_b Zeros)
 does_s = sender_does sci_b Zeros
 
-does_r : Does (opening run_r) (commands Same ++ link Same ∷ []) [] (delivery Same ∷ []) (at (reserved_2 ∷ []) free_r (heard Same))
-does_r = receiver_does (reserved_2 ∷ []) free_r Same
+does_r : (r : Receiver) → Does (opening (run_r r)) (commands r ++ link r ∷ []) [] (delivery r ∷ []) (at (reserved_2 ∷ []) free_r (heard r))
+does_r r = receiver_does (reserved_2 ∷ []) free_r r
 
 sealed_s : Contains (sealed_in_all [] ++ sealed_in_all (first_run ∷ [])) (use_of Zeros)
 sealed_s =
@@ -535,45 +581,61 @@ sealed_s =
 none_yet : delivered_in_all (first_run ∷ []) ≡ []
 none_yet = ap (λ (xs : List Delivery). xs ++ []) does_s.delivers
 
-abbrev reflected : List EndRun
-reflected = (B, first_run) ∷ (B, run_r) ∷ []
+abbrev reflected : Receiver → List EndRun
+reflected r = (B, first_run) ∷ (B, run_r r) ∷ []
 
-reflected_peers : ArePeersBut KeepsSsci (blocks reflected)
-reflected_peers = record {
-  a = subst (IsHistoryBut KeepsSsci) (sym (runs_of-blocks A reflected))
-      (record { sound = λ d. All-nil IsSoundRun; agree = no_pairs AgreeOnKeys; salt = no_pairs SameSalt; durable = no_pairs KeepsDurable });
-  b = subst (IsHistoryBut KeepsSsci) (sym (runs_of-blocks B reflected)) (record {
-    sound = λ d. both IsSoundRun first_run run_r (sender_sound sci_b other_sci) (receiver_sound (reserved_2 ∷ []) free_r Same refl);
-    agree = pair AgreeOnKeys first_run run_r
-        (of_last (λ x y. x.bytes ≡ y.bytes → AgreeOnKey x y) first_run run_r (key_at no_salt 1 2) (key_at no_salt 2 1)
-        (ap (λ (k : Keeping). k.secy.keys) does_s.ends) (ap (λ (k : Keeping). k.secy.keys) does_r.ends) (λ same. record { suite = refl; salt = λ xpn. refl }));
-    salt = pair SameSalt first_run run_r refl;
-    durable = pair KeepsDurable first_run run_r (is_durable reserved_2 reserved_is);
-  });
-  apart = subst (λ (ra : List Run). All (λ run. All (AreOfTwoEndsBut KeepsSsci run) (runs_of B (blocks reflected))) ra) (sym (runs_of-blocks A reflected))
-      (All-nil (λ run. All (AreOfTwoEndsBut KeepsSsci run) (runs_of B (blocks reflected))));
-  one_a = subst (AllPairs (IsSameEndBut KeepsSsci)) (sym (runs_of-blocks A reflected)) (no_pairs (IsSameEndBut KeepsSsci));
-  one_b = subst (AllPairs (IsSameEndBut KeepsSsci)) (sym (runs_of-blocks B reflected)) (pair (IsSameEndBut KeepsSsci) first_run run_r (record { sci = λ d. refl; ssci = λ d. absurd (d refl) }));
-}
+module _ (left_out : Premise) (r : Receiver) (salted : has_salt (reserved_2 ∷ []) free_r r ≡ true) (keys : (closing (run_r r)).secy.keys ≡ rx_key r ∷ []) (seals : sender_salt r ≡ Zeros)
+    (agree : KeepsKeys ≢ left_out → AgreeOnKey (key_at no_salt 1 2) (rx_key r)) (ssci : KeepsSsci ≢ left_out → 1 ≡ own_ssci r) where
+  keys_s : (closing first_run).secy.keys ≡ key_at no_salt 1 2 ∷ []
+  keys_s = ap (λ (k : Keeping). k.secy.keys) does_s.ends
 
-pub same_ssci_needed : LawWithout KeepsSsci (blocks reflected) → ⊥
-same_ssci_needed =
-    refuted KeepsSsci reflected [] (delivery Same ∷ []) (
-      (
-        (λ d. nothing_saved first_run.journal),
-        after_own KeepsSsci bytes sci_a 0 (sends Zeros) [] (opening first_run) (sealed_in_all [] ++ sealed_in_all []) (tt, (tt, (tt, (tt, (tt, tt))))) no_step,
-      ),
-      (
+  reflected_peers : ArePeersBut left_out (blocks (reflected r))
+  reflected_peers = record {
+    a = subst (IsHistoryBut left_out) (sym (runs_of-blocks A (reflected r)))
+        (record { sound = λ d. All-nil IsSoundRun; agree = λ d. no_pairs AgreeOnKeys; salt = λ d. no_pairs SameSalt; durable = λ d. no_pairs KeepsDurable });
+    b = subst (IsHistoryBut left_out) (sym (runs_of-blocks B (reflected r))) (record {
+      sound = λ d. both IsSoundRun first_run (run_r r) (sender_sound sci_b other_sci) (receiver_sound (reserved_2 ∷ []) free_r r salted);
+      agree = λ d. pair AgreeOnKeys first_run (run_r r)
+          (of_last (λ x y. x.bytes ≡ y.bytes → AgreeOnKey x y) first_run (run_r r) (key_at no_salt 1 2) (rx_key r) keys_s keys (λ same. agree d));
+      salt = λ d. pair SameSalt first_run (run_r r) refl;
+      durable = λ d. pair KeepsDurable first_run (run_r r) (is_durable reserved_2 reserved_is);
+    });
+    apart = subst (λ (ra : List Run). All (λ run. All (AreOfTwoEndsBut left_out run) (runs_of B (blocks (reflected r)))) ra) (sym (runs_of-blocks A (reflected r)))
+        (All-nil (λ run. All (AreOfTwoEndsBut left_out run) (runs_of B (blocks (reflected r)))));
+    one_a = subst (AllPairs (IsSameEndBut left_out)) (sym (runs_of-blocks A (reflected r))) (no_pairs (IsSameEndBut left_out));
+    one_b = subst (AllPairs (IsSameEndBut left_out)) (sym (runs_of-blocks B (reflected r))) (pair (IsSameEndBut left_out) first_run (run_r r) (record {
+      sci = λ d. refl;
+      ssci = λ d. of_last (λ x y. x.bytes ≡ y.bytes → is_xpn x.suite ≡ true → x.ssci ≡ y.ssci) first_run (run_r r) (key_at no_salt 1 2) (rx_key r) keys_s keys (λ same xpn. ssci d);
+    }));
+  }
+
+  reflects : LawWithout left_out (blocks (reflected r)) → ⊥
+  reflects =
+      refuted left_out (reflected r) [] (delivery r ∷ []) (
         (
-          (λ d. subst (λ (xs : List Delivery). SavedIn run_r.journal bytes sci_a 0 (delivered_at bytes sci_a 0 xs)) (sym none_yet) (nothing_saved run_r.journal)),
-          receiver_steps (reserved_2 ∷ []) free_r KeepsSsci Same run_r refl (sealed_in_all [] ++ sealed_in_all (first_run ∷ [])) sealed_s,
+          (λ d. nothing_saved first_run.journal),
+          after_own left_out bytes sci_a 0 (sends Zeros) [] (opening first_run) (sealed_in_all [] ++ sealed_in_all []) (tt, (tt, (tt, (tt, (tt, tt))))) no_step,
         ),
-        tt,
-      ),
-    )
-    reflected_peers refl
-    (ap (λ (xs : List Delivery). xs ++ delivered_in_all (run_r ∷ [])) does_s.delivers ∙ ap (λ (xs : List Delivery). xs ++ []) does_r.delivers)
-    (not_of_none (1 ∷ client 1))
+        (
+          (
+            (λ d. subst (λ (xs : List Delivery). SavedIn (run_r r).journal bytes sci_a 0 (delivered_at bytes sci_a 0 xs)) (sym none_yet) (nothing_saved (run_r r).journal)),
+            receiver_steps (reserved_2 ∷ []) free_r left_out r (run_r r) refl (sealed_in_all [] ++ sealed_in_all (first_run ∷ []))
+                (subst (λ (s : Salt). Contains (sealed_in_all [] ++ sealed_in_all (first_run ∷ [])) (use_of s)) (sym seals) sealed_s),
+          ),
+          tt,
+        ),
+      )
+      reflected_peers refl
+      (ap (λ (xs : List Delivery). xs ++ delivered_in_all (run_r r ∷ [])) does_s.delivers ∙ ap (λ (xs : List Delivery). xs ++ []) (does_r r).delivers)
+      (not_of_none (number_of r ∷ client 1))
+
+pub same_ssci_needed : LawWithout KeepsSsci (blocks (reflected Same)) → ⊥
+same_ssci_needed =
+    reflects KeepsSsci Same refl (ap (λ (k : Keeping). k.secy.keys) (does_r Same).ends) refl (λ d. record { suite = refl; salt = λ xpn. refl }) (λ d. absurd (d refl))
+
+-- keys with the same octets have the same suite and own SSCI in both runs, and not the same salt
+pub kept_keys_needed : LawWithout KeepsKeys (blocks (reflected Turned)) → ⊥
+kept_keys_needed = reflects KeepsKeys Turned refl (ap (λ (k : Keeping). k.secy.keys) (does_r Turned).ends) refl (λ d. absurd (d refl)) (λ d. refl)
 
 -- ---- the key has another salt at B, or none at both: B delivers A's frame with another packet number
 
@@ -600,28 +662,6 @@ sealed_a r =
 abbrev shifted : Receiver → List EndRun
 shifted r = (A, run_a r) ∷ (B, run_b r) ∷ []
 
-one_history : (left_out : Premise) (run : Run) → (StaysSoundAlways ≢ left_out → IsSoundRun run) → IsHistoryBut left_out (run ∷ [])
-one_history left_out run sound = record {
-  sound = λ d. All-cons IsSoundRun run [] (sound d) (All-nil IsSoundRun);
-  agree = one_alone AgreeOnKeys run;
-  salt = one_alone SameSalt run;
-  durable = one_alone KeepsDurable run;
-}
-
-shifted_peers : (left_out : Premise) (r : Receiver) → (StaysSoundAlways ≢ left_out → IsSoundRun (run_a r)) → (StaysSoundAlways ≢ left_out → IsSoundRun (run_b r)) →
-    AreOfTwoEndsBut left_out (run_a r) (run_b r) → ArePeersBut left_out (blocks (shifted r))
-shifted_peers left_out r sound sound' apart = record {
-  a = subst (IsHistoryBut left_out) (sym (runs_of-blocks A (shifted r))) (one_history left_out (run_a r) sound);
-  b = subst (IsHistoryBut left_out) (sym (runs_of-blocks B (shifted r))) (one_history left_out (run_b r) sound');
-  apart = subst (λ (ra : List Run). All (λ run. All (AreOfTwoEndsBut left_out run) (runs_of B (blocks (shifted r)))) ra) (sym (runs_of-blocks A (shifted r)))
-      (subst (λ (rb : List Run). All (λ run. All (AreOfTwoEndsBut left_out run) rb) (run_a r ∷ [])) (sym (runs_of-blocks B (shifted r)))
-      (All-cons (λ run. All (AreOfTwoEndsBut left_out run) (run_b r ∷ [])) (run_a r) []
-      (All-cons (AreOfTwoEndsBut left_out (run_a r)) (run_b r) [] apart (All-nil (AreOfTwoEndsBut left_out (run_a r))))
-      (All-nil (λ run. All (AreOfTwoEndsBut left_out run) (run_b r ∷ [])))));
-  one_a = subst (AllPairs (IsSameEndBut left_out)) (sym (runs_of-blocks A (shifted r))) (one_alone (IsSameEndBut left_out) (run_a r));
-  one_b = subst (AllPairs (IsSameEndBut left_out)) (sym (runs_of-blocks B (shifted r))) (one_alone (IsSameEndBut left_out) (run_b r));
-}
-
 ends_apart : (left_out : Premise) (r : Receiver) → AgreeAtBothBut left_out (key_at (of_salt (sender_salt r)) 1 2) (rx_key r) → AreOfTwoEndsBut left_out (run_a r) (run_b r)
 ends_apart left_out r agree = record {
   sci = scis_differ sci_a sci_b (λ differ. omega (arith, differ));
@@ -633,6 +673,7 @@ ends_apart left_out r agree = record {
     keys_at_end Same = ap (λ (k : Keeping). k.secy.keys) (does_b Same).ends
     keys_at_end Salted = ap (λ (k : Keeping). k.secy.keys) (does_b Salted).ends
     keys_at_end Unsalted = ap (λ (k : Keeping). k.secy.keys) (does_b Unsalted).ends
+    keys_at_end Turned = ap (λ (k : Keeping). k.secy.keys) (does_b Turned).ends
 
 -- what is delivered has another packet number than what was sent
 not_of_other : (m n : ℕ) (x y : List ℕ) → (m ≡ n → ⊥) → IsSubsequence ((m ∷ x) ∷ []) ((n ∷ y) ∷ []) → ⊥
@@ -653,8 +694,8 @@ pub same_salt_needed : LawWithout HasOneSalt (blocks (shifted Salted)) → ⊥
 same_salt_needed =
     refuted HasOneSalt (shifted Salted) (sent_1 Zeros ∷ []) (delivery Salted ∷ [])
     (own_a, (((λ d. nothing_saved (run_b Salted).journal), receiver_steps [] free_b HasOneSalt Salted (run_b Salted) refl (sealed_in_all (run_a Salted ∷ []) ++ sealed_in_all []) (sealed_a Salted)), tt))
-    (shifted_peers HasOneSalt Salted (λ d. sender_sound sci_a own_sci) (λ d. receiver_sound [] free_b Salted refl)
-    (ends_apart HasOneSalt Salted (record { suite = refl; salt = λ d. absurd (d refl); ssci = λ xpn. λ same. omega (arith, same) })))
+    (one_run_each HasOneSalt (run_a Salted) (run_b Salted) (λ d. sender_sound sci_a own_sci) (λ d. receiver_sound [] free_b Salted refl)
+    (ends_apart HasOneSalt Salted (record { suite = λ d. refl; salt = λ d. absurd (d refl); ssci = λ xpn. λ same. omega (arith, same) })))
     (ap (λ (xs : List SentIn). xs ++ []) (does_a Salted).sends) (ap (λ (xs : List Delivery). xs ++ []) (does_b Salted).delivers)
     (not_of_other (2 ^ 32 + 1) 1 (client 1) (client 1) (λ same. omega (arith, same)))
 
@@ -663,7 +704,7 @@ pub soundness_needed : LawWithout StaysSoundAlways (blocks (shifted Unsalted)) �
 soundness_needed =
     refuted StaysSoundAlways (shifted Unsalted) (sent_1 Empty ∷ []) (delivery Unsalted ∷ [])
     (own_unsalted, (((λ d. nothing_saved (run_b Unsalted).journal), receiver_steps [] free_b StaysSoundAlways Unsalted (run_b Unsalted) refl (sealed_in_all (run_a Unsalted ∷ []) ++ sealed_in_all []) (sealed_a Unsalted)), tt))
-    (shifted_peers StaysSoundAlways Unsalted (λ d. absurd (d refl)) (λ d. absurd (d refl))
-    (ends_apart StaysSoundAlways Unsalted (record { suite = refl; salt = λ d xpn. refl; ssci = λ xpn. λ same. omega (arith, same) })))
+    (one_run_each StaysSoundAlways (run_a Unsalted) (run_b Unsalted) (λ d. absurd (d refl)) (λ d. absurd (d refl))
+    (ends_apart StaysSoundAlways Unsalted (record { suite = λ d. refl; salt = λ d xpn. refl; ssci = λ xpn. λ same. omega (arith, same) })))
     (ap (λ (xs : List SentIn). xs ++ []) (does_a Unsalted).sends) (ap (λ (xs : List Delivery). xs ++ []) (does_b Unsalted).delivers)
     (not_of_other (2 ^ 32 + 1) 1 (client 1) (client 1) (λ same. omega (arith, same)))

@@ -1,6 +1,6 @@
 -- Two ends whose runs have the key of worked runs: what makes them peers, and what a history of them shows.
-use Rattle.std.proofs.Common.{◌≡◌, ℕ, ◌≤◌, true, List, [], ◌∷◌, map, get_or, refl, ap, sym, subst, ◌∙◌, arith, All, AllPairs, Contains}
-use Rattle.std.proofs.lemmas.List.Elements.{All-nil, All-weaker}
+use Rattle.std.proofs.Common.{◌≡◌, ◌≢◌, ℕ, ◌≤◌, true, List, [], ◌∷◌, map, get_or, refl, ap, sym, subst, ◌∙◌, arith, All, AllPairs, Contains}
+use Rattle.std.proofs.lemmas.List.Elements.{All-cons, All-nil, All-weaker}
 use Rattle.macsec_tag.specs.declared.identifiers.Sci.{Sci}
 use Rattle.macsec_suite.specs.KeyRows.{InstalledKey}
 use Rattle.macsec_suite.specs.Suites.{is_xpn}
@@ -10,6 +10,7 @@ use Rattle.macsec_reserve.specs.Histories.{AgreeOnKey, AgreeOnKeys, IsHistory, K
 use Rattle.macsec_reserve.specs.Journal.{highest, receiving_name, reservations, salt_of, sending_name}
 use Rattle.macsec_reserve.specs.Keeping.{Keeping}
 use Rattle.macsec_reserve.specs.TwoEnds.{AgreeAtBoth, AreOfTwoEnds}
+use Rattle.macsec_reserve.proofs.Pairs.{one_alone}
 use Rattle.macsec_counterexamples.proofs.Link.Exchange.{key_row}
 use Rattle.macsec_counterexamples.proofs.Link.WorkedEnds.{bytes, only, sci_a, sci_b, scis_differ}
 use Rattle.macsec_restarts.specs.Delivered.{Delivery, delivered_at, delivered_in_all}
@@ -18,7 +19,7 @@ use Rattle.macsec_restarts.specs.Order.{IsOrderly, SavedIn, delivered_so_far, nu
 use Rattle.macsec_restarts.specs.Peers.{ArePeers, IsSameEnd}
 use Rattle.macsec_restarts.specs.Sent.{SentIn, sent_in_all, sent_under}
 use Rattle.macsec_restarts.proofs.Examples.Blocks.{AreMet, EndRun, Told, blocks, met, of_end, runs_of-blocks}
-use Rattle.macsec_restarts.proofs.Examples.Premises.{AreOfTwoEndsBut, ArePeersBut, IsHistoryBut, IsSameEndBut, LawWithout, NoPremise, Premise, each_suffices, history_but, peers_suffice, same_end_but, two_ends_but}
+use Rattle.macsec_restarts.proofs.Examples.Premises.{AreOfTwoEndsBut, ArePeersBut, IsHistoryBut, IsSameEndBut, LawWithout, NoPremise, Premise, StaysSoundAlways, each_suffices, history_but, peers_suffice, same_end_but, two_ends_but}
 use Rattle.macsec_restarts.proofs.Sends.{seal_of_sent, seals_of_runs}
 use Rattle.macsec_restarts.proofs.SoundRuns.{IsSoundRun}
 
@@ -74,14 +75,15 @@ history ssci sci runs are salt durable = record {
   durable = durable;
 }
 
-pub peers : (left_out : Premise) (its : List EndRun) → All (IsRunOf 1 sci_a) (of_end A its) → AllPairs SameSalt (of_end A its) → AllPairs KeepsDurable (of_end A its) →
-    All (IsRunOf 2 sci_b) (of_end B its) → AllPairs SameSalt (of_end B its) → AllPairs KeepsDurable (of_end B its) → ArePeersBut left_out (blocks its)
-peers left_out its ra salt_a durable_a rb salt_b durable_b =
+-- from what holds of each end
+pub peers_of : (left_out : Premise) (its : List EndRun) → All (IsRunOf 1 sci_a) (of_end A its) → IsHistoryBut left_out (of_end A its) →
+    All (IsRunOf 2 sci_b) (of_end B its) → IsHistoryBut left_out (of_end B its) → ArePeersBut left_out (blocks its)
+peers_of left_out its ra past_a rb past_b =
     let a = sym (runs_of-blocks A its) in
     let b = sym (runs_of-blocks B its) in
     record {
-      a = subst (IsHistoryBut left_out) a (history_but left_out (of_end A its) (history 1 sci_a (of_end A its) ra salt_a durable_a));
-      b = subst (IsHistoryBut left_out) b (history_but left_out (of_end B its) (history 2 sci_b (of_end B its) rb salt_b durable_b));
+      a = subst (IsHistoryBut left_out) a past_a;
+      b = subst (IsHistoryBut left_out) b past_b;
       apart = subst (λ (rs : List Run). All (λ run. All (AreOfTwoEndsBut left_out run) (runs_of B (blocks its))) rs) a
           (subst (λ (rs : List Run). All (λ run. All (AreOfTwoEndsBut left_out run) rs) (of_end A its)) b
           (All-weaker (IsRunOf 1 sci_a) (λ run. All (AreOfTwoEndsBut left_out run) (of_end B its))
@@ -90,6 +92,37 @@ peers left_out its ra salt_a durable_a rb salt_b durable_b =
           (pairs_of_all (IsRunOf 1 sci_a) (IsSameEndBut left_out) (λ p q x y. same_end_but left_out p q (same_runs 1 sci_a p q x y)) (of_end A its) ra);
       one_b = subst (AllPairs (IsSameEndBut left_out)) b
           (pairs_of_all (IsRunOf 2 sci_b) (IsSameEndBut left_out) (λ p q x y. same_end_but left_out p q (same_runs 2 sci_b p q x y)) (of_end B its) rb);
+    }
+
+pub peers : (left_out : Premise) (its : List EndRun) → All (IsRunOf 1 sci_a) (of_end A its) → AllPairs SameSalt (of_end A its) → AllPairs KeepsDurable (of_end A its) →
+    All (IsRunOf 2 sci_b) (of_end B its) → AllPairs SameSalt (of_end B its) → AllPairs KeepsDurable (of_end B its) → ArePeersBut left_out (blocks its)
+peers left_out its ra salt_a durable_a rb salt_b durable_b =
+    peers_of left_out its ra (history_but left_out (of_end A its) (history 1 sci_a (of_end A its) ra salt_a durable_a))
+    rb (history_but left_out (of_end B its) (history 2 sci_b (of_end B its) rb salt_b durable_b))
+
+-- one run of each end, with any keys
+one_history : (left_out : Premise) (run : Run) → (StaysSoundAlways ≢ left_out → IsSoundRun run) → IsHistoryBut left_out (run ∷ [])
+one_history left_out run sound = record {
+  sound = λ d. All-cons IsSoundRun run [] (sound d) (All-nil IsSoundRun);
+  agree = λ d. one_alone AgreeOnKeys run;
+  salt = λ d. one_alone SameSalt run;
+  durable = λ d. one_alone KeepsDurable run;
+}
+
+pub one_run_each : (left_out : Premise) (a b : Run) → (StaysSoundAlways ≢ left_out → IsSoundRun a) → (StaysSoundAlways ≢ left_out → IsSoundRun b) → AreOfTwoEndsBut left_out a b →
+    ArePeersBut left_out (blocks ((A, a) ∷ (B, b) ∷ []))
+one_run_each left_out a b sound sound' apart' =
+    let its : List EndRun = (A, a) ∷ (B, b) ∷ [] in
+    record {
+      a = subst (IsHistoryBut left_out) (sym (runs_of-blocks A its)) (one_history left_out a sound);
+      b = subst (IsHistoryBut left_out) (sym (runs_of-blocks B its)) (one_history left_out b sound');
+      apart = subst (λ (ra : List Run). All (λ run. All (AreOfTwoEndsBut left_out run) (runs_of B (blocks its))) ra) (sym (runs_of-blocks A its))
+          (subst (λ (rb : List Run). All (λ run. All (AreOfTwoEndsBut left_out run) rb) (a ∷ [])) (sym (runs_of-blocks B its))
+          (All-cons (λ run. All (AreOfTwoEndsBut left_out run) (b ∷ [])) a []
+          (All-cons (AreOfTwoEndsBut left_out a) b [] apart' (All-nil (AreOfTwoEndsBut left_out a)))
+          (All-nil (λ run. All (AreOfTwoEndsBut left_out run) (b ∷ [])))));
+      one_a = subst (AllPairs (IsSameEndBut left_out)) (sym (runs_of-blocks A its)) (one_alone (IsSameEndBut left_out) a);
+      one_b = subst (AllPairs (IsSameEndBut left_out)) (sym (runs_of-blocks B its)) (one_alone (IsSameEndBut left_out) b);
     }
 
 -- the uses of the cipher are those of what was sent

@@ -202,9 +202,9 @@ module _ (s r : Run) (sends : Facts 1 sci_a s (sender.sent false) []) (receives 
             (history_but KeepsSci [] (history 1 sci_a [] (All-nil (IsRunOf 1 sci_a)) (no_pairs SameSalt) (no_pairs KeepsDurable)));
         b = subst (IsHistoryBut KeepsSci) (sym (runs_of-blocks B ((B, s) ∷ (B, r) ∷ []))) (record {
           sound = λ d. both IsSoundRun s r sends.of.sound receives.of.sound;
-          agree = pair AgreeOnKeys s r (agree 1 2 sci_a sci_b s r sends.of receives.of);
-          salt = pair SameSalt s r salts;
-          durable = pair KeepsDurable s r durable;
+          agree = λ d. pair AgreeOnKeys s r (agree 1 2 sci_a sci_b s r sends.of receives.of);
+          salt = λ d. pair SameSalt s r salts;
+          durable = λ d. pair KeepsDurable s r durable;
         });
         apart = subst (λ (ra : List Run). All (λ run. All (AreOfTwoEndsBut KeepsSci run) (runs_of B (blocks ((B, s) ∷ (B, r) ∷ [])))) ra) (sym (runs_of-blocks A ((B, s) ∷ (B, r) ∷ [])))
             (All-nil (λ run. All (AreOfTwoEndsBut KeepsSci run) (runs_of B (blocks ((B, s) ∷ (B, r) ∷ [])))));

@@ -26,8 +26,12 @@ pub data Premise : Type 0 where
   HasWindowOf0 : Premise
   KeepsSci : Premise
   KeepsSsci : Premise
+  KeepsKeys : Premise
   HasOneSalt : Premise
+  HasOneSuite : Premise
   StaysSoundAlways : Premise
+  ReadsSalt : Premise
+  ReadsDurable : Premise
   -- where none is left out
   NoPremise : Premise
 
@@ -57,7 +61,7 @@ pub record IsSameEndBut (left_out : Premise) (run later : Run) : Type 0 where
       is_xpn x.suite ≡ true → x.ssci ≡ y.ssci
 
 pub record AgreeAtBothBut (left_out : Premise) (x y : InstalledKey) : Type 0 where
-  pub suite : x.suite ≡ y.suite
+  pub suite : HasOneSuite ≢ left_out → x.suite ≡ y.suite
   pub salt : HasOneSalt ≢ left_out → is_xpn x.suite ≡ true → x.salt ≡ y.salt
   pub ssci : is_xpn x.suite ≡ true → x.ssci ≢ y.ssci
 
@@ -67,9 +71,9 @@ pub record AreOfTwoEndsBut (left_out : Premise) (run other : Run) : Type 0 where
 
 pub record IsHistoryBut (left_out : Premise) (runs : List Run) : Type 0 where
   pub sound : StaysSoundAlways ≢ left_out → All (λ run. StaysSound (opening run) run.inputs) runs
-  pub agree : AllPairs AgreeOnKeys runs
-  pub salt : AllPairs SameSalt runs
-  pub durable : AllPairs KeepsDurable runs
+  pub agree : KeepsKeys ≢ left_out → AllPairs AgreeOnKeys runs
+  pub salt : ReadsSalt ≢ left_out → AllPairs SameSalt runs
+  pub durable : ReadsDurable ≢ left_out → AllPairs KeepsDurable runs
 
 pub record ArePeersBut (left_out : Premise) (events : List Happening) : Type 0 where
   pub a : IsHistoryBut left_out (runs_of A events)
@@ -113,11 +117,11 @@ two_ends_suffice run other are = record {
   sci = are.sci;
   keys = λ x y here there bytes.
       let it = are.keys x y here there bytes in
-      record { agree = record { suite = it.suite; salt = it.salt (λ none. cc) }; ssci = it.ssci };
+      record { agree = record { suite = it.suite (λ none. cc); salt = it.salt (λ none. cc) }; ssci = it.ssci };
 }
 
 history_suffices : (runs : List Run) → IsHistoryBut NoPremise runs → IsHistory runs
-history_suffices runs is = record { sound = is.sound (λ none. cc); agree = is.agree; salt = is.salt; durable = is.durable }
+history_suffices runs is = record { sound = is.sound (λ none. cc); agree = is.agree (λ none. cc); salt = is.salt (λ none. cc); durable = is.durable (λ none. cc) }
 
 pub peers_suffice : (events : List Happening) → ArePeersBut NoPremise events → ArePeers events
 peers_suffice events is = record {
@@ -131,7 +135,7 @@ peers_suffice events is = record {
 
 -- and each of them suffices without another
 pub history_but : (left_out : Premise) (runs : List Run) → IsHistory runs → IsHistoryBut left_out runs
-history_but left_out runs is = record { sound = λ d. is.sound; agree = is.agree; salt = is.salt; durable = is.durable }
+history_but left_out runs is = record { sound = λ d. is.sound; agree = λ d. is.agree; salt = λ d. is.salt; durable = λ d. is.durable }
 
 pub same_end_but : (left_out : Premise) (run later : Run) → IsSameEnd run later → IsSameEndBut left_out run later
 same_end_but left_out run later is = record { sci = λ d. is.sci; ssci = λ d. is.ssci }
@@ -141,5 +145,5 @@ two_ends_but left_out run other are = record {
   sci = are.sci;
   keys = λ x y here there bytes.
       let it = are.keys x y here there bytes in
-      record { suite = it.agree.suite; salt = λ d. it.agree.salt; ssci = it.ssci };
+      record { suite = λ d. it.agree.suite; salt = λ d. it.agree.salt; ssci = it.ssci };
 }
