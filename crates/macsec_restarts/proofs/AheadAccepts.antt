@@ -24,7 +24,7 @@ use Rattle.macsec_reserve.proofs.Reduced.{reduced_reserves}
 use Rattle.macsec_reserve.proofs.Steps.{before_stays, salt_stays}
 use Rattle.macsec_ahead.specs.declared.answers.RxPn.{RxPn}
 use Rattle.macsec_ahead.specs.Ahead.{Ahead, Standing, ahead_after, ahead_by, ahead_step, before_this_run, begins_again, for_each_row, is_through, lets_through, not_yet, opening_with, passes, standing, standing_by}
-use Rattle.macsec_restarts.specs.AheadRuns.{AcceptsAbove, AcceptsAboveInAll, AcceptsReserved, accepted_from, accepted_in, delivery_name, newly_accepted}
+use Rattle.macsec_restarts.specs.AheadRuns.{AcceptsAbove, AcceptsAboveInAll, AcceptsReserved, AreOfOneSa, IsReservedIn, accepted_from, accepted_in, delivery_name, newly_accepted}
 use Rattle.macsec_restarts.specs.Delivered.{Delivery, delivered_by, newly_delivered}
 
 -- ---- a step
@@ -53,7 +53,7 @@ pub salt_after : (inputs : List KeepingInput) (a : Ahead) → (ahead_after a inp
 salt_after [] a = refl
 salt_after (input ∷ inputs) a = salt_after inputs (ahead_step a input).1 ∙ salt_stays_with a input
 
-option_by : (again : Bool) (it : Standing) (a : Ahead) (input : Input) (answer : KeepingOutput × Keeping) → ((ahead_by again it a input answer).1.ahead ≡ a.ahead) × ((ahead_by again it a input answer).1.taken ≡ a.taken)
+pub option_by : (again : Bool) (it : Standing) (a : Ahead) (input : Input) (answer : KeepingOutput × Keeping) → ((ahead_by again it a input answer).1.ahead ≡ a.ahead) × ((ahead_by again it a input answer).1.taken ≡ a.taken)
 option_by true it a input answer = (refl, refl)
 option_by false (not_yet at) a input answer = (refl, refl)
 option_by false (before_this_run at) a input answer = (refl, refl)
@@ -111,7 +111,7 @@ raised_most r (g ∷ gs) name = by_own (same_octets g.name r.name) refl (raised_
     by_own true is rest = own_name (same_octets g.name name) refl ((bytes_eq-Decides g.name r.name).0 is) rest
     by_own false is rest = other_name (same_octets g.name name) rest
 
-taken_step : (a : Ahead) (input : KeepingInput) (inputs : List KeepingInput) (name : List ℕ) →
+pub taken_step : (a : Ahead) (input : KeepingInput) (inputs : List KeepingInput) (name : List ℕ) →
     max (highest (ahead_step a input).1.taken name) (highest (reported_in inputs) name) ≤ max (highest a.taken name) (highest (reported_in (input ∷ inputs)) name)
 taken_step a (now_durable r) inputs name =
     omega (
@@ -131,9 +131,9 @@ taken_after (input ∷ inputs) a name = omega (arith, taken_after inputs (ahead_
 
 -- ---- what is accepted
 
-record IsWithin (before : List Reservation) (salt : List ℕ) (most : List ℕ → ℕ) (d : Delivery) : Type 0 where
-  above : highest before (delivery_name salt d) < d.number
-  within : d.number ≤ most (delivery_name salt d)
+pub record IsWithin (before : List Reservation) (salt : List ℕ) (most : List ℕ → ℕ) (d : Delivery) : Type 0 where
+  pub above : highest before (delivery_name salt d) < d.number
+  pub within : d.number ≤ most (delivery_name salt d)
 
 -- by the tests, in their order
 pub passes_means : (ahead old new : Bool) (x y : RxPn) → ahead ≡ true → is_through false (if not ahead then passes else if old then before_this_run x else if new then passes else not_yet y) ≡ true →
@@ -165,7 +165,7 @@ within_now a on j valid None (Some row) (Some delivered) is =
     (record { bytes = (the_key a.k.secy.keys row.key).bytes; sci = row.sci; an = row.an; number = j.number; frame = delivered }) []
     (record { above = both.0; within = both.1 }) (All-nil (IsWithin a.k.before a.k.salt (highest a.taken)))
 
-within_input : (a : Ahead) → a.ahead ≡ true → (input : KeepingInput) → All (IsWithin a.k.before a.k.salt (highest a.taken)) (newly_accepted a input)
+pub within_input : (a : Ahead) → a.ahead ≡ true → (input : KeepingInput) → All (IsWithin a.k.before a.k.salt (highest a.taken)) (newly_accepted a input)
 within_input a on (now_durable r) = All-nil (IsWithin a.k.before a.k.salt (highest a.taken))
 within_input a on (endpoint_input (operator_command c)) = All-nil (IsWithin a.k.before a.k.salt (highest a.taken))
 within_input a on (endpoint_input (client_frame frame)) = All-nil (IsWithin a.k.before a.k.salt (highest a.taken))
@@ -184,7 +184,7 @@ within_input a on (endpoint_input (link_frame frame)) = by_tests (j.step == 13) 
     by_tests true is false is' = All-nil P
     by_tests true is true is' = within_now a on j is (frame_fault frame) j.row j.delivered is'
 
-abbrev most_of : Ahead → List KeepingInput → List ℕ → ℕ
+abbrev pub most_of : Ahead → List KeepingInput → List ℕ → ℕ
 most_of a inputs name = max (highest a.taken name) (highest (reported_in inputs) name)
 
 within : (inputs : List KeepingInput) (a : Ahead) → a.ahead ≡ true → All (IsWithin a.k.before a.k.salt (most_of a inputs)) (accepted_from a inputs)
@@ -213,10 +213,9 @@ accepts_reserved run d there =
 
 -- ---- two runs
 
-accepts_above : (run later : Run) → SameSalt run later → KeepsDurable run later → AcceptsAbove run later
-accepts_above run later salt durable d e here there same =
-    let first = accepts_reserved run d here in
-    let second = accepts_reserved later e there in
+-- what is reserved in a later run is above what is reserved in an earlier one
+pub reserved_above : (run later : Run) → SameSalt run later → KeepsDurable run later → (d e : Delivery) → IsReservedIn run d → IsReservedIn later e → AreOfOneSa d e → d.number < e.number
+reserved_above run later salt durable d e first second same =
     let name : delivery_name (salt_of later.journal) e ≡ delivery_name (salt_of run.journal) d =
     ap (λ (s : List ℕ). delivery_name s e) salt
     ∙ ap (λ (b : List ℕ). receiving_name (sending_name (salt_of run.journal) b) e.sci e.an) (sym same.bytes)
@@ -225,6 +224,9 @@ accepts_above run later salt durable d e here there same =
     let above : highest (reservations later.journal) (delivery_name (salt_of run.journal) d) < e.number =
     subst (λ (n : List ℕ). highest (reservations later.journal) n < e.number) name second.above in
     omega (arith, first.within, above, durable (delivery_name (salt_of run.journal) d))
+
+accepts_above : (run later : Run) → SameSalt run later → KeepsDurable run later → AcceptsAbove run later
+accepts_above run later salt durable d e here there same = reserved_above run later salt durable d e (accepts_reserved run d here) (accepts_reserved later e there) same
 
 pub accepts_above_in_all : (runs : List Run) → AcceptsAboveInAll runs
 accepts_above_in_all runs salt durable i j d less within' =

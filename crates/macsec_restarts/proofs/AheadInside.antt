@@ -17,14 +17,14 @@ use Rattle.macsec_restarts.proofs.Listed.{delivers_each_listed}
 
 -- ---- a step
 
-takes_by : (again : Bool) (it : Standing) (a : Ahead) (input : Input) (answer : KeepingOutput × Keeping) → is_through again it ≡ true →
+pub takes_by : (again : Bool) (it : Standing) (a : Ahead) (input : Input) (answer : KeepingOutput × Keeping) → is_through again it ≡ true →
     ((ahead_by again it a input answer).0 ≡ kept answer.0) × ((ahead_by again it a input answer).1.k ≡ answer.1)
 takes_by true it a input answer is = cc
 takes_by false passes a input answer is = (refl, refl)
 takes_by false (not_yet at) a input answer is = cc
 takes_by false (before_this_run at) a input answer is = cc
 
-stays_by : (again : Bool) (it : Standing) (a : Ahead) (input : Input) (answer : KeepingOutput × Keeping) → is_through again it ≡ false → (ahead_by again it a input answer).1 ≡ a
+pub stays_by : (again : Bool) (it : Standing) (a : Ahead) (input : Input) (answer : KeepingOutput × Keeping) → is_through again it ≡ false → (ahead_by again it a input answer).1 ≡ a
 stays_by true it a input answer is = refl
 stays_by false passes a input answer is = cc
 stays_by false (not_yet at) a input answer is = refl
@@ -98,7 +98,7 @@ is_as_before a input off again =
 
 -- ---- what it sends and delivers
 
-none_sent : (a : Ahead) (input : KeepingInput) → lets_through a input ≡ false → newly_sent a.k input ≡ []
+pub none_sent : (a : Ahead) (input : KeepingInput) → lets_through a input ≡ false → newly_sent a.k input ≡ []
 none_sent a (now_durable r) is = refl
 none_sent a (endpoint_input (operator_command c)) is = refl
 none_sent a (endpoint_input (client_frame frame)) is = cc

@@ -57,7 +57,7 @@ uses_it (r ∷ rows) row key (inr later) same = or_true (r.key == key) (rx_uses 
     or_true true c is = refl
     or_true false c is = is
 
-not_used : (s : State) (key : ℕ) → IsGivenUp s key → (row : RxRow) → IsMember s.rx.rows row → row.key ≡ key → ⊥
+pub not_used : (s : State) (key : ℕ) → IsGivenUp s key → (row : RxRow) → IsMember s.rx.rows row → row.key ≡ key → ⊥
 not_used s key up row there same = let no = sym (uses_it s.rx.rows row key there same) ∙ (or_parts (tx_uses s.tx key) (rx_uses s.rx.rows key) up.unused).1 in cc
 
 -- a lowest acceptable PN is at most 2^64

@@ -12,3 +12,4 @@ pub mod ReservesAhead
 pub mod Extended
 pub mod OtherSuites
 pub mod Rewound
+pub mod Forgets

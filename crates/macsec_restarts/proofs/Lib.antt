@@ -19,4 +19,9 @@ mod AheadEnds
 mod AheadPast
 mod Passing
 mod AheadOrder
+mod RetiredUnused
+mod SameBut
+mod AheadForgets
+mod ForgettingAccepts
+mod ForgettingOrder
 mod Examples

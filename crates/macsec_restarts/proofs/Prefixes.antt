@@ -20,7 +20,7 @@ use Rattle.macsec_restarts.proofs.SoundRuns.{IsSoundRun, closing_sound, keys_sta
 
 -- ---- a run without its last input
 
-taken : (n : ℕ) (inputs : List KeepingInput) (input : KeepingInput) → (m : ℕ) × (take n inputs ≡ take m (inputs ++ input ∷ []))
+pub taken : (n : ℕ) (inputs : List KeepingInput) (input : KeepingInput) → (m : ℕ) × (take n inputs ≡ take m (inputs ++ input ∷ []))
 taken zero inputs input = (0, refl)
 taken (suc n) [] input = (0, refl)
 taken (suc n) (i ∷ inputs) input = let it = taken n inputs input in (suc it.0, ap (λ is. i ∷ is) it.1)
@@ -114,7 +114,7 @@ module _ (laws : EndpointLaws) (input : KeepingInput) where
 
 -- ---- the first runs
 
-first_all : {X : Type 0} (P : X → Type 0) (xs ys : List X) → All P (xs ++ ys) → All P xs
+pub first_all : {X : Type 0} (P : X → Type 0) (xs ys : List X) → All P (xs ++ ys) → All P xs
 first_all P [] ys all = All-nil P
 first_all P (x ∷ xs) ys all = All-cons P x xs (All-head P x (xs ++ ys) all) (first_all P xs ys (All-tail P x (xs ++ ys) all))
 

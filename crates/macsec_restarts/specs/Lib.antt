@@ -8,3 +8,5 @@ pub mod Acceptance
 pub mod AheadSteps
 pub mod AheadRuns
 pub mod AheadOrder
+pub mod AheadForgetting
+pub mod ForgettingOrder

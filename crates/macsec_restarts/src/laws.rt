@@ -12,16 +12,18 @@ ghost use Rattle.macsec_reserve.specs.Histories.{Run};
 ghost use Rattle.macsec_restarts.specs.Acceptance.{AcceptsInTime};
 ghost use Rattle.macsec_ahead.specs.declared.answers.RxPn.{RxPn};
 ghost use Rattle.macsec_ahead.specs.Ahead.{Ahead};
+ghost use Rattle.macsec_restarts.specs.AheadForgetting.{AcceptsAboveForgettingInAll, AcceptsReservedForgetting, AheadForgetsAlike, StaysSoundInside, StepsForgetting};
 ghost use Rattle.macsec_restarts.specs.AheadOrder.{ComesInOrderOnceWith};
 ghost use Rattle.macsec_restarts.specs.AheadRuns.{AcceptsAboveInAll, AcceptsReserved, DeliversEachListedWith};
 ghost use Rattle.macsec_restarts.specs.AheadSteps.{AsksWhereDropped, IsAsBefore, IsKeepingInside, KeepsEnds, PassesOnceReserved, RefusesBelowEnd, RemembersEnd, StepsInside, WantsEnough};
 ghost use Rattle.macsec_restarts.specs.Delivered.{DeliversEachListed, DeliversFromSas};
+ghost use Rattle.macsec_restarts.specs.ForgettingOrder.{ComesInOrderOnceForgetting};
 ghost use Rattle.macsec_restarts.specs.Happenings.{Happening};
 ghost use Rattle.macsec_restarts.specs.Order.{ComesInOrderOnce};
 ghost use Rattle.macsec_restarts.specs.Origin.{AlwaysComesFromOther, ComesFromOther};
 ghost use Rattle.macsec_restarts.specs.Sent.{ListsEachUse, NumbersRise, SealsEachFrame};
 
-use macsec_reserve::laws::delivers_above;
+use macsec_reserve::laws::{delivers_above, forgets_alike};
 use macsec_secy::laws::{accepts_sent, delivers_in_time, keys_stay, protects_frames, rx_rows_stay};
 use macsec_suite::laws::equal_ivs;
 use macsec_tag::laws::reads_by_grammar;
@@ -156,4 +158,43 @@ pub fn comes_in_order_once_ahead()
     protects_frames();
     delivers_in_time();
     delivers_above();
+}
+
+// ---- endpoints that forget the keys that they retire, as the library for C makes them
+
+/// Each input takes the step of the keeping endpoint that forgets retired keys, or nothing changes (`inside`). Over a
+/// whole run the endpoint gives the same answers as one that forgets none and is not given the octets of retired keys
+/// again. It sends, delivers and accepts the same. The same is reserved ahead of receiving, and the same ends of SAs are
+/// remembered (`alike`). A new SA under a retired key is refused by both, with `KeyRetired` or with `PnFloor`. The keeping
+/// endpoint inside the one that forgets none stays sound (`sound`).
+pub fn forgets_alike_ahead()
+    ensures inside { (a : Ahead) (input : KeepingInput) → StepsForgetting a input }
+    ensures alike { (ahead : Bool) (run : Run) → AheadForgetsAlike ahead run }
+    ensures sound { (ahead : Bool) (run : Run) → StaysSoundInside ahead run }
+{
+    // The law that the proof cites; the call does nothing.
+    forgets_alike();
+}
+
+/// `accepts_above` for endpoints that forget retired keys.
+pub fn accepts_above_forgetting()
+    ensures reserved { (run : Run) → AcceptsReservedForgetting run }
+    ensures later { (runs : List Run) → AcceptsAboveForgettingInAll runs }
+{}
+
+/// `comes_in_order_once_ahead` for ends whose endpoints forget retired keys. Premises: these endpoints are sound at each
+/// moment; and those of `comes_in_order_once_ahead`, of endpoints that forget none and are not given the octets of retired
+/// keys again.
+pub fn comes_in_order_once_forgetting()
+    ensures { (ahead : End → Bool) (events : List Happening) → ComesInOrderOnceForgetting ahead events }
+{
+    // Laws that the proof cites; the calls do nothing.
+    reads_by_grammar();
+    equal_ivs();
+    keys_stay();
+    rx_rows_stay();
+    protects_frames();
+    delivers_in_time();
+    delivers_above();
+    forgets_alike();
 }

@@ -21,6 +21,10 @@
 //! - `comes_in_order_once_ahead`: order and once, without a premise about commands, and with the option without one about
 //!   saving.
 //!
+//! Proved of such an endpoint that also forgets the octets of the keys that it retires, as the library for C makes it:
+//! - `forgets_alike_ahead`: it answers alike, and sends, delivers and accepts the same, as one that forgets none.
+//! - `accepts_above_forgetting`, `comes_in_order_once_forgetting`: the laws above, of runs in which keys are retired.
+//!
 //! `proofs/Examples/` has runs that meet all premises, with the lists of what was sent and delivered, and for fourteen
 //! premises of order runs that break it without that one. It uses the worked runs of `macsec_counterexamples`.
 //!
