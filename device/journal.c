@@ -341,21 +341,20 @@ static int give(struct journal *journal, const macsec_endpoint *e, uint32_t stat
     return 0;
 }
 
-int journal_make_endpoint(struct journal *journal, macsec_endpoint *e, const macsec_config *config,
+int journal_make_endpoint(struct journal *journal, macsec_endpoint *e, const macsec_config *config, bool ahead,
                           struct journal_fault *fault) {
     if (check_endpoint(journal, NULL, fault) != 0)
         return -1;
-    return give(journal, e, macsec_reserve_open(e, config, journal->octets, journal->length, false), fault);
+    return give(journal, e, macsec_reserve_open(e, config, journal->octets, journal->length, ahead), fault);
 }
 
-int journal_configure(struct journal *journal, macsec_endpoint *e, const char *text, size_t length, uint32_t *line,
-                      struct journal_fault *fault) {
+int journal_configure(struct journal *journal, macsec_endpoint *e, const char *text, size_t length, bool ahead,
+                      uint32_t *line, struct journal_fault *fault) {
+    uint32_t status;
     if (check_endpoint(journal, NULL, fault) != 0)
         return -1;
-    return give(
-        journal, e,
-        macsec_reserve_configure(e, (const uint8_t *)text, length, journal->octets, journal->length, false, line),
-        fault);
+    status = macsec_reserve_configure(e, (const uint8_t *)text, length, journal->octets, journal->length, ahead, line);
+    return give(journal, e, status, fault);
 }
 
 void journal_hand_over(struct journal *journal, const macsec_endpoint *next) {
@@ -413,6 +412,18 @@ int journal_reserve(struct journal *journal, macsec_endpoint *e, uint8_t an, uin
     if (check_endpoint(journal, e, fault) != 0)
         return -1;
     status = macsec_reserve_wanted(e, an, amount, &record);
+    if (status == MACSEC_E_NOT_FOUND)
+        return 0;
+    return status != MACSEC_OK ? failed_in_library(fault, status) : append_and_report(journal, e, &record, fault);
+}
+
+int journal_accept(struct journal *journal, macsec_endpoint *e, const uint8_t sci[8], uint8_t an, uint64_t amount,
+                   uint64_t pn, struct journal_fault *fault) {
+    macsec_record record;
+    uint32_t status;
+    if (check_endpoint(journal, e, fault) != 0)
+        return -1;
+    status = macsec_reserve_to_accept(e, sci, an, amount, pn, &record);
     if (status == MACSEC_E_NOT_FOUND)
         return 0;
     return status != MACSEC_OK ? failed_in_library(fault, status) : append_and_report(journal, e, &record, fault);

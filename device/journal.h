@@ -9,12 +9,14 @@
  *     struct journal journal;
  *     struct journal_fault fault;
  *     if (journal_open(&journal, path, JOURNAL_LIMIT, &fault) != 0) ...
- *     if (journal_make_endpoint(&journal, &e, &config, &fault) != 0) ...
+ *     if (journal_make_endpoint(&journal, &e, &config, true, &fault) != 0) ...
  *     macsec_install_key(&e, &sak); macsec_add_tx_sa(&e, an, sak.number, next, true);
  *     if (journal_reserve(&journal, &e, an, journal_amount(rate), &fault) != 0) ...
  *     macsec_enable_tx_sa(&e, an);
- *     ... frames; journal_reserve and journal_save at least twice a second ...
- *     journal_save(&journal, &e, sci, an, &fault);
+ *     macsec_add_rx_sc(&e, sci); macsec_add_rx_sa(&e, sci, an, peer.number, lowest, 0);
+ *     if (journal_accept(&journal, &e, sci, an, amount, 0, &fault) != 0) ...
+ *     macsec_enable_rx_sa(&e, sci, an);
+ *     ... frames; journal_reserve and journal_accept at least twice a second ...
  *     macsec_free(&e);
  *     journal_close(&journal);
  *
@@ -27,17 +29,19 @@
  *            shares the lock, and a program started by exec does not. After a fork, only one process may use the
  *            journal and its endpoint. Use a local file system.
  * ENDPOINT   One endpoint at a time sends beside a journal: two that are made of the same octets would use the same
- * packet numbers under a key, in one process too. So journal_make_endpoint and journal_configure make no second one,
- *            and journal_reserve and journal_save do nothing for another one (JOURNAL_ENDPOINT), until
- * journal_hand_over says that the first one sends nothing more. An endpoint of macsec_reserve_open is another one.
+ *            packet numbers under a key, in one process too. So journal_make_endpoint and journal_configure make no
+ *            second one, and journal_reserve, journal_accept and journal_save do nothing for another one
+ *            (JOURNAL_ENDPOINT), until journal_hand_over says that the first one sends and receives nothing more. An
+ *            endpoint of macsec_reserve_open is another one.
  * DURABLE    A call that returns 0 after it wrote a record has written all of it, fdatasync returned 0, and the name of
  *            the file still leads to it. Only then is the record reported to the endpoint (macsec_reserve_granted).
  * FAILURES   After a failed fdatasync, Linux marks the pages as clean, and the next one can return 0 although nothing
  *            was written. So after a failed write or synchronization the file is in doubt: nothing is appended to it or
  *            read from it again. The next call writes the whole journal from memory into a new file, which takes its
  *            place. A full disk is handled in the same way. Until this succeeds, the endpoint sends with the numbers
- *            that it has reserved, and then drops its frames (MACSEC_FATE_NO_RESERVATION). After a failure, wait a
- *            second before the next call.
+ *            that it has reserved, and then drops its frames (MACSEC_FATE_NO_RESERVATION). With `ahead` it also
+ *            receives with those that it has reserved, and then drops frames (MACSEC_VERDICT_NO_RESERVATION). After a
+ *            failure, wait a second before the next call.
  * TORN TAIL  Records are at multiples of 64 octets. The next record overwrites what an interrupted write left.
  * LENGTH     Before a journal is longer than its limit, it is written again with one record for each name, into a new
  *            file that takes its place. The limit grows to twice the length of that file, if it was lower. Names of old
@@ -129,15 +133,16 @@ int journal_create(const char *path, struct journal_fault *fault);
 int journal_open(struct journal *journal, const char *path, size_t limit, struct journal_fault *fault);
 
 /* Makes an endpoint beside the journal, as macsec_reserve_open and macsec_reserve_configure do, unless another one has
- * it. If the library refuses it, none has. */
-int journal_make_endpoint(struct journal *journal, macsec_endpoint *e, const macsec_config *config,
+ * it. If the library refuses it, none has. With `ahead` it accepts a packet number only if a durable record reserves
+ * it. */
+int journal_make_endpoint(struct journal *journal, macsec_endpoint *e, const macsec_config *config, bool ahead,
                           struct journal_fault *fault);
-int journal_configure(struct journal *journal, macsec_endpoint *e, const char *text, size_t length, uint32_t *line,
-                      struct journal_fault *fault);
+int journal_configure(struct journal *journal, macsec_endpoint *e, const char *text, size_t length, bool ahead,
+                      uint32_t *line, struct journal_fault *fault);
 
-/* Says that the endpoint which has the journal sends nothing more. `next` goes on, or NULL: then one can be made. Make
- * `next` of `octets` after the last reservation of the one before, which has to be freed or to stay without a transmit
- * association. */
+/* Says that the endpoint which has the journal sends nothing more, and with `ahead` also receives nothing more. `next`
+ * goes on, or NULL: then one can be made. Make `next` of `octets` after the last reservation of the one before, which
+ * has to be freed or to stay without associations. */
 void journal_hand_over(struct journal *journal, const macsec_endpoint *next);
 
 /* Makes a record durable. One that this process has made durable is not written again. */
@@ -152,10 +157,18 @@ int journal_append_all(struct journal *journal, const uint8_t *records, size_t l
 int journal_reserve(struct journal *journal, macsec_endpoint *e, uint8_t an, uint64_t amount,
                     struct journal_fault *fault);
 
-/* Saves the lowest acceptable packet number of a receive association, if it exists. If the replay window is 0, no later
- * run that drops late frames delivers a frame that was received before this call. Frames that were received after the
- * last call can be delivered again. So call it from time to time, before the association is deleted, and before the
- * endpoint ends. */
+/* Reserves `amount` packet numbers for a receive association of an endpoint with `ahead`, if fewer than half of them
+ * are left; else it does nothing, as for an association that does not exist. `pn` is 0, or the packet number of a frame
+ * that was dropped without a reservation (MACSEC_VERDICT_NO_RESERVATION), which can be given again after that. Call it
+ * after the association was added and before it is enabled, at least twice as often as `amount` frames arrive, and for
+ * such a frame. A crash loses up to `amount` frames of the peer: the next run drops them. */
+int journal_accept(struct journal *journal, macsec_endpoint *e, const uint8_t sci[8], uint8_t an, uint64_t amount,
+                   uint64_t pn, struct journal_fault *fault);
+
+/* Without `ahead`: saves the lowest acceptable packet number of a receive association, if it exists. If the replay
+ * window is 0, no later run that drops late frames delivers a frame that was received before this call. Frames that
+ * were received after the last call can be delivered again. So call it from time to time, before the association is
+ * deleted, and before the endpoint ends. */
 int journal_save(struct journal *journal, macsec_endpoint *e, const uint8_t sci[8], uint8_t an,
                  struct journal_fault *fault);
 

@@ -4,6 +4,7 @@
  *     journal send JOURNAL LIMIT SUITE AMOUNT FRAMES CAPTURE
  *     journal keys JOURNAL LIMIT COUNT
  *     journal receive JOURNAL LIMIT SUITE CAPTURE IN..
+ *     journal accept JOURNAL LIMIT SUITE AMOUNT CAPTURE PREFIX COUNT
  *     journal floors JOURNAL PREFIX STEP SEED NUMBER..
  *     journal endpoints JOURNAL
  *     journal amounts
@@ -11,11 +12,14 @@
  * send protects frames under two keys, one after another, and writes each to CAPTURE before it protects the next
  * one. It ends after FRAMES of them, or never if FRAMES is 0. keys makes four reservations for each of COUNT keys.
  * receive gives all frames of IN to an endpoint with a replay window of 0. It writes those that the endpoint
- * delivers to CAPTURE, once their packet numbers are saved. floors writes each prefix of JOURNAL to PREFIX, alone
- * and followed by random octets, and opens it. It prints how many of the NUMBERs, from the first on, are refused as
- * the first of each key. With a STEP of 5 it does so for every fifth prefix, and for those around the end of a
- * record. endpoints makes several endpoints beside one journal, and prints what becomes of each. amounts prints
- * reservations. The status is 3 if the journal can't be created or opened. */
+ * delivers to CAPTURE, once their packet numbers are saved. accept gives all frames of the captures PREFIX0, PREFIX1,
+ * .. to an endpoint that reserves AMOUNT packet numbers ahead of receiving, and writes those that it delivers to
+ * CAPTURE at once. It ends after COUNT captures. If COUNT is 0 it never ends: it waits for more frames of the last
+ * capture, and for the next one. floors writes each prefix of JOURNAL to PREFIX, alone and followed by random octets,
+ * and opens it. It prints how many of the NUMBERs, from the first on, are refused as the first of each key. With a STEP
+ * of 5 it does so for every fifth prefix, and for those around the end of a record. endpoints makes several endpoints
+ * beside one journal, and prints what becomes of each. amounts prints reservations. The status is 3 if the journal
+ * can't be created or opened. */
 #define _GNU_SOURCE
 #include "journal.h"
 #include <errno.h>
@@ -122,13 +126,14 @@ static void open_journal(struct journal *journal, const char *name, size_t limit
 }
 
 /* Creates an endpoint with its keys beside a journal. Key and association have the same number. */
-static uint32_t make_endpoint(macsec_endpoint *e, const uint8_t *sci, uint32_t suite, struct journal *journal) {
+static uint32_t make_endpoint(macsec_endpoint *e, const uint8_t *sci, uint32_t suite, struct journal *journal,
+                              bool ahead) {
     struct journal_fault fault = { JOURNAL_LIBRARY, 0, MACSEC_OK };
     macsec_config config = { { 0 }, suite, MACSEC_FORM_SCI, 1600 };
     bool wide = suite == MACSEC_SUITE_GCM_AES_256 || suite == MACSEC_SUITE_GCM_AES_XPN_256;
     uint32_t status;
     memcpy(config.sci, sci, sizeof config.sci);
-    if (journal_make_endpoint(journal, e, &config, &fault) != 0 && fault.step != JOURNAL_LIBRARY) {
+    if (journal_make_endpoint(journal, e, &config, ahead, &fault) != 0 && fault.step != JOURNAL_LIBRARY) {
         print_fault("make_endpoint", &fault);
         exit(1);
     }
@@ -206,7 +211,7 @@ static int run_send(char **words) {
     macsec_endpoint e = MACSEC_ENDPOINT_INIT;
     int file;
     open_journal(&journal, words[0], (size_t)number_of(words[1]));
-    must("reserve_open", make_endpoint(&e, sender, (uint32_t)number_of(words[2]), &journal));
+    must("reserve_open", make_endpoint(&e, sender, (uint32_t)number_of(words[2]), &journal, false));
     file = create_capture(words[5]);
     for (uint8_t an = 0; an < KEYS; an++) {
         add_lowest(&e, an, sending_floor(&e, an), add_sending);
@@ -233,7 +238,7 @@ static int run_keys(char **words) {
     struct journal journal;
     macsec_endpoint e = MACSEC_ENDPOINT_INIT;
     open_journal(&journal, words[0], (size_t)number_of(words[1]));
-    must("reserve_open", make_endpoint(&e, sender, MACSEC_SUITE_GCM_AES_128, &journal));
+    must("reserve_open", make_endpoint(&e, sender, MACSEC_SUITE_GCM_AES_128, &journal, false));
     for (uint16_t it = KEYS; it < KEYS + keys; it++) {
         macsec_sak key = { { 0xc0, (uint8_t)(it >> 8), (uint8_t)it }, { 0 }, 0, MACSEC_SUITE_DEFAULT, it, 16, 0 };
         must("install_key", macsec_install_key(&e, &key));
@@ -298,7 +303,7 @@ static int run_receive(int count, char **words) {
     macsec_endpoint e = MACSEC_ENDPOINT_INIT;
     int file;
     open_journal(&journal, words[0], (size_t)number_of(words[1]));
-    must("reserve_open", make_endpoint(&e, receiver, (uint32_t)number_of(words[2]), &journal));
+    must("reserve_open", make_endpoint(&e, receiver, (uint32_t)number_of(words[2]), &journal, false));
     file = create_capture(words[3]);
     must("add_rx_sc", macsec_add_rx_sc(&e, sender));
     for (uint8_t an = 0; an < KEYS; an++) {
@@ -318,6 +323,96 @@ static int run_receive(int count, char **words) {
     macsec_free(&e);
     journal_close(&journal);
     return close(file) == 0 ? 0 : 1;
+}
+
+/* ---- accept ---- */
+
+/* A receiver that reserves ahead. */
+struct accepting {
+    struct journal journal;
+    macsec_endpoint e;
+    uint64_t amount;
+    int file;
+    struct counts counts;
+};
+
+static void reserve_to_accept(struct accepting *a, uint8_t an, uint64_t pn) {
+    struct journal_fault fault;
+    if (journal_accept(&a->journal, &a->e, sender, an, a->amount, pn, &fault) != 0 && a->counts.failures++ == 0)
+        print_fault("accept", &fault);
+}
+
+/* Gives a frame to the endpoint, and once more if it lacked a reservation. */
+static void accept_frame(struct accepting *a, const uint8_t *frame, size_t length) {
+    macsec_received got;
+    must("receive", macsec_receive(&a->e, frame, length, &got));
+    if (got.verdict == MACSEC_VERDICT_NO_RESERVATION) {
+        reserve_to_accept(a, got.an, got.pn);
+        must("receive", macsec_receive(&a->e, frame, length, &got));
+    }
+    if (!got.delivered) {
+        a->counts.dropped++;
+        return;
+    }
+    capture(a->file, frame, length);
+    a->counts.sent++;
+    reserve_to_accept(a, got.an, 0);
+}
+
+/* Gives the frames of a capture to the endpoint that come after this place in it. Returns the place of the next one. */
+static long accept_from(struct accepting *a, FILE *in, long at) {
+    uint8_t frame[LINK_MAX];
+    size_t length;
+    if (fseek(in, at, SEEK_SET) != 0)
+        fail("capture");
+    while (next_frame(in, frame, &length)) {
+        accept_frame(a, frame, length);
+        at = ftell(in);
+    }
+    return at;
+}
+
+/* Gives the frames of a capture to the endpoint. If it does not end, waits for more until there is the next capture. */
+static void accept_capture(struct accepting *a, const char *prefix, uint64_t number, bool ends) {
+    char name[512], next[512];
+    bool is_last = false;
+    long at = 24;
+    FILE *in;
+    snprintf(name, sizeof name, "%s%" PRIu64, prefix, number);
+    snprintf(next, sizeof next, "%s%" PRIu64, prefix, number + 1);
+    while ((in = fopen(name, "r")) == NULL && !ends)
+        (void)usleep(500);
+    if (in == NULL)
+        fail(name);
+    while (!is_last) {
+        is_last = ends || access(next, F_OK) == 0;
+        at = accept_from(a, in, at);
+        if (!is_last)
+            (void)usleep(500);
+    }
+    fclose(in);
+}
+
+static int run_accept(char **words) {
+    static struct accepting a = { .e = MACSEC_ENDPOINT_INIT };
+    const uint64_t count = number_of(words[6]);
+    a.amount = number_of(words[3]);
+    open_journal(&a.journal, words[0], (size_t)number_of(words[1]));
+    must("reserve_open", make_endpoint(&a.e, receiver, (uint32_t)number_of(words[2]), &a.journal, true));
+    a.file = create_capture(words[4]);
+    must("add_rx_sc", macsec_add_rx_sc(&a.e, sender));
+    for (uint8_t an = 0; an < KEYS; an++) {
+        add_lowest(&a.e, an, receiving_floor(&a.e, an), add_receiving);
+        reserve_to_accept(&a, an, 0);
+        must("enable_rx_sa", macsec_enable_rx_sa(&a.e, sender, an));
+    }
+    for (uint64_t at = 0; count == 0 || at < count; at++)
+        accept_capture(&a, words[5], at, count != 0);
+    printf("delivered %" PRIu64 " dropped %" PRIu64 " failures %" PRIu64 "\n", a.counts.sent, a.counts.dropped,
+           a.counts.failures);
+    macsec_free(&a.e);
+    journal_close(&a.journal);
+    return close(a.file) == 0 ? 0 : 1;
 }
 
 /* ---- floors ---- */
@@ -367,7 +462,7 @@ static void print_floors(const char *name, const uint8_t *octets, size_t length,
         printf(" %s", journal_step_name(fault.step));
         return;
     }
-    status = make_endpoint(&e, sender, MACSEC_SUITE_GCM_AES_128, &journal);
+    status = make_endpoint(&e, sender, MACSEC_SUITE_GCM_AES_128, &journal, false);
     if (status != MACSEC_OK)
         printf(" %s", macsec_status_name(status));
     else
@@ -418,7 +513,7 @@ static void send_one(struct journal *journal, macsec_endpoint *e) {
 }
 
 static void make_sender(macsec_endpoint *e, struct journal *journal) {
-    must("make", make_endpoint(e, sender, MACSEC_SUITE_GCM_AES_128, journal));
+    must("make", make_endpoint(e, sender, MACSEC_SUITE_GCM_AES_128, journal, true));
     must("add", add_sending(e, 0, sending_floor(e, 0) + 1));
     must("enable", macsec_enable_tx_sa(e, 0));
 }
@@ -433,12 +528,12 @@ static int run_endpoints(const char *name) {
     uint32_t number;
     open_journal(&journal, name, JOURNAL_LIMIT);
     make_sender(&first, &journal);
-    if (journal_make_endpoint(&journal, &second, &config, &fault) == 0 ||
-        journal_configure(&journal, &second, line, sizeof line - 1, &number, &fault) == 0)
+    if (journal_make_endpoint(&journal, &second, &config, true, &fault) == 0 ||
+        journal_configure(&journal, &second, line, sizeof line - 1, true, &number, &fault) == 0)
         printf("made ");
     printf("%s %d\n", journal_step_name(fault.step), fault.error == EBUSY);
     /* Another one, made of the same octets by the library's call: it sends nothing. */
-    must("reserve_open", macsec_reserve_open(&second, &config, journal.octets, journal.length, false));
+    must("reserve_open", macsec_reserve_open(&second, &config, journal.octets, journal.length, true));
     must("key", macsec_command_line(&second, (const uint8_t *)key, sizeof key - 1));
     must("add", macsec_add_tx_sa(&second, 0, 0, 1, true));
     must("enable", macsec_enable_tx_sa(&second, 0));
@@ -482,6 +577,8 @@ int main(int count, char **words) {
         return run_keys(words + 2);
     if (count >= 6 && strcmp(words[1], "receive") == 0)
         return run_receive(count - 2, words + 2);
+    if (count == 9 && strcmp(words[1], "accept") == 0)
+        return run_accept(words + 2);
     if (count >= 6 && strcmp(words[1], "floors") == 0)
         return run_floors(count - 2, words + 2);
     if (count == 3 && strcmp(words[1], "endpoints") == 0)
@@ -489,6 +586,6 @@ int main(int count, char **words) {
     if (count == 2 && strcmp(words[1], "amounts") == 0)
         return run_amounts();
     fprintf(stderr,
-            "usage: journal create|send|keys|receive|floors|endpoints|amounts ..: see device/tests/journal.c\n");
+            "usage: journal create|send|keys|receive|accept|floors|endpoints|amounts ..: see device/tests/journal.c\n");
     return 2;
 }

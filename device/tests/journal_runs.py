@@ -21,6 +21,7 @@ from house.reporting import report
 FLAGS = [*WARNINGS, "-O2", *INCLUDED, "-I", f"{ROOT}/device"]
 RECORD = 64
 ANS = (0, 1)
+SENDER = bytes.fromhex("0200000000010001")
 SECONDS = 60
 
 Frame = tuple[bytes, int, int]  # SCI, association number, packet number
@@ -45,9 +46,9 @@ def build_numbers(library: pathlib.Path, folder: pathlib.Path) -> pathlib.Path:
     """Builds the sender that reserves as macsecd does. Its file is short, and so are its reservations."""
     folder.mkdir(parents=True, exist_ok=True)
     program = folder / "journal_numbers"
-    parts = ("journal", "journals", "lines", "names", "numbers", "saver", "text", "words", "tests/journal_numbers")
+    parts = ("journal", "journals", "lines", "names", "numbers", "saver", "text", "words")
     sizes = ["-DNUMBERS_FILE_LENGTH=320", "-DJOURNAL_AMOUNT_MIN=8"]
-    sources = [str(ROOT / f"device/{it}.c") for it in parts]
+    sources = [str(ROOT / f"device/{it}.c") for it in (*parts, "tests/journal_numbers")]
     command = ["gcc", *FLAGS, "-pedantic", "-pthread", *sizes, "-o", str(program), *sources, str(library)]
     if subprocess.call(command):
         sys.exit("device/tests/journal: a program was not built")
@@ -115,6 +116,13 @@ def receive_words(journal: pathlib.Path, out: pathlib.Path, captures: list[pathl
     return ["receive", str(journal), "1024", str(suite), str(out), *map(str, captures)]
 
 
+def accept_words(
+    journal: pathlib.Path, out: pathlib.Path, prefix: pathlib.Path, count: int, amount: int, suite: int = 1
+) -> list[str]:
+    """The arguments of a receiver that reserves ahead."""
+    return ["accept", str(journal), "1024", str(suite), str(amount), str(out), str(prefix), str(count)]
+
+
 # ---- Captures and journals
 
 
@@ -154,7 +162,7 @@ def highest(octets: bytes, name: bytes) -> int:
 
 
 def names_of(octets: bytes) -> list[bytes]:
-    """The names of a sender's journal, in the order of its associations."""
+    """The names of a journal, in the order of the associations: those that send are first."""
     return list(dict.fromkeys(name for name, _ in records_of(octets)))
 
 
@@ -192,7 +200,7 @@ class Chain:
         self.options, self.names, self.what = options, names, what
         self.state = State({"journal": start})
         self.seen: set[Frame] = set()
-        self.last = {an: 0 for an in ANS}
+        self.last: dict[int, int] = {}  # the last packet number under each name
 
     def restore(self, folder: pathlib.Path) -> None:
         """Puts the files of the state into a folder, durably."""
@@ -222,15 +230,16 @@ class Chain:
         return self.run(faults, lambda it: send_words(it / "files/journal", it / "capture", *sizes), after, **more)
 
     def judge(self, frames: list[Frame]) -> None:
-        """Sees that no packet number is used again, and that each is reserved in what is left."""
+        """Sees that no packet number is used or accepted again, and that each is reserved in what is left."""
         add_new(self.seen, frames, self.what)
-        for _, an, number in frames:
-            self.last[an] = max(self.last[an], number)
+        for sci, an, number in frames:
+            place = an if sci == SENDER else len(ANS) + an
+            self.last[place] = max(self.last.get(place, 0), number)
         octets = self.state.files.get("journal", b"")
-        for an in ANS:
-            reserved = highest(octets, self.names[an]) if an < len(self.names) else 0
-            last = self.last[an]
-            report(last <= reserved, f"{self.what}: packet number {last} was sent, {reserved} is reserved")
+        for place, last in self.last.items():
+            reserved = highest(octets, self.names[place]) if place < len(self.names) else 0
+            how = "sent" if place < len(ANS) else "accepted"
+            report(last <= reserved, f"{self.what}: packet number {last} was {how}, {reserved} is reserved")
 
 
 def disk_content(folder: pathlib.Path, inode: str) -> bytes:
