@@ -222,6 +222,7 @@ void answer_json(struct text *t, const struct device *d) {
     }
     text_add(t, "\"port\":\"%s\",\"keys_left\":%u,", d->port.off ? "off" : "on", (unsigned)left);
     text_add(t, "\"journal_names\":%zu,\"journal_names_max\":%zu,", numbers_names(d->numbers), numbers_names_max());
+    text_add(t, "\"receive_ahead\":%s,", numbers_are_ahead(d->numbers) ? "true" : "false");
     text_add(t, "\"device_counters\":{");
     for (size_t i = 0; i < COUNT_OF_COUNTS; i++)
         text_add(t, "%s\"%s\":%" PRIu64, i == 0 ? "" : ",", counts_name(i), counts_value(&d->counts, i));

@@ -304,6 +304,8 @@ static void check_device_line(struct check *c, unsigned line, const struct words
         hint(c, line, "there is no network device %s: macsecd ends with status 1 until there is", c->config.link);
     else if (words_is(w, 1, "link") && !c->is_ethernet)
         fault(c, line, "LINK %s is not an Ethernet device; name one", c->config.link);
+    else if (words_is(w, 1, "receive") && words_is(w, 2, "behind"))
+        hint(c, line, "after a crash, frames that were recorded shortly before it are delivered again: write ahead");
     else if (words_is(w, 1, "workers") && c->config.workers > workers_fitting())
         hint(c, line, "there are too few processors for so many workers, so frames wait for them: write at most %u",
              workers_fitting());

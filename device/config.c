@@ -160,11 +160,14 @@ static bool take_workers(struct config *c, const struct words *w) {
 /* Takes a line that switches something on. Returns false if it is another one. */
 static bool take_switch(struct config *c, const struct words *w) {
     bool is_alone = words_are(w, 3, "device", "isolate") && words_is(w, 2, "alone");
+    bool receives = words_are(w, 3, "device", "receive");
     bool *says = words_are(w, 2, "device", "persist")                                  ? &c->persistent
                  : words_are(w, 2, "device", "transient")                              ? &c->transient
                  : words_are(w, 2, "device", "shared")                                 ? &c->shared
                  : words_are(w, 2, "device", "isolate")                                ? &c->isolated
                  : is_alone                                                            ? &c->alone
+                 : receives && words_is(w, 2, "ahead")                                 ? &c->ahead
+                 : receives && words_is(w, 2, "behind")                                ? &c->behind
                  : words_are(w, 3, "device", "landlock") && words_is(w, 2, "optional") ? &c->unconfined
                                                                                        : NULL;
     if (says != NULL)
@@ -178,8 +181,9 @@ const char *config_take(struct config *c, const struct words *w) {
     if (take_switch(c, w))
         return NULL;
     if (w->count != 3)
-        return "`device link NAME`, `tap NAME`, `group NAME`, `port off`, `workers N`, `persist`, `transient`, "
-               "`isolate`, `shared`, `landlock optional` or `allow ..` is expected";
+        return "`device link NAME`, `tap NAME`, `group NAME`, `port off`, `workers N`, `receive ahead`, "
+               "`receive behind`, `persist`, `transient`, `isolate`, `shared`, `landlock optional` or `allow ..` is "
+               "expected";
     if (words_is(w, 1, "link"))
         return take_name(c->link, w) ? NULL : "no network device can have this name";
     if (words_is(w, 1, "tap"))
@@ -190,8 +194,10 @@ const char *config_take(struct config *c, const struct words *w) {
         return take_workers(c, w) ? NULL : "the number of workers is not 0 to 8";
     if (words_is(w, 1, "port") && words_is(w, 2, "off"))
         return c->begins_off = true, NULL;
-    return "the word after `device` is not link, tap, group, port, workers, persist, transient, isolate, shared, "
-           "landlock or allow";
+    if (words_is(w, 1, "receive"))
+        return "the word after `device receive` is not ahead or behind";
+    return "the word after `device` is not link, tap, group, port, workers, receive, persist, transient, isolate, "
+           "shared, landlock or allow";
 }
 
 /* Takes the lines of the device, and makes comments of them, so that the others keep their numbers. */
@@ -224,6 +230,8 @@ const char *config_disagreement(const struct config *c) {
         return "`device shared` and `device isolate` exclude each other";
     if (c->transient && c->persistent)
         return "`device transient` and `device persist` exclude each other";
+    if (c->ahead && c->behind)
+        return "`device receive ahead` and `device receive behind` exclude each other";
     if (c->transient && !c->shared)
         return "`device transient` needs `device shared`: the TAP of an isolated LINK stays";
     return NULL;

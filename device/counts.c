@@ -3,9 +3,26 @@
 #include <string.h>
 
 static const char *const names[COUNT_OF_COUNTS] = {
-    "LinkIn",      "LinkLost", "LinkTooShort",  "LinkTooLong",   "NoEndpoint", "LinkOut",
-    "LinkRefused", "TapIn",    "TapTooShort",   "TapTooLong",    "TapOut",     "TapRefused",
-    "PortOut",     "PortIn",   "NoReservation", "JournalFailed", "Requests",   "LinkFloods",
+    "LinkIn",
+    "LinkLost",
+    "LinkTooShort",
+    "LinkTooLong",
+    "NoEndpoint",
+    "LinkOut",
+    "LinkRefused",
+    "TapIn",
+    "TapTooShort",
+    "TapTooLong",
+    "TapOut",
+    "TapRefused",
+    "PortOut",
+    "PortIn",
+    "NoReservation",
+    "JournalFailed",
+    "Requests",
+    "LinkFloods",
+    "LinkNoReservation",
+    "LinkEarlierRun",
 };
 
 const char *counts_name(size_t index) {

@@ -95,6 +95,8 @@ struct config {
     bool unconfined;  /* does macsecd go on without Landlock? */
     bool shared;      /* is LINK in the host's network namespace? */
     bool begins_off;  /* is the controlled port off at the start? */
+    bool ahead;       /* does a line say that what is received is reserved? It is unless it is saved afterwards. */
+    bool behind;      /* is it saved afterwards? */
     bool has_workers; /* does a line say how many threads do the work of the cipher? */
     unsigned workers; /* how many; 0: the thread that has the endpoint does it */
     struct limits limits;
@@ -152,6 +154,8 @@ struct counts {
     uint64_t journal_failed; /* failures to write to the journal */
     uint64_t requests;       /* requests at the control socket */
     uint64_t link_floods;    /* times that the system dropped a flood of LINK, for up to a second */
+    /* Valid frames of LINK that were dropped: their packet numbers were not reserved yet, or by an earlier run. */
+    uint64_t link_no_reservation, link_earlier_run;
 };
 
 enum { COUNT_OF_COUNTS = sizeof(struct counts) / sizeof(uint64_t) };
@@ -219,6 +223,40 @@ void floods_stop(struct device *d);
 /* Reads all frames again: to be called each second, and when the endpoint may have other channels or options. */
 void floods_end(struct device *d);
 
+/* ---- drops.c: frames of LINK that are dropped for their packet numbers alone ---- */
+
+/* Two kinds: those that are not reserved yet, and those that an earlier run had reserved. */
+enum { DROPS = 2 };
+struct drops {
+    uint64_t count;
+    unsigned silence; /* for so many seconds no message is made */
+};
+/* To be called each second: says when such frames begin. */
+void drops_tick(struct device *d);
+
+/* ---- held.c: frames of LINK that wait for a reservation ---- */
+
+/* The most of them, and of their octets. */
+enum { HELD_FRAMES = 1024, HELD_OCTETS = 1 << 20 };
+struct held {
+    unsigned count, ticks; /* how many; and of the clock, since the first of them came or another one passed */
+    unsigned left;         /* that are to be given to the endpoint once more */
+    uint64_t grants;       /* how many reservations had been reported when it was kept */
+    size_t used;
+    uint16_t lengths[HELD_FRAMES];
+    uint8_t octets[HELD_OCTETS];
+};
+
+/* Keeps a copy of a frame. Returns false if there is no space. */
+bool held_keep(struct device *d, const uint8_t *octets, size_t length);
+/* Gives them to the endpoint if a reservation was reported: to be called before a later frame is, and when one may have
+ * been. Returns GONE if TAP is. */
+enum outcome held_give(struct device *d);
+/* How many wait. */
+unsigned held_count(const struct device *d);
+/* Drops those that have waited too long: each second. */
+void held_tick(struct device *d);
+
 /* ---- segments.c: frames of LINK that the system has not completed ---- */
 
 /* The octets of the longest header that is divided from its data. */
@@ -280,10 +318,13 @@ struct name {
     macsec_record made;    /* the record with the greatest packet number: durable, being written, or to be written */
     macsec_record durable; /* the durable one, and its packet number */
     uint64_t durable_last;
+    /* What a receive association has accepted, where more is reserved: of that record what follows the name. */
+    uint8_t accepted[MACSEC_RECORD_LENGTH - NAME];
     uint64_t given_up; /* at which turn its key was given up; 0: it was not */
     uint32_t key;      /* the key's number in the endpoint, or NO_KEY */
     bool is_durable;   /* is there a durable record? */
-    bool sends;        /* does a transmit association use it? */
+    bool has_accepted; /* is it known what was accepted? */
+    bool reserves;     /* are its records reported to the endpoint? */
     bool came_again;   /* was the name in the journal before the key was installed? Then that may happen again */
     bool again;        /* is the record to be written again, after a mark? */
     bool marked;       /* is the mark durable? */
@@ -307,9 +348,13 @@ uint32_t names_read(struct names *n, const uint8_t *octets, size_t length);
 struct name *names_find(const struct names *n, const uint8_t *record);
 /* The greatest packet number of its records. */
 uint64_t names_last(const struct name *name);
+/* Does a durable record of this name reserve as much? */
+bool names_cover(const struct name *name, const macsec_record *record);
 /* Notes a record that the library has made for a key of this number. It is written later if it says something new.
  * Returns its name, or NULL if memory runs out. */
-struct name *names_note(struct names *n, const macsec_record *record, uint32_t key, bool sends);
+struct name *names_note(struct names *n, const macsec_record *record, uint32_t key, bool reserves);
+/* Notes what a receive association has accepted, where more is reserved. */
+void names_accept(struct names *n, const macsec_record *record);
 /* Gives up the names of a key, which will not be installed again. One that came again before stays. */
 void names_give_up(struct names *n, uint32_t key);
 /* The number of this key, or of all keys if it is NO_KEY, will be given to another key: names forget it. */
@@ -322,15 +367,43 @@ size_t names_all(struct names *n, uint8_t *out);
 size_t names_room(const struct names *n);
 /* How many names stay in it. */
 size_t names_count(const struct names *n);
-/* Writes the header and the greatest record of each name. A name that one of these records has gets this record
- * instead. */
+/* Writes the header and the greatest record of each name, for another endpoint of this run. A name that one of these
+ * records has gets this record instead, and a name of a receive association up to where it has accepted. */
 size_t names_copy(const struct names *n, const macsec_record *instead, size_t count, uint8_t *out);
 size_t names_copy_room(const struct names *n);
-/* Octets are durable that one of these two calls has written. Those records of transmit associations that say something
- * new are reported. */
+/* Octets are durable that one of these two calls has written. Those records that reserve something new are reported. */
 void names_written(struct names *n, const uint8_t *records, size_t length,
                    void (*report)(void *context, const macsec_record *record), void *context);
 void names_free(struct names *n);
+
+/* ---- paces.c: how many packet numbers to reserve ahead of receiving ---- */
+
+/* Of a receive channel. */
+struct pace {
+    uint8_t sci[8];
+    uint64_t frames, rate;     /* that were accepted since the last tick; and in a second */
+    uint64_t burst;            /* how many to reserve at least, since frames lacked a reservation */
+    uint64_t asked;            /* the order before whose end it was asked for them, or 0 */
+    unsigned unseen, patience; /* frames since the last call of paces_amount, and at most until the next one */
+    bool is_used;
+};
+struct paces {
+    struct pace all[MACSEC_RX_CHANNEL_COUNT];
+    size_t latest; /* the index of the one that was looked for last */
+};
+
+/* The pace of a channel. It is there until the next call with another channel. */
+struct pace *paces_of(struct paces *p, const uint8_t sci[8]);
+/* How many packet numbers to reserve, if a synchronization of the disk takes so many seconds. */
+uint64_t paces_amount(struct pace *p, double slow);
+/* Notes that a frame was accepted. Returns true if it is time to look whether a reservation is wanted. */
+bool paces_accepted(struct pace *p);
+/* Notes that a frame lacks a reservation, while this order of the saver is under way or the next one, and how many
+ * frames wait for one. Returns true if one is to be asked for: once for an order. */
+bool paces_lacked(struct pace *p, uint64_t order, unsigned waiting);
+/* To be called each second. */
+void paces_tick(struct paces *p);
+void paces_clear(struct paces *p);
 
 /* ---- saver.c: the thread that writes the journal ---- */
 
@@ -368,21 +441,24 @@ struct numbers;
 
 /* Creates the journal of this name. Returns 0, or the exit status after a message. */
 int numbers_create(const char *name);
-/* Opens it. Returns 0, or the exit status after a message. */
-int numbers_open(struct numbers **n, const char *name, struct counts *counts);
-/* Starts the thread that writes it. Until then, calls wait for the disk. Returns 0, or the exit status after a message.
- */
+/* Opens it. With `ahead`, what is received is reserved too. Returns 0, or the exit status after a message. */
+int numbers_open(struct numbers **n, const char *name, bool ahead, struct counts *counts);
+/* Frames may come from now on: makes all reservations. This waits for the disk, and so do calls before it. */
+void numbers_begin(struct numbers *n, macsec_endpoint *e);
+/* The same, and starts the thread that writes the journal. Returns 0, or the exit status after a message. */
 int numbers_start(struct numbers *n, macsec_endpoint *e);
 /* The descriptor of the journal's folder, and one that can be read when records were written. */
 int numbers_folder(const struct numbers *n);
 int numbers_file(const struct numbers *n);
 /* To be called then: reports the records to the endpoint, and has the next ones written. */
 void numbers_go_on(struct numbers *n, macsec_endpoint *e);
+bool numbers_are_ahead(const struct numbers *n); /* is reserved what is received? */
 /* Creates the endpoint of an `end` line with a copy of the journal, in which these records replace the ones of the same
- * names. Returns the library's status. */
+ * names. What numbers_save has noted replaces what is reserved for receive associations. Returns the library's status.
+ */
 uint32_t numbers_configure(const struct numbers *n, macsec_endpoint *e, const char *line, size_t length,
                            const macsec_record *instead, size_t count);
-/* The same with a journal that reserves nothing. Such an endpoint sends nothing. */
+/* The same with a journal that reserves nothing. Such an endpoint sends and receives nothing. */
 uint32_t numbers_configure_empty(const struct numbers *n, macsec_endpoint *e, const char *line, size_t length);
 /* What was noted for the line of a key, and for its retirement. `passes`: a key agreement has brought the key or
  * retires it, so it is given up. */
@@ -390,27 +466,32 @@ void numbers_note_key(struct numbers *n, uint64_t key, bool passes);
 void numbers_note_retired(struct numbers *n, uint64_t key, bool passes);
 /* Makes the reservations that transmit associations want. */
 void numbers_reserve(struct numbers *n, macsec_endpoint *e);
-/* The same for an endpoint that is to take over: it waits so long for the disk if an enabled association has nothing
+/* Makes those that receive associations want, where it is reserved what is received. */
+void numbers_accept(struct numbers *n, macsec_endpoint *e);
+/* Both, for an endpoint that is to take over: it waits so long for the disk if an enabled association has nothing
  * reserved. Returns false if it has nothing then, and the journal can't be written. */
 bool numbers_reserve_soon(struct numbers *n, macsec_endpoint *e, int milliseconds);
 /* Notes that frames were sent, and whether one lacked a reservation; reserves in time. */
 void numbers_used(struct numbers *n, macsec_endpoint *e, unsigned frames, bool lacked);
-/* To be called each second: fits the reservations to the rate, and saves the received packet numbers. */
+/* How often a reservation of received packet numbers may have been reported to the endpoint. */
+uint64_t numbers_grants(const struct numbers *n);
+/* Notes what became of a frame of LINK, and how many frames wait for a reservation; reserves in time. */
+void numbers_received(struct numbers *n, macsec_endpoint *e, const macsec_received *got, unsigned waiting);
+/* To be called each second: fits the reservations to the rate, or saves the received packet numbers. */
 void numbers_tick(struct numbers *n, macsec_endpoint *e);
-/* Saves what the receive associations of a channel have accepted, or all if `sci` is NULL: before one ends, or the
- * endpoint does. One that comes again under its key begins above that. */
+/* Saves or notes what the receive associations of a channel have accepted, or all if `sci` is NULL: before one ends, or
+ * the endpoint does. One of another endpoint of this run begins above that. */
 void numbers_save(struct numbers *n, macsec_endpoint *e, const uint8_t *sci);
 /* To be called when an endpoint has ended: the numbers of its keys will be given to other keys. */
 void numbers_forget(struct numbers *n);
-/* The highest packet number that a receive association has accepted, in this run or an earlier one; 0 if none. */
-uint64_t numbers_accepted(const struct numbers *n, const macsec_endpoint *e, const uint8_t sci[8], uint8_t an);
 /* A ticket for the records that are to be written, and whether they were, or could not be. */
 uint64_t numbers_ticket(const struct numbers *n);
 bool numbers_is_written(const struct numbers *n, uint64_t ticket);
 /* How many names are in the journal, and how many there can be. */
 size_t numbers_names(const struct numbers *n);
 size_t numbers_names_max(void);
-/* Saves all received packet numbers, and closes the journal. Returns false, after a message, if that fails. */
+/* Writes the last records, and closes the journal. Returns false, after a message, if received packet numbers are to be
+ * saved and are not. */
 bool numbers_close(struct numbers *n, macsec_endpoint *e);
 
 /* ---- lines.c: lines for the endpoint that begin and end associations ---- */
@@ -675,8 +756,10 @@ enum outcome frames_from_client(struct device *d);
 enum outcome frames_from_link(struct device *d);
 /* Adds to the waiting frames what the endpoint makes of a client frame. Returns its fate. */
 uint32_t frames_send(struct device *d, const struct frame *frame);
-/* Judges a frame of LINK, and delivers it. Returns GONE if TAP is. */
+/* Judges a frame of LINK, after those that wait, and delivers it. Returns GONE if TAP is. */
 enum outcome frames_receive(struct device *d, const struct frame *frame);
+/* Judges a frame, and delivers it, or lets it wait for a reservation. */
+enum outcome frames_present(struct device *d, const struct frame *frame);
 /* Parts of these two: what follows from the answer of the endpoint. */
 void frames_sent(struct device *d, const macsec_sent *sent);
 enum outcome frames_received(struct device *d, const macsec_received *got);
@@ -693,6 +776,8 @@ struct device {
     struct history history;
     struct link link;
     struct floods floods;
+    struct drops drops[DROPS];
+    struct held held;
     struct tap tap;
     struct life life;
     struct control control;

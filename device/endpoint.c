@@ -24,6 +24,8 @@ static void note(struct device *d, const struct words *w, bool passes) {
     }
     if (words_is(w, 0, "A") && words_is(w, 1, "txsa"))
         numbers_reserve(d->numbers, d->endpoint);
+    if (words_is(w, 0, "A") && words_is(w, 1, "rxsa"))
+        numbers_accept(d->numbers, d->endpoint);
 }
 
 /* ---- Creation and end ---- */
@@ -50,7 +52,9 @@ static uint32_t create(struct device *d, const char *line, size_t length) {
     char copy[END_LINE];
     struct text end = { copy, 0, sizeof copy, false };
     struct words w;
-    uint32_t status = numbers_configure(d->numbers, e, line, length, NULL, 0);
+    uint32_t status;
+    numbers_save(d->numbers, d->endpoint, NULL); /* its associations may come again at the new one */
+    status = numbers_configure(d->numbers, e, line, length, NULL, 0);
     if (status != MACSEC_OK)
         return status;
     words_split(&w, line, length);
@@ -96,8 +100,9 @@ static uint32_t configure_lines(struct device *d, const char *text, size_t left,
         words_split(&w, line, length);
         note(d, &w, false);
         if (raised != 0)
-            message("line %u: the association begins at packet number %llx, since lower ones may have been used",
-                    (unsigned)*number, (unsigned long long)raised);
+            message("line %u: the association begins at packet number %llx, since lower ones may have been %s",
+                    (unsigned)*number, (unsigned long long)raised,
+                    words_is(&w, 1, "rxsa") ? "delivered: frames of the peer with those are dropped" : "used");
     }
     return MACSEC_OK;
 }

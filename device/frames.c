@@ -62,15 +62,26 @@ enum outcome frames_received(struct device *d, const macsec_received *got) {
     d->counts.link_in++;
     count_fault(got->status, &d->counts.link_too_short, &d->counts.link_too_long);
     d->counts.no_endpoint += got->status == MACSEC_E_EMPTY;
+    d->counts.link_no_reservation += got->verdict == MACSEC_VERDICT_NO_RESERVATION;
+    d->counts.link_earlier_run += got->verdict == MACSEC_VERDICT_EARLIER_RUN;
     history_received(&d->history, got);
     floods_note(d, got->verdict);
+    numbers_received(d->numbers, d->endpoint, got, held_count(d));
     return got->delivered ? deliver(d, got) : DONE;
 }
 
-enum outcome frames_receive(struct device *d, const struct frame *frame) {
+enum outcome frames_present(struct device *d, const struct frame *frame) {
     macsec_received got;
     (void)macsec_receive(d->endpoint, frame->octets, frame->length, &got); /* the status is in the answer too */
-    return frames_received(d, &got);
+    if (got.verdict != MACSEC_VERDICT_NO_RESERVATION || !held_keep(d, frame->octets, frame->length))
+        return frames_received(d, &got);
+    numbers_received(d->numbers, d->endpoint, &got, held_count(d));
+    return DONE;
+}
+
+enum outcome frames_receive(struct device *d, const struct frame *frame) {
+    enum outcome outcome = held_give(d);
+    return outcome == GONE ? outcome : frames_present(d, frame);
 }
 
 enum outcome frames_from_link(struct device *d) {

@@ -3,10 +3,11 @@
  * lost.
  *
  * The copy is made beside the journal, as after a restart, with one difference: of each key that the first endpoint
- * sends under, it reads up to where that has sent, and not what it has reserved. So a transmit association goes on one
- * packet number later, with the reservation that is there, and no number is used twice: the first endpoint sends
- * nothing more once the copy has taken over, and the copy sends nothing before. The copy does not know the retired
- * keys. An association that has no packet number left is not in it either: it can send and receive nothing. */
+ * sends under, it reads up to where that has sent, and not what it has reserved, and of each receive association up to
+ * where that has accepted. So a transmit association goes on one packet number later, and a receive association at the
+ * same one, with the reservations that are there. No number is used or accepted twice: the first endpoint sends and
+ * receives nothing more once the copy has taken over, and the copy does neither before. The copy does not know the
+ * retired keys. An association that has no packet number left is not in it either: it can send and receive nothing. */
 #include "device.h"
 #include "workers.h"
 #include <inttypes.h>

@@ -36,7 +36,7 @@ static uint32_t begin_at(macsec_endpoint *e, const struct beginning *b, uint64_t
     return t.full ? MACSEC_E_LINE_LONG : macsec_command_line(e, (const uint8_t *)line, t.length);
 }
 
-/* ---- Above the numbers that were used ---- */
+/* ---- Above the numbers that were used, or accepted ---- */
 
 /* Would the endpoint refuse to send from this packet number on, because it may have been used? An association that the
  * test begins is deleted again: it was never enabled, so it has sent nothing. */
@@ -68,41 +68,31 @@ static uint64_t first_unused(macsec_endpoint *e, const struct beginning *b, uint
     return unused;
 }
 
-/* The highest packet number that may have been used: by the line, which was refused, and by the journal. */
-static uint64_t used_of(const macsec_endpoint *e, const struct beginning *b) {
+/* Where the association of a line that was refused can send from: above the number of the line, what the journal says,
+ * and what this run has used, which the endpoint does not show. */
+static uint64_t first_to_send(macsec_endpoint *e, const struct beginning *b) {
     char word[WORD];
     uint64_t number = 0, floor = 0;
-    uint32_t status = b->sends ? macsec_reserve_tx_floor(e, (uint16_t)b->key, &floor)
-                               : macsec_reserve_rx_floor(e, b->sci, (uint8_t)b->an, (uint16_t)b->key, &floor);
+    (void)macsec_reserve_tx_floor(e, (uint16_t)b->key, &floor); /* 0 if there is no such key */
     if (words_copy(&b->words, b->number_at, word, sizeof word))
         number = strtoull(word, NULL, 16);
-    return status == MACSEC_OK && floor > number ? floor : number;
+    return first_unused(e, b, floor > number ? floor : number);
 }
 
-/* Begins the association of a refused line above every packet number that may have been used. */
-static uint32_t begin_above(macsec_endpoint *e, const struct beginning *b, uint64_t used, uint64_t *raised) {
-    uint64_t next = used == UINT64_MAX ? used : used + 1;
-    uint64_t number = b->sends ? first_unused(e, b, used) : next;
+/* Where it can accept from. No association is begun to find out: its end would raise the floor. */
+static uint64_t first_to_accept(const macsec_endpoint *e, const struct beginning *b) {
+    uint64_t floor = 0;
+    (void)macsec_reserve_rx_floor(e, b->sci, (uint8_t)b->an, (uint16_t)b->key, &floor);
+    return floor == UINT64_MAX ? floor : floor + 1;
+}
+
+/* Begins the association of a refused line above every packet number that may have been used or accepted. */
+static uint32_t begin_above(macsec_endpoint *e, const struct beginning *b, uint64_t *raised) {
+    uint64_t number = b->sends ? first_to_send(e, b) : first_to_accept(e, b);
     uint32_t status = begin_at(e, b, number);
     if (status == MACSEC_OK)
         *raised = number;
     return status == MACSEC_E_PN_RANGE ? MACSEC_E_PN_FLOOR : status; /* no packet number is left to the key */
-}
-
-/* ---- Above the numbers that were accepted ---- */
-
-/* A receive association has begun. If it would accept what an association of its key has accepted, it begins again. */
-static uint32_t begin_above_accepted(struct numbers *n, macsec_endpoint *e, const struct beginning *b,
-                                     uint64_t *raised) {
-    macsec_rx_sa sa;
-    uint64_t accepted = numbers_accepted(n, e, b->sci, (uint8_t)b->an);
-    uint32_t status = macsec_get_rx_sa(e, b->sci, (uint8_t)b->an, &sa);
-    if (status != MACSEC_OK || sa.lowest_high != 0 || sa.lowest > accepted)
-        return status;
-    status = macsec_delete_rx_sa(e, b->sci, (uint8_t)b->an);
-    if (status != MACSEC_OK)
-        return status;
-    return accepted == UINT64_MAX ? MACSEC_E_PN_FLOOR : begin_above(e, b, accepted, raised);
 }
 
 /* ---- Lines ---- */
@@ -122,9 +112,5 @@ uint32_t lines_carry_out(struct numbers *n, macsec_endpoint *e, const char *line
     words_split(&w, line, length);
     save_before(n, e, &w);
     status = macsec_command_line(e, (const uint8_t *)line, length);
-    if ((status != MACSEC_OK && status != MACSEC_E_PN_FLOOR) || !begins(&b, &w))
-        return status;
-    if (status == MACSEC_E_PN_FLOOR)
-        status = begin_above(e, &b, used_of(e, &b), raised);
-    return status == MACSEC_OK && !b.sends ? begin_above_accepted(n, e, &b, raised) : status;
+    return status == MACSEC_E_PN_FLOOR && begins(&b, &w) ? begin_above(e, &b, raised) : status;
 }

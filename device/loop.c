@@ -121,6 +121,8 @@ static int on_clock(struct device *d) {
     if (read(d->clock, &times, sizeof times) != (ssize_t)sizeof times)
         return GOES_ON;
     numbers_tick(d->numbers, d->endpoint);
+    held_tick(d);
+    drops_tick(d);
     link_count_lost(&d->link, &d->counts);
     floods_end(d);
     port_tick(d);
@@ -231,6 +233,8 @@ int loop_run(struct device *d) {
         }
         for (int i = 0; i < count && result == GOES_ON; i++)
             result = on_event(d, &events[i]);
+        if (result == GOES_ON)
+            result = end_of(d, held_give(d));
         if (result == GOES_ON)
             result = end_of(d, parallel_go_on(d));
         if (result == GOES_ON)

@@ -45,7 +45,7 @@ static int start(struct device *d) {
     if (result == 0)
         result = journals_check_disk(d->name, false);
     if (result == 0)
-        result = numbers_open(&d->numbers, d->name, &d->counts);
+        result = numbers_open(&d->numbers, d->name, !d->config.behind, &d->counts);
     if (result == 0)
         result = journals_check_keys(&d->config, d->name);
     if (result == 0)

@@ -150,14 +150,22 @@ static void note_change(struct names *n, struct name *name) {
     name->changed = true;
 }
 
-struct name *names_note(struct names *n, const macsec_record *record, uint32_t key, bool sends) {
+uint64_t names_last(const struct name *name) {
+    return number_of(name->made.octets);
+}
+
+bool names_cover(const struct name *name, const macsec_record *record) {
+    return name->is_durable && name->durable_last >= number_of(record->octets);
+}
+
+struct name *names_note(struct names *n, const macsec_record *record, uint32_t key, bool reserves) {
     bool existed = names_find(n, record->octets) != NULL;
     struct name *name = name_of(n, record->octets);
     if (name == NULL)
         return NULL;
     if (name->key != key) {
         name->key = key;
-        name->sends = sends;
+        name->reserves = reserves;
         name->came_again = name->came_again || existed;
         name->again = name->again || name->given_up != 0; /* a record has to follow the mark */
         name->given_up = 0;
@@ -169,8 +177,12 @@ struct name *names_note(struct names *n, const macsec_record *record, uint32_t k
     return name;
 }
 
-uint64_t names_last(const struct name *name) {
-    return number_of(name->made.octets);
+void names_accept(struct names *n, const macsec_record *record) {
+    struct name *name = names_find(n, record->octets);
+    if (name == NULL)
+        return;
+    memcpy(name->accepted, record->octets + NAME, sizeof name->accepted);
+    name->has_accepted = true;
 }
 
 void names_give_up(struct names *n, uint32_t key) {
@@ -297,10 +309,14 @@ size_t names_copy_room(const struct names *n) {
 }
 
 size_t names_copy(const struct names *n, const macsec_record *instead, size_t count, uint8_t *out) {
+    uint8_t *at = out + MACSEC_RECORD_LENGTH;
     memcpy(out, n->header, MACSEC_RECORD_LENGTH);
-    for (size_t i = 0; i < n->count; i++) {
-        const macsec_record *record = instead_of(&n->at[i], instead, count);
-        memcpy(out + (i + 1) * MACSEC_RECORD_LENGTH, record == NULL ? &n->at[i].made : record, MACSEC_RECORD_LENGTH);
+    for (size_t i = 0; i < n->count; i++, at += MACSEC_RECORD_LENGTH) {
+        const struct name *name = &n->at[i];
+        const macsec_record *record = instead_of(name, instead, count);
+        memcpy(at, record == NULL ? &name->made : record, MACSEC_RECORD_LENGTH);
+        if (record == NULL && name->has_accepted)
+            memcpy(at + NAME, name->accepted, sizeof name->accepted);
     }
     return (n->count + 1) * MACSEC_RECORD_LENGTH;
 }
@@ -324,7 +340,7 @@ void names_written(struct names *n, const uint8_t *records, size_t length,
             continue;
         name->durable_last = number_of(records + at);
         memcpy(name->durable.octets, records + at, MACSEC_RECORD_LENGTH);
-        if (report != NULL && name->sends && name->key != NO_KEY)
+        if (report != NULL && name->reserves && name->key != NO_KEY)
             report(context, &name->durable);
     }
 }

@@ -1,5 +1,8 @@
 /* Packet numbers that outlive a run. The library decides what a frame may use and what the records are, names.c keeps
- * the latest record of each name, and saver.c writes them. A reservation counts once its record is durable. */
+ * the latest record of each name, and saver.c writes them. A reservation counts once its record is durable.
+ *
+ * What is sent is reserved ahead. What is received is too, unless the configuration says `device receive behind`: then
+ * it is saved afterwards. */
 #define _GNU_SOURCE
 #include "device.h"
 #include "journal.h"
@@ -42,8 +45,12 @@ struct seen {
 struct numbers {
     struct journal journal; /* the thread's, while it has an order */
     struct names names;
+    struct paces paces;
     struct saver *saver;
     struct counts *counts;
+    uint64_t grants; /* how often a reservation of received packet numbers may have been reported */
+    bool ahead;      /* is reserved what is received? */
+    bool begun;      /* may frames come now? */
     uint8_t *octets; /* of the order */
     size_t length, room;
     uint64_t orders, done;         /* how many orders were given, and were carried out */
@@ -97,12 +104,13 @@ static int read_names(struct numbers *n) {
     return status == MACSEC_E_NOT_JOURNAL ? ENDS_WRONG : ENDS_FAILED;
 }
 
-int numbers_open(struct numbers **n, const char *name, struct counts *counts) {
+int numbers_open(struct numbers **n, const char *name, bool ahead, struct counts *counts) {
     char path[PATH_MAX];
     struct journal_fault fault;
     int result;
     *n = &the_numbers;
     the_numbers.counts = counts;
+    the_numbers.ahead = ahead;
     the_numbers.amount = JOURNAL_AMOUNT_MIN;
     if (!journals_path(path, sizeof path, name))
         return ENDS_WRONG;
@@ -123,6 +131,14 @@ int numbers_folder(const struct numbers *n) {
 
 int numbers_file(const struct numbers *n) {
     return saver_file(n->saver);
+}
+
+uint64_t numbers_grants(const struct numbers *n) {
+    return n->grants;
+}
+
+bool numbers_are_ahead(const struct numbers *n) {
+    return n->ahead;
 }
 
 size_t numbers_names(const struct numbers *n) {
@@ -213,6 +229,7 @@ static bool take_result(struct numbers *n, macsec_endpoint *e) {
         return true;
     }
     names_written(&n->names, n->octets, n->length, grant, e);
+    n->grants++;
     if (n->failed)
         message("the journal can be written again");
     n->failed = n->anew = false;
@@ -233,12 +250,7 @@ bool numbers_is_written(const struct numbers *n, uint64_t ticket) {
     return ticket <= n->done || n->waits;
 }
 
-int numbers_start(struct numbers *n, macsec_endpoint *e) {
-    numbers_reserve(n, e); /* the first reservation has shown how long the disk takes */
-    return saver_start(n->saver);
-}
-
-/* ---- Reserving ---- */
+/* ---- Reserving what is sent ---- */
 
 /* Reserves for a transmit association. What is durable already is reported first: an endpoint that takes over goes on
  * with the reservation of the one before. */
@@ -265,8 +277,87 @@ void numbers_reserve(struct numbers *n, macsec_endpoint *e) {
     numbers_go_on(n, e);
 }
 
+void numbers_used(struct numbers *n, macsec_endpoint *e, unsigned frames, bool lacked) {
+    n->unseen += frames;
+    n->rate += frames;
+    if (n->unseen >= n->amount / 16 || (lacked && !n->waits && !saver_is_busy(n->saver)))
+        numbers_reserve(n, e);
+}
+
+/* ---- Reserving what is received ---- */
+
+/* Has a receive association a packet number reserved? */
+static bool may_accept(const macsec_endpoint *e, const uint8_t sci[8], uint8_t an) {
+    macsec_record record;
+    return macsec_reserve_to_accept(e, sci, an, 2, 0, &record) != MACSEC_OK;
+}
+
+/* Reserves for a receive association, after the packet number of a frame that was dropped or 0. What is durable already
+ * is reported first, as for a transmit association: it may have been reported to an endpoint that did not take over, or
+ * when this association was not there. Returns false if nothing more is wanted. */
+static bool accept_for(struct numbers *n, macsec_endpoint *e, const uint8_t sci[8], uint8_t an, uint64_t pn) {
+    uint64_t amount = paces_amount(paces_of(&n->paces, sci), n->slow);
+    macsec_rx_sa sa;
+    macsec_record record;
+    const struct name *name;
+    if (macsec_get_rx_sa(e, sci, an, &sa) != MACSEC_OK ||
+        macsec_reserve_to_accept(e, sci, an, amount, pn, &record) != MACSEC_OK)
+        return false;
+    name = names_find(&n->names, record.octets);
+    if (name != NULL && name->is_durable && (names_cover(name, &record) || !may_accept(e, sci, an))) {
+        grant(e, &name->durable);
+        n->grants++;
+        if (macsec_reserve_to_accept(e, sci, an, amount, pn, &record) != MACSEC_OK)
+            return false;
+    }
+    return names_note(&n->names, &record, sa.key, true) != NULL || fails_for_memory(n);
+}
+
+/* Reserves for all receive associations, from when frames may come. */
+static void accept_all(struct numbers *n, macsec_endpoint *e) {
+    uint8_t sci[8];
+    if (!n->ahead || !n->begun)
+        return;
+    for (size_t place = 0; macsec_get_rx_sc(e, place, sci) == MACSEC_OK; place++)
+        for (uint8_t an = 0; an < MACSEC_AN_COUNT; an++)
+            (void)accept_for(n, e, sci, an, 0);
+}
+
+void numbers_accept(struct numbers *n, macsec_endpoint *e) {
+    accept_all(n, e);
+    numbers_go_on(n, e);
+}
+
+void numbers_received(struct numbers *n, macsec_endpoint *e, const macsec_received *got, unsigned waiting) {
+    bool lacks = got->verdict == MACSEC_VERDICT_NO_RESERVATION, asks;
+    struct pace *pace;
+    if (!n->ahead || !got->has_sa || (!lacks && got->verdict != MACSEC_VERDICT_OK))
+        return;
+    pace = paces_of(&n->paces, got->sci);
+    asks = lacks ? paces_lacked(pace, n->orders + !saver_is_busy(n->saver), waiting) : paces_accepted(pace);
+    if (!asks)
+        return;
+    if (accept_for(n, e, got->sci, got->an, got->pn))
+        numbers_go_on(n, e);
+    else if (lacks)
+        pace->asked = 0; /* no order follows */
+}
+
+/* ---- Beginning ---- */
+
+void numbers_begin(struct numbers *n, macsec_endpoint *e) {
+    n->begun = true;
+    accept_all(n, e);
+    numbers_reserve(n, e); /* the first reservation has shown how long the disk takes */
+}
+
+int numbers_start(struct numbers *n, macsec_endpoint *e) {
+    numbers_begin(n, e);
+    return saver_start(n->saver);
+}
+
 /* Has each transmit association that is enabled a packet number reserved? */
-static bool has_reserved(const macsec_endpoint *e) {
+static bool may_send_all(const macsec_endpoint *e) {
     macsec_tx_sa sa;
     macsec_record record;
     bool all = true;
@@ -276,34 +367,45 @@ static bool has_reserved(const macsec_endpoint *e) {
     return all;
 }
 
+/* Has each receive association that is enabled one, if it needs that? */
+static bool may_accept_all(const struct numbers *n, const macsec_endpoint *e) {
+    macsec_rx_sa sa;
+    uint8_t sci[8];
+    bool all = true;
+    for (size_t place = 0; n->ahead && macsec_get_rx_sc(e, place, sci) == MACSEC_OK; place++)
+        for (uint8_t an = 0; an < MACSEC_AN_COUNT; an++)
+            if (macsec_get_rx_sa(e, sci, an, &sa) == MACSEC_OK && sa.on)
+                all = may_accept(e, sci, an) && all;
+    return all;
+}
+
 bool numbers_reserve_soon(struct numbers *n, macsec_endpoint *e, int milliseconds) {
+    accept_all(n, e);
     numbers_reserve(n, e);
-    if (!has_reserved(e)) {
+    if (!may_send_all(e) || !may_accept_all(n, e)) {
         saver_wait(n->saver, milliseconds);
         numbers_go_on(n, e);
     }
-    return has_reserved(e) || !n->waits;
-}
-
-void numbers_used(struct numbers *n, macsec_endpoint *e, unsigned frames, bool lacked) {
-    n->unseen += frames;
-    n->rate += frames;
-    if (n->unseen >= n->amount / 16 || (lacked && !n->waits && !saver_is_busy(n->saver)))
-        numbers_reserve(n, e);
+    return (may_send_all(e) && may_accept_all(n, e)) || !n->waits;
 }
 
 /* ---- Saving ---- */
 
-/* Saves what a receive association has accepted, if that has changed. Returns false if memory runs out. */
+/* Saves what a receive association has accepted, if that has changed. Where more is reserved it is only noted, for
+ * another endpoint of this run. Returns false if memory runs out. */
 static bool save_sa(struct numbers *n, macsec_endpoint *e, const uint8_t sci[8], uint8_t an, struct seen *seen) {
     macsec_rx_sa sa;
     macsec_record record;
-    if (macsec_get_rx_sa(e, sci, an, &sa) != MACSEC_OK || (sa.lowest <= 1 && sa.lowest_high == 0))
+    if (macsec_get_rx_sa(e, sci, an, &sa) != MACSEC_OK || (!n->ahead && sa.lowest <= 1 && sa.lowest_high == 0))
         return true;
-    if (seen->lowest == sa.lowest && seen->key == sa.key && memcmp(seen->sci, sci, sizeof seen->sci) == 0)
+    if (!n->ahead && seen->lowest == sa.lowest && seen->key == sa.key && memcmp(seen->sci, sci, sizeof seen->sci) == 0)
         return true;
     if (macsec_reserve_to_save(e, sci, an, &record) != MACSEC_OK)
         return true;
+    if (n->ahead) {
+        names_accept(&n->names, &record);
+        return true;
+    }
     if (names_note(&n->names, &record, sa.key, false) == NULL)
         return fails_for_memory(n);
     memcpy(seen->sci, sci, sizeof seen->sci);
@@ -331,14 +433,7 @@ void numbers_save(struct numbers *n, macsec_endpoint *e, const uint8_t *sci) {
 void numbers_forget(struct numbers *n) {
     names_detach(&n->names, NO_KEY);
     memset(n->seen, 0, sizeof n->seen);
-}
-
-uint64_t numbers_accepted(const struct numbers *n, const macsec_endpoint *e, const uint8_t sci[8], uint8_t an) {
-    macsec_record record;
-    const struct name *name = NULL;
-    if (macsec_reserve_to_save(e, sci, an, &record) == MACSEC_OK)
-        name = names_find(&n->names, record.octets);
-    return name == NULL ? 0 : names_last(name);
+    paces_clear(&n->paces);
 }
 
 /* ---- Keys that are given up ---- */
@@ -375,7 +470,10 @@ void numbers_tick(struct numbers *n, macsec_endpoint *e) {
     n->age += n->age < STEADY_AFTER;
     note_seconds(n, saver_is_busy(n->saver) ? n->ticks : 0);
     n->ticks++;
-    (void)save_all(n, e, NULL);
+    paces_tick(&n->paces);
+    accept_all(n, e);
+    if (!n->ahead)
+        (void)save_all(n, e, NULL);
     numbers_reserve(n, e);
     look_at_fill(n);
 }
@@ -392,9 +490,13 @@ static bool write_last(struct numbers *n, macsec_endpoint *e) {
     return false;
 }
 
+/* No record lowers a reservation: a later run has to read all that was durable. So what is reserved ahead and was not
+ * accepted stays reserved, and nothing that the next run needs is missing if the last records can't be written. */
 bool numbers_close(struct numbers *n, macsec_endpoint *e) {
     bool good = save_all(n, e, NULL);
     good = write_last(n, e) && good;
+    if (n->ahead)
+        good = true;
     if (!good)
         message("the journal could not be written at the end: frames that were received since it was written last can "
                 "be delivered again, if somebody has recorded them. Install new keys, or let no such frame reach LINK");
@@ -422,7 +524,7 @@ uint32_t numbers_configure(const struct numbers *n, macsec_endpoint *e, const ch
     if (journal == NULL)
         return MACSEC_E_MEMORY;
     octets = names_copy(&n->names, instead, count, journal);
-    status = macsec_reserve_configure(e, (const uint8_t *)line, length, journal, octets, false, &number);
+    status = macsec_reserve_configure(e, (const uint8_t *)line, length, journal, octets, n->ahead, &number);
     free(journal);
     return status;
 }

@@ -122,11 +122,14 @@ enum outcome parallel_from_client(struct device *d) {
 
 /* ---- Receiving ---- */
 
-/* Judges the frame of the first place, which is finished, and delivers it. */
+/* Judges the frame of the first place, which is finished, and delivers it, or lets it wait for a reservation. */
 static enum outcome receive_first(struct device *d, struct ring_place *p) {
     static uint8_t out[MACSEC_FRAME_MAX];
     macsec_received got = MACSEC_RECEIVED_INIT;
     macsec_finished finished;
+    bool waits;
+    if (held_give(d) == GONE)
+        return GONE;
     (void)macsec_finish_receive(d->endpoint, &p->slot, out, sizeof out, &finished); /* as in macsec_receive */
     got.frame = out;
     got.length = finished.length;
@@ -136,8 +139,13 @@ static enum outcome receive_first(struct device *d, struct ring_place *p) {
     got.an = finished.an;
     got.has_sa = finished.has_sa;
     got.delivered = finished.delivered;
+    got.pn = finished.pn;
+    waits = got.verdict == MACSEC_VERDICT_NO_RESERVATION && p->length > 0 && held_keep(d, p->out, p->length);
     workers_remove(d->workers, RECEIVING);
-    return frames_received(d, &got);
+    if (!waits)
+        return frames_received(d, &got);
+    numbers_received(d->numbers, d->endpoint, &got, held_count(d));
+    return DONE;
 }
 
 /* Delivers the finished frames that are first. */
@@ -168,6 +176,8 @@ static enum outcome plan_link_frame(struct device *d, const struct frame *frame)
         return outcome;
     if (macsec_plan_receive(d->endpoint, &p->slot, frame->octets, frame->length, &planned) != MACSEC_OK)
         return frames_receive(d, frame); /* it counts and judges nothing, and says why */
+    p->length = numbers_are_ahead(d->numbers) ? frame->length : 0;
+    memcpy(p->out, frame->octets, p->length);
     workers_put(d->workers, RECEIVING, planned.job ? workers_copies(d->workers, d->endpoint, planned.key) : NULL);
     return DONE;
 }

@@ -84,11 +84,15 @@ static struct result change(struct device *d, int client, const struct words *w,
     return r;
 }
 
-/* Does a request begin to send, or end receive associations? */
-static bool makes_records(const struct words *w) {
+/* Does a request begin an association for which packet numbers are reserved, or end one whose numbers are saved? */
+static bool makes_records(const struct device *d, const struct words *w) {
     if (words_is(w, 0, "open") || words_is(w, 0, "close"))
         return true;
-    return words_is(w, 0, "A") && (words_is(w, 1, "txsa") || words_is(w, 1, "rxdel") || words_is(w, 1, "rxscdel"));
+    if (words_is(w, 0, "A") && words_is(w, 1, "txsa"))
+        return true;
+    return words_is(w, 0, "A") &&
+           (numbers_are_ahead(d->numbers) ? words_is(w, 1, "rxsa")
+                                          : words_is(w, 1, "rxdel") || words_is(w, 1, "rxscdel"));
 }
 
 bool requests_answer(struct device *d, struct text *t, int client, char *request, size_t length) {
@@ -116,5 +120,5 @@ bool requests_answer(struct device *d, struct text *t, int client, char *request
         t->length = 0;
         text_add(t, "fault AnswerLong\n");
     }
-    return makes_records(&w);
+    return makes_records(d, &w);
 }

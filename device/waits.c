@@ -1,6 +1,6 @@
-/* Answers that wait for the journal. A request that begins to send or ends an association is carried out at once, and
- * answered when its records are on the disk: so a client that enables the new association then loses no frame, and
- * knows that what the old one had accepted is saved. It does not wait for ever: a disk can be slow or fail. */
+/* Answers that wait for the journal. A request that begins or ends an association is carried out at once, and answered
+ * when its records are on the disk: so a client that enables the new association then loses no frame, and knows that
+ * what the old one had accepted is saved. It does not wait for ever: a disk can be slow or fail. */
 #define _GNU_SOURCE
 #include "device.h"
 #include <errno.h>

@@ -22,7 +22,7 @@ struct ring_place {
     macsec_slot slot;              /* the frame with its job */
     size_t length;                 /* of what is sent; 0: it could not be sealed */
     uint32_t fate;                 /* of a client frame */
-    uint8_t out[MACSEC_FRAME_MAX]; /* what is sent */
+    uint8_t out[MACSEC_FRAME_MAX]; /* what is sent; or a copy of a frame of LINK, since it may have to wait */
 };
 
 /* Frames are numbered from 0 on: those from `first` to before `end` are in it. */

@@ -145,7 +145,8 @@ A txon 0
 A rxsc 02000000000{peer}0001
 A rxsa 02000000000{peer}0001 0 1 1 0000000{peer}
 A rxon 02000000000{peer}0001 0
-"""
+device receive behind
+"""  # so that frames of the peer pass at once after a kill
         )
         self.config.chmod(0o600)
         if not (self.folder / "state/macsec0.journal").exists():

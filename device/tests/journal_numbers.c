@@ -1,10 +1,14 @@
-/* A sender that reserves as macsecd does (device/numbers.c, without its thread), for the test journal.
+/* An end that reserves as macsecd does (device/numbers.c, without its thread), for the test journal. It sends, and
+ * receives what its peer sends: first what the peer has sent before, then new frames.
  *
  *     journal_numbers create JOURNAL
  *     journal_numbers send JOURNAL LIMIT SUITE AMOUNT FRAMES CAPTURE
+ *     journal_numbers paces
  *
- * The arguments and the output are those of journal.c, but LIMIT, SUITE and AMOUNT are not used. The clock ticks a few
- * frames after a failure: each tick makes reservations longer, since no time passes. */
+ * The arguments and the output are those of journal.c, but LIMIT, SUITE and AMOUNT are not used, and CAPTURE also gets
+ * the frames that are delivered. The clock ticks a few frames after a failure: each tick makes reservations longer,
+ * since no time passes. If nothing fails, each new frame has to be delivered. paces prints how many packet numbers are
+ * reserved for a channel that is quiet, busy, quiet again, and whose frames lack a reservation. */
 #define _GNU_SOURCE
 #include "device.h"
 #include "journal.h"
@@ -17,7 +21,11 @@
 #include <string.h>
 #include <unistd.h>
 
-enum { FRAME_LENGTH = 64, KEYS = 2, TURN = 16, TICK = 4, LINE = 128, LINK_MAX = 256 };
+enum { FRAME_LENGTH = 64, KEYS = 2, TURN = 16, TICK = 4, RECORDED = 10, LINE = 128, LINK_MAX = 256 };
+
+static const char own[] = "0200000000010001", other[] = "0200000000020001";
+static const uint8_t other_sci[8] = { 2, 0, 0, 0, 0, 2, 0, 1 };
+static const uint8_t client_frame[FRAME_LENGTH] = { 2, 0, 0, 0, 0, 9, 2, 0, 0, 0, 0, 8, 0x88, 0xb5 };
 
 static const char *journal_path;
 
@@ -57,35 +65,75 @@ int confine_saver(void) {
     return 0;
 }
 
-/* ---- The sender ---- */
+/* ---- Both ends ---- */
 
-static void carry_out(struct numbers *n, macsec_endpoint *e, const char *form, ...) {
-    char line[LINE];
-    va_list arguments;
-    uint64_t raised;
-    uint32_t status;
-    va_start(arguments, form);
-    vsnprintf(line, sizeof line, form, arguments);
-    va_end(arguments);
-    status = lines_carry_out(n, e, line, strlen(line), &raised);
+static void must(const char *line, uint32_t status) {
     if (status == MACSEC_OK)
         return;
     fprintf(stderr, "journal_numbers: %s: %s\n", line, macsec_status_name(status));
     exit(1);
 }
 
-/* Creates an endpoint with its keys and associations. Key and association have the same number. */
+/* Carries out a line, without a journal if `n` is NULL. */
+static void carry_out(struct numbers *n, macsec_endpoint *e, const char *form, ...) {
+    char line[LINE];
+    va_list arguments;
+    uint64_t raised;
+    va_start(arguments, form);
+    vsnprintf(line, sizeof line, form, arguments);
+    va_end(arguments);
+    must(line, n == NULL ? macsec_command_line(e, (const uint8_t *)line, strlen(line))
+                         : lines_carry_out(n, e, line, strlen(line), &raised));
+}
+
+/* Key and association have the same number. */
+static void install_key(struct numbers *n, macsec_endpoint *e, unsigned an) {
+    char key[33];
+    for (int i = 0; i < 16; i++)
+        snprintf(key + 2 * i, 3, "%02x", 0xa0 + an); /* only for this test */
+    carry_out(n, e, "A key %u %s 0", an, key);
+}
+
+/* Creates the endpoint with its keys and associations. */
 static void begin(struct numbers *n, macsec_endpoint *e) {
-    static const char end[] = "end A gcm128 0200000000010001 1600 sci";
+    char end[LINE];
+    snprintf(end, sizeof end, "end A gcm128 %s 1600 sci", own);
     if (numbers_configure(n, e, end, strlen(end), NULL, 0) != MACSEC_OK)
         exit(3);
     for (unsigned an = 0; an < KEYS; an++) {
-        char key[33];
-        for (int i = 0; i < 16; i++)
-            snprintf(key + 2 * i, 3, "%02x", 0xa0 + an); /* only for this test */
-        carry_out(n, e, "A key %u %s 0", an, key);
+        install_key(n, e, an);
         carry_out(n, e, "A txsa %u %u 1 conf", an, an);
         numbers_reserve(n, e);
+    }
+    carry_out(n, e, "A rxsc %s", other);
+    for (unsigned an = 0; an < KEYS; an++) {
+        carry_out(n, e, "A rxsa %s %u %u 1", other, an, an);
+        carry_out(n, e, "A rxon %s %u", other, an);
+    }
+    numbers_begin(n, e);
+}
+
+/* The other end. */
+struct peer {
+    macsec_endpoint e;
+    uint64_t next[KEYS], first[KEYS]; /* the next packet number, and the first one that was not sent before */
+    unsigned long lacked;             /* new frames that were not delivered */
+};
+
+/* Creates it. Under each key it begins with packet numbers that the receiver may have accepted. */
+static void begin_peer(struct peer *p, const macsec_endpoint *receiver) {
+    char end[LINE];
+    uint32_t line;
+    memset(p, 0, sizeof *p);
+    snprintf(end, sizeof end, "end A gcm128 %s 1600 sci", other);
+    must(end, macsec_configure(&p->e, (const uint8_t *)end, strlen(end), &line));
+    for (unsigned an = 0; an < KEYS; an++) {
+        macsec_rx_sa sa;
+        must("rx_sa", macsec_get_rx_sa(receiver, other_sci, (uint8_t)an, &sa));
+        p->first[an] = sa.lowest;
+        p->next[an] = sa.lowest > RECORDED ? sa.lowest - RECORDED : 1;
+        install_key(NULL, &p->e, an);
+        carry_out(NULL, &p->e, "A txsa %u %u %llx conf", an, an, (unsigned long long)p->next[an]);
     }
 }
 
@@ -107,10 +155,23 @@ static void capture(int file, const uint8_t *frame, size_t length) {
         exit(1);
 }
 
-static bool send_frame(macsec_endpoint *e, int file) {
-    static const uint8_t frame[FRAME_LENGTH] = { 2, 0, 0, 0, 0, 9, 2, 0, 0, 0, 0, 8, 0x88, 0xb5 };
+/* The peer sends a frame, which is received. */
+static void receive_frame(struct numbers *n, macsec_endpoint *e, struct peer *p, unsigned an, int file) {
     macsec_sent sent;
-    (void)macsec_send(e, frame, sizeof frame, &sent);
+    macsec_received got;
+    must("send", macsec_send(&p->e, client_frame, sizeof client_frame, &sent));
+    must("receive", macsec_receive(e, sent.frame, sent.length, &got));
+    if (got.delivered)
+        capture(file, sent.frame, sent.length);
+    else if (p->next[an] >= p->first[an])
+        p->lacked++;
+    p->next[an]++;
+    numbers_received(n, e, &got, 1);
+}
+
+static bool send_frame(macsec_endpoint *e, int file) {
+    macsec_sent sent;
+    (void)macsec_send(e, client_frame, sizeof client_frame, &sent);
     if (sent.fate == MACSEC_FATE_PROTECTED)
         capture(file, sent.frame, sent.length);
     else if (sent.fate != MACSEC_FATE_NO_RESERVATION)
@@ -120,35 +181,80 @@ static bool send_frame(macsec_endpoint *e, int file) {
 
 static int run_send(unsigned long frames, const char *out) {
     macsec_endpoint e = MACSEC_ENDPOINT_INIT;
+    struct peer peer;
     struct numbers *n;
     struct counts counts = { 0 };
     unsigned long sent = 0;
     uint64_t failures = 0;
     int file;
-    if (numbers_open(&n, "journal", &counts) != 0)
+    if (numbers_open(&n, "journal", true, &counts) != 0)
         return 3;
     begin(n, &e);
+    begin_peer(&peer, &e);
     file = create_capture(out);
     for (unsigned long it = 0; it < frames; it++) {
+        unsigned an = (unsigned)(it / TURN % KEYS);
         bool went;
-        if (it % TURN == 0)
-            carry_out(n, &e, "A txon %u", (unsigned)(it / TURN % KEYS));
+        if (it % TURN == 0) {
+            carry_out(n, &e, "A txon %u", an);
+            carry_out(NULL, &peer.e, "A txon %u", an);
+        }
         went = send_frame(&e, file);
         sent += went;
         numbers_used(n, &e, went, !went);
+        receive_frame(n, &e, &peer, an, file);
         if (counts.journal_failed != failures && it % TICK == TICK - 1) {
             failures = counts.journal_failed;
             numbers_tick(n, &e);
         }
     }
-    if (!numbers_close(n, &e) && counts.journal_failed == 0)
+    if ((!numbers_close(n, &e) || peer.lacked > 0) && counts.journal_failed == 0)
         return 1;
-    printf("sent %lu dropped %lu failures %" PRIu64 "\n", sent, frames - sent, counts.journal_failed);
+    printf("sent %lu dropped %lu failures %" PRIu64 " lacked %lu\n", sent, frames - sent, counts.journal_failed,
+           peer.lacked);
+    macsec_free(&peer.e);
     macsec_free(&e);
     return close(file) == 0 ? 0 : 1;
 }
 
+/* ---- Amounts ---- */
+
+static void receive_frames(struct pace *p, unsigned count) {
+    for (unsigned it = 0; it < count; it++)
+        (void)paces_accepted(p);
+}
+
+static void print_amount(const char *what, struct pace *p, double slow) {
+    printf("%s %" PRIu64 "\n", what, paces_amount(p, slow));
+}
+
+static int run_paces(void) {
+    static struct paces paces;
+    struct pace *p = paces_of(&paces, other_sci);
+    print_amount("quiet", p, 0);
+    receive_frames(p, 1000);
+    print_amount("busy", p, 0);
+    paces_tick(&paces);
+    print_amount("slow", p, 5);
+    for (int tick = 0; tick < 60; tick++) {
+        print_amount("falling", p, 0);
+        paces_tick(&paces);
+    }
+    for (unsigned frame = 0; frame < 300; frame++)
+        (void)paces_lacked(p, 1, frame);
+    print_amount("first", p, 0);
+    (void)paces_lacked(p, 2, 300);
+    print_amount("next", p, 0);
+    paces_tick(&paces);
+    print_amount("later", p, 0);
+    receive_frames(p, 1 << 20);
+    print_amount("most", p, 0);
+    return 0;
+}
+
 int main(int count, char **words) {
+    if (count == 2 && strcmp(words[1], "paces") == 0)
+        return run_paces();
     if (count < 3)
         return 2;
     journal_path = words[2];

@@ -43,14 +43,24 @@ class Options(NamedTuple):
 
 
 def build_numbers(library: pathlib.Path, folder: pathlib.Path) -> pathlib.Path:
-    """Builds the sender that reserves as macsecd does. Its file is short, and so are its reservations."""
+    """Builds the end that reserves as macsecd does. Its file is short, and so are its reservations."""
     folder.mkdir(parents=True, exist_ok=True)
     program = folder / "journal_numbers"
-    parts = ("journal", "journals", "lines", "names", "numbers", "saver", "text", "words")
-    sizes = ["-DNUMBERS_FILE_LENGTH=320", "-DJOURNAL_AMOUNT_MIN=8"]
+    parts = ("journal", "journals", "lines", "names", "numbers", "paces", "saver", "text", "words")
+    sizes = ["-DNUMBERS_FILE_LENGTH=320", "-DJOURNAL_AMOUNT_MIN=8", "-DPACES_LEAST=8"]
     sources = [str(ROOT / f"device/{it}.c") for it in (*parts, "tests/journal_numbers")]
     command = ["gcc", *FLAGS, "-pedantic", "-pthread", *sizes, "-o", str(program), *sources, str(library)]
     if subprocess.call(command):
+        sys.exit("device/tests/journal: a program was not built")
+    return program
+
+
+def build_held(folder: pathlib.Path) -> pathlib.Path:
+    """Builds frames that wait for a reservation, with sanitizers."""
+    folder.mkdir(parents=True, exist_ok=True)
+    program = folder / "journal_held"
+    sources = [str(ROOT / f"device/{it}.c") for it in ("held", "tests/journal_held")]
+    if subprocess.call(["gcc", *FLAGS, "-pedantic", *SANITIZED, "-o", str(program), *sources]):
         sys.exit("device/tests/journal: a program was not built")
     return program
 

@@ -7,7 +7,7 @@ import os
 import stat
 
 from house.reporting import report
-from macsecd_world import End, World, expect, ping
+from macsecd_world import End, World, expect, ping_again
 
 # Lines for the device, and with which status and message macsecd ends.
 WRONG_DEVICES = (
@@ -76,4 +76,4 @@ def check_files(world: World) -> None:
     b.write_config()
     b.create_journal()
     b.start()
-    report(ping(a) == 3, "`device persist`: no replies after a restart")
+    report(ping_again(a) == 3, "`device persist`: no replies after a restart")

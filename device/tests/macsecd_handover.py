@@ -155,6 +155,7 @@ def losses(end: End) -> dict[str, int]:
         "NoSA ",
         "BadTag",
         "NoReservation",
+        "EarlierRun",
         "Lost",
         "Refused",
         "NoEndpoint",

@@ -8,7 +8,7 @@ import shutil
 import subprocess
 
 from house.reporting import report
-from macsecd_world import End, World, expect, ping
+from macsecd_world import End, World, expect, ping_again
 
 
 def on(end: End, kind: str, *words: str) -> subprocess.CompletedProcess[str]:
@@ -59,7 +59,7 @@ def arrange(end: End) -> tuple[pathlib.Path, pathlib.Path]:
 def try_start(end: End, what: str, journal: pathlib.Path, peer: End) -> None:
     """macsecd has to start and to send."""
     end.start()
-    report(ping(peer) == 3, f"no replies with {what}: {journal}")
+    report(ping_again(peer) == 3, f"no replies with {what}: {journal}")
     report(end.stop() == 0, f"macsecd with {what} does not end well")
 
 

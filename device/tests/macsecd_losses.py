@@ -17,7 +17,8 @@ def count_all(end: End) -> None:
     c = end.counters()
     sci = f"02000000000{3 - end.number}0001"
     judged = sum(c[it] for it in IN) + sum(c[f"{sci} {it}"] for it in RX)
-    faults = c["device LinkTooShort"] + c["device LinkTooLong"] + c["device NoEndpoint"]
+    names = ("LinkTooShort", "LinkTooLong", "NoEndpoint", "LinkNoReservation", "LinkEarlierRun")
+    faults = sum(c[f"device {it}"] for it in names)
     report(c["device LinkIn"] == judged + faults, f"{end.number}: {c['device LinkIn']} frames of LINK, {judged} judged")
     sent = sum(c[it] for it in OUT)
     faults = sum(c[f"device {it}"] for it in ("TapTooShort", "TapTooLong", "NoReservation", "PortOut"))
@@ -54,7 +55,8 @@ def check_tcp(a: End, b: End, octets: int) -> None:
         refused = grown[sender]["device LinkRefused"], grown[receiver]["device TapRefused"]
         holds = lost == 0 and sent == got and refused == (0, 0)
         report(holds, f"TCP: {sent} frames were sent and {got} read; {lost} were lost and {refused} refused")
-        report(grown[sender]["device NoReservation"] == 0, "TCP: frames were dropped without a reservation")
+        lacked = grown[sender]["device NoReservation"], grown[receiver]["device LinkNoReservation"]
+        report(lacked == (0, 0), f"TCP: {lacked} frames were dropped without a reservation")
 
 
 def check_socket_loss(world: World) -> None:

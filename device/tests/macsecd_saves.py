@@ -26,8 +26,12 @@ from macsecd_world import End, Packets, Stream, World, build, hand_over_lines
 
 CHANNELS = 64
 
-# A frame that was delivered longer before a kill may not be delivered again: the journal is written each second.
+# With `device receive behind`, a frame that was delivered longer before a kill may not be delivered again: the journal
+# is written each second.
 OLDEST = 2.0
+
+# The most packet numbers that are reserved ahead of a channel that gets 40 frames a second.
+RESERVED = 1024
 
 # The longest time between two reports to the service manager, in seconds.
 WATCHDOG = 2.0
@@ -86,17 +90,20 @@ class Deliveries:
 
 
 class Receiver:
-    """An end that receives from 64 channels under one key, at window 0, and frames for it."""
+    """An end that receives from 64 channels under one key, at window 0, and frames for it. It saves what it
+    has received, or reserves it ahead."""
 
-    def __init__(self, world: World, sender: pathlib.Path) -> None:
-        self.end, self.peer, self.sender = world.ends[0], world.ends[1], sender
+    def __init__(self, world: World, sender: pathlib.Path, behind: bool) -> None:
+        self.end, self.peer, self.sender, self.behind = world.ends[0], world.ends[1], sender, behind
+        self.way = "behind" if behind else "ahead"
         self.key = secrets.token_hex(16)
         lines = [f"device link link0\nend A gcm128 {self.end.sci} 1514 sci\nA key 9 {self.key} 0"]
         for channel in range(CHANNELS):
             sci = sci_of(channel)
             lines += [f"A rxsc {sci}", f"A rxsa {sci} 0 9 1", f"A rxon {sci} 0"]
         self.end.write_config()
-        self.end.config.write_text("\n".join([*lines, "device shared", "device transient", ""]))
+        lines += [f"device receive {self.way}", "device shared", "device transient", ""]
+        self.end.config.write_text("\n".join(lines))
         self.end.create_journal()
 
     def send(self, first: int, count: int, rate: int) -> None:
@@ -134,23 +141,35 @@ def check_kill(receiver: Receiver, first: int, rounds: int, rng: random.Random) 
     return oldest, len(before), len(again)
 
 
-def check_replays(world: World, sender: pathlib.Path, kills: int, rng: random.Random) -> None:
-    """SIGKILL with traffic in 64 channels: what was accepted longer ago is not accepted again."""
-    receiver = Receiver(world, sender)
+def check_replays(world: World, sender: pathlib.Path, behind: bool, kills: int, rng: random.Random) -> None:
+    """SIGKILL with traffic in 64 channels: of what is reserved ahead no frame is accepted again, and else none that was
+    accepted longer ago."""
+    receiver = Receiver(world, sender, behind)
     first, oldest, total, again = 1, 0.0, 0, 0
     for _ in range(kills):
         rounds = 40 * rng.choice([3, 4])
         age, delivered, repeated = check_kill(receiver, first, rounds, rng)
         report(delivered > 64 * 40, f"replays: only {delivered} frames were delivered before a kill")
         oldest, total, again = max(oldest, age), total + delivered, again + repeated
-        first += rounds
+        first += rounds if behind else rounds + 3 * RESERVED
+    report(behind or again == 0, f"replays: {again} frames were delivered again")
     report(oldest <= OLDEST, f"replays: a frame was delivered again {oldest:.2f} s after it was delivered first")
-    print(f"replays: {kills} kills, {total} frames, {again} delivered again, the oldest {oldest:.2f} s old", flush=True)
+    print(
+        f"replays, {receiver.way}: {kills} kills, {total} frames, {again} delivered again, the oldest {oldest:.2f} s",
+        flush=True,
+    )
 
 
-def check_again(world: World, sender: pathlib.Path) -> None:
-    """An association that comes again under its key: nothing is delivered again, whatever ended it."""
-    receiver = Receiver(world, sender)
+def second_endpoint() -> list[str]:
+    """Requests by which a second endpoint takes over."""
+    keys = [secrets.token_hex(16) for _ in range(2)]
+    return [f"A key 4000 {keys[0]} 0", "A retire 4000", hand_over_lines(keys[1])]
+
+
+def check_again(world: World, sender: pathlib.Path, behind: bool) -> None:
+    """An association that comes again under its key: nothing is delivered again, whatever ended it, and it begins right
+    above what it had accepted."""
+    receiver = Receiver(world, sender, behind)
     end, sci, key = receiver.end, sci_of(5), receiver.key
     end.start()
     begin = [f"A rxsa {sci} 0 9 1", f"A rxon {sci} 0"]
@@ -161,6 +180,7 @@ def check_again(world: World, sender: pathlib.Path) -> None:
             "rxscdel": [f"A rxscdel {sci}", f"A rxsc {sci}", *begin],
             "load": ["load\n" + "\n".join([f"A rxdel {sci} 0", *begin])],
             "loads": [f"load\nA rxdel {sci} 0", "load\n#", "load\n" + "\n".join(begin)],
+            "second": [f"A rxdel {sci} 0", *second_endpoint(), *begin],
             "open": [f"open {end.sci} gcm128", *afresh, "port on"],
             "close": ["close", f"open {end.sci} gcm128", *afresh, "port on"],
         }.items()
@@ -179,9 +199,9 @@ def check_again(world: World, sender: pathlib.Path) -> None:
     report(end.stop() == 0, f"again: macsecd does not end well: {end.log()}")
 
 
-def check_last_save(world: World, sender: pathlib.Path) -> None:
-    """A journal that can't be written at the end."""
-    receiver = Receiver(world, sender)
+def check_last_save(world: World, sender: pathlib.Path, behind: bool) -> None:
+    """A journal that can't be written at the end: what was received behind is not saved; ahead, nothing is missing."""
+    receiver = Receiver(world, sender, behind)
     end = receiver.end
     end.start()
     receiver.send(1, 10, 20000)
@@ -189,8 +209,9 @@ def check_last_save(world: World, sender: pathlib.Path) -> None:
     journal.rename(journal.with_suffix(".moved"))
     receiver.settle()
     status = end.stop()
-    report(status == 1, f"the journal can't be written at the end: status {status}")
-    report("can be delivered again" in end.log(), f"the journal can't be written at the end: {end.log()}")
+    report(status == int(behind), f"the journal can't be written at the end: status {status}")
+    says = "can be delivered again" in end.log()
+    report(says == behind, f"the journal can't be written at the end: {end.log()}")
 
 
 # ---- The disk
@@ -299,7 +320,7 @@ def check_slow_disk(
         f"{client.slowest:.2f} s, watchdog {manager.longest:.2f} s",
         flush=True,
     )
-    report(a.stop() == 0, f"disk: {a.log()[-300:]}")
+    report(a.stop(seconds=40) == 0, f"disk: {a.log()[-300:]}")
     manager.stop()
 
 

@@ -105,7 +105,7 @@ def check_counts(world: World, before: list[dict[str, int]], noise: list[Noise])
         sent = other["device LinkOut"] + injected.frames
         report(came == sent, f"{end.number}: {sent} frames were sent to it, and {came} counted")
         judged = sum(it[name] for name in IN) + sum(it[f"{peer} {name}"] for name in RX)
-        judged += it["device LinkTooShort"] + it["device LinkTooLong"]
+        judged += sum(it[f"device Link{name}"] for name in ("TooShort", "TooLong", "NoReservation", "EarlierRun"))
         report(judged == it["device LinkIn"], f"{end.number}: {it['device LinkIn']} frames were read, {judged} judged")
         taken = sum(it[name] for name in OUT) + it["device NoReservation"] + it["device TapTooShort"]
         report(taken == it["device TapIn"], f"{end.number}: {it['device TapIn']} frames of TAP, {taken} counted")

@@ -202,6 +202,7 @@ class End(Namespace):
 
     isolated = False  # is LINK in a separate namespace?
     workers: int | None = None  # how many threads do the work of the cipher; None: what macsecd takes
+    behind = False  # is what was received saved afterwards, and not reserved ahead?
 
     def __init__(self, world: World, number: int) -> None:
         super().__init__(f"macsecd-{os.getpid()}-{world.folder.name}-{number}", world.folder / str(number))
@@ -267,6 +268,8 @@ A rxon 02000000000{peer}0001 0
 {more}"""
         if self.workers is not None:
             text += f"device workers {self.workers}\n"
+        if self.behind:
+            text += "device receive behind\n"
         if not self.isolated:
             text += "device shared\n" + ("" if "device persist" in device else "device transient\n")
         self.config.write_text(text)
@@ -344,12 +347,12 @@ A rxon 02000000000{peer}0001 0
             return self.process.wait(seconds)
         return None
 
-    def stop(self, number: int = signal.SIGTERM) -> int | None:
-        """Ends macsecd by a signal. Returns its exit status, or None if it had to be killed."""
+    def stop(self, number: int = signal.SIGTERM, seconds: float = 10) -> int | None:
+        """Ends macsecd by a signal. Returns its exit status, or None if it had to be killed after so many seconds."""
         if self.process is None:
             return None
         self.process.send_signal(number)
-        status = self.ended(10)
+        status = self.ended(seconds)
         if status is None:
             self.process.kill()
             self.process.wait()
@@ -453,6 +456,12 @@ def ping(end: End, count: int = 3, size: int = 56, seconds: float = 5.0, version
             replies += is_answered(it, version, name, sequence, seconds)
     it.close()
     return replies
+
+
+def ping_again(end: End) -> int:
+    """The same, once a request is answered: an end that has started drops the first frames that come."""
+    until(lambda: ping(end, 1, seconds=0.1) > 0)
+    return ping(end)
 
 
 def is_answered(it: socket.socket, version: int, name: int, sequence: int, seconds: float) -> bool:

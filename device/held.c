@@ -1,0 +1,71 @@
+/* Frames of LINK that wait for a reservation: they are given to the endpoint again when one is on the disk, in their
+ * order and before later frames. So a burst, or a peer that starts again, loses no frame. */
+#include "device.h"
+#include <string.h>
+
+/* Frames wait until the clock has ticked so often since one of them passed. */
+enum { TICKS = 2 };
+
+bool held_keep(struct device *d, const uint8_t *octets, size_t length) {
+    struct held *h = &d->held;
+    if (h->count == HELD_FRAMES || length > HELD_OCTETS - h->used)
+        return false;
+    if (h->count == 0) {
+        h->grants = numbers_grants(d->numbers);
+        h->ticks = 0;
+    }
+    memmove(h->octets + h->used, octets, length); /* it may be one of them */
+    h->lengths[h->count++] = (uint16_t)length;
+    h->used += length;
+    return true;
+}
+
+/* Has a reservation been reported since the first of them was kept? */
+static bool is_granted(const struct device *d) {
+    return d->held.count > 0 && d->held.grants != numbers_grants(d->numbers);
+}
+
+/* Gives all frames to the endpoint. Those that still lack a reservation are kept again. If one is reported meanwhile,
+ * those after them are too: else they would overtake them. */
+static enum outcome give_all(struct device *d) {
+    struct held *h = &d->held;
+    unsigned count = h->count, ticks = h->ticks;
+    size_t at = 0;
+    enum outcome outcome = DONE;
+    h->count = 0;
+    h->used = 0;
+    for (unsigned i = 0; i < count; i++) {
+        struct frame frame = { h->octets + at, h->lengths[i] };
+        at += frame.length;
+        h->left = count - 1 - i;
+        if (is_granted(d))
+            (void)held_keep(d, frame.octets, frame.length); /* there is space */
+        else if (frames_present(d, &frame) == GONE)
+            outcome = GONE;
+    }
+    if (h->count == count)
+        h->ticks = ticks; /* none has passed */
+    return outcome;
+}
+
+enum outcome held_give(struct device *d) {
+    enum outcome outcome = DONE;
+    while (is_granted(d))
+        if (give_all(d) == GONE)
+            outcome = GONE;
+    return outcome;
+}
+
+unsigned held_count(const struct device *d) {
+    return d->held.count + d->held.left;
+}
+
+void held_tick(struct device *d) {
+    struct held *h = &d->held;
+    if (h->count == 0 || h->grants != numbers_grants(d->numbers) || ++h->ticks < TICKS)
+        return;
+    d->counts.link_in += h->count;
+    d->counts.link_no_reservation += h->count;
+    h->count = 0;
+    h->used = 0;
+}

@@ -1,0 +1,95 @@
+/* How many frames of each receive channel are accepted in a second, and so how many packet numbers are reserved ahead
+ * of its associations. The peer goes on at the same rate under a new key, so the rate is the channel's. */
+#include "device.h"
+#include <string.h>
+
+/* A reservation lasts for so many seconds. The next one is asked for when half of it is left. Where a synchronization
+ * takes long, the half lasts for two of them: one that is under way, and the next. */
+#define LASTS 2.0
+enum { SYNCHRONIZATIONS = 4 };
+
+/* The fewest and the most packet numbers of a reservation. A restart can lose as many frames, since no record lowers a
+ * reservation. Frames that come faster wait in held.c, so the fewest can be few. A channel of eight frames a second
+ * needs a record each second. A test has another number. */
+#ifndef PACES_LEAST
+#define PACES_LEAST 16
+#endif
+enum { LEAST = PACES_LEAST, MOST = 1 << 20 };
+
+/* The rate is forgotten by one of so many parts in a second, and after so many parts of a reservation it is looked at
+ * whether the next one is needed. */
+enum { FORGETS = 8, LOOKS = 16 };
+
+static bool is_of(const struct pace *p, const uint8_t sci[8]) {
+    return p->is_used && memcmp(p->sci, sci, sizeof p->sci) == 0;
+}
+
+/* The pace that is taken for a new channel: one that is not used, or the slowest one, of a channel that is gone. */
+static struct pace *free_pace(struct paces *p) {
+    struct pace *found = &p->all[0];
+    for (size_t i = 0; i < MACSEC_RX_CHANNEL_COUNT; i++) {
+        if (!p->all[i].is_used)
+            return &p->all[i];
+        if (p->all[i].rate + p->all[i].frames < found->rate + found->frames)
+            found = &p->all[i];
+    }
+    return found;
+}
+
+struct pace *paces_of(struct paces *p, const uint8_t sci[8]) {
+    struct pace *found;
+    if (is_of(&p->all[p->latest], sci))
+        return &p->all[p->latest];
+    for (size_t i = 0; i < MACSEC_RX_CHANNEL_COUNT; i++)
+        if (is_of(&p->all[i], sci)) {
+            p->latest = i;
+            return &p->all[i];
+        }
+    found = free_pace(p);
+    memset(found, 0, sizeof *found);
+    memcpy(found->sci, sci, sizeof found->sci);
+    found->is_used = true;
+    p->latest = (size_t)(found - p->all);
+    return found;
+}
+
+uint64_t paces_amount(struct pace *p, double slow) {
+    double lasts = slow * SYNCHRONIZATIONS > LASTS ? slow * SYNCHRONIZATIONS : LASTS;
+    double wanted = lasts * (double)(p->rate > p->frames ? p->rate : p->frames);
+    uint64_t amount = wanted < MOST ? (uint64_t)wanted : MOST;
+    if (amount < p->burst)
+        amount = p->burst;
+    if (amount < LEAST)
+        amount = LEAST;
+    p->unseen = 0;
+    p->patience = (unsigned)(amount / LOOKS);
+    return amount;
+}
+
+bool paces_accepted(struct pace *p) {
+    p->frames++;
+    return ++p->unseen >= p->patience;
+}
+
+bool paces_lacked(struct pace *p, uint64_t order, unsigned waiting) {
+    if (p->asked == order)
+        return false;
+    p->asked = order;
+    if (p->burst < 2 * (uint64_t)waiting)
+        p->burst = 2 * (uint64_t)waiting; /* as many again come while the record is written */
+    return true;
+}
+
+void paces_tick(struct paces *p) {
+    for (size_t i = 0; i < MACSEC_RX_CHANNEL_COUNT; i++) {
+        struct pace *it = &p->all[i];
+        uint64_t forgotten = it->rate - it->rate / FORGETS;
+        it->rate = it->frames > forgotten ? it->frames : forgotten;
+        it->frames = 0;
+        it->burst /= 2;
+    }
+}
+
+void paces_clear(struct paces *p) {
+    memset(p, 0, sizeof *p);
+}

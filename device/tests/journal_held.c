@@ -1,0 +1,111 @@
+/* Frames that wait for a reservation (device/held.c), for the test journal. In place of the endpoint and of the journal
+ * there is a counter: how many packet numbers are reserved. It rises at random moments.
+ *
+ *     journal_held SEED
+ *
+ * Each frame has its packet number in its first octets, and a length and octets that follow from it. No frame may be
+ * overtaken, altered or lost, but for those that come while there is no space and those that wait for two ticks. */
+#include "device.h"
+#include <inttypes.h>
+#include <stdio.h>
+#include <stdlib.h>
+#include <string.h>
+
+enum { SHORTEST = 60, LENGTHS = 1400, MOST_AHEAD = 40 };
+
+/* At the beginning of each period nothing is reserved for so many frames. The last frame comes at such a time. */
+enum { PERIOD = 4096, STALL = 1500, FRAMES = 49 * PERIOD + STALL / 2 };
+
+static struct device device;
+static uint64_t newest, reserved, grants, last, delivered, refused;
+static uint64_t state;
+
+static unsigned at_random(unsigned below) {
+    state = state * 6364136223846793005U + 1442695040888963407U;
+    return (unsigned)(state >> 33) % below;
+}
+
+static void fail(const char *what, uint64_t pn) {
+    fprintf(stderr, "journal_held: packet number %" PRIu64 ": %s\n", pn, what);
+    exit(1);
+}
+
+static size_t length_of(uint64_t pn) {
+    return SHORTEST + (size_t)(pn * 7919 % LENGTHS);
+}
+
+/* Reserves a few packet numbers more, or none. */
+static void reserve(void) {
+    if (newest % PERIOD < STALL || at_random(8) != 0)
+        return;
+    reserved += at_random(12);
+    if (reserved > newest + MOST_AHEAD)
+        reserved = newest + MOST_AHEAD;
+    grants++;
+}
+
+uint64_t numbers_grants(const struct numbers *n) {
+    (void)n;
+    return grants;
+}
+
+static void test_octets(const struct frame *frame, uint64_t pn) {
+    if (frame->length != length_of(pn))
+        fail("another length", pn);
+    for (size_t at = sizeof pn; at < frame->length; at++)
+        if (frame->octets[at] != (uint8_t)(pn + at))
+            fail("other octets", pn);
+}
+
+enum outcome frames_present(struct device *d, const struct frame *frame) {
+    uint64_t pn;
+    memcpy(&pn, frame->octets, sizeof pn);
+    test_octets(frame, pn);
+    if (pn <= last)
+        fail("it was overtaken, or came twice", pn);
+    if (pn > reserved) {
+        refused += !held_keep(d, frame->octets, frame->length);
+    } else {
+        last = pn;
+        delivered++;
+    }
+    reserve();
+    return DONE;
+}
+
+static void receive(uint64_t pn) {
+    static uint8_t octets[SHORTEST + LENGTHS];
+    struct frame frame = { octets, length_of(pn) };
+    newest = pn;
+    memcpy(octets, &pn, sizeof pn);
+    for (size_t at = sizeof pn; at < frame.length; at++)
+        octets[at] = (uint8_t)(pn + at);
+    if (held_give(&device) != DONE || frames_present(&device, &frame) != DONE)
+        fail("it is not taken", pn);
+}
+
+/* Frames that wait without a reservation are dropped after two ticks, and counted. */
+static void test_ticks(void) {
+    unsigned count = held_count(&device);
+    held_tick(&device);
+    if (held_count(&device) != count)
+        fail("it does not wait", last);
+    held_tick(&device);
+    if (held_count(&device) != 0 || device.counts.link_no_reservation != count || device.counts.link_in != count)
+        fail("it waits for ever, or is not counted", last);
+}
+
+int main(int count, char **words) {
+    uint64_t waiting;
+    if (count != 2)
+        return 2;
+    state = strtoull(words[1], NULL, 10);
+    for (uint64_t pn = 1; pn <= FRAMES; pn++)
+        receive(pn);
+    waiting = held_count(&device);
+    if (delivered + refused + waiting != FRAMES)
+        fail("it is lost", last);
+    test_ticks();
+    printf("delivered %" PRIu64 " refused %" PRIu64 " waiting %" PRIu64 "\n", delivered, refused, waiting);
+    return 0;
+}
