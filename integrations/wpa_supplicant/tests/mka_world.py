@@ -203,6 +203,12 @@ class World:
         mask = "8" if forwards else "0"
         call("ip", "-n", self.hub, "link", "set", "hub0", "type", "bridge", "group_fwd_mask", mask)
 
+    def separate(self, apart: bool) -> None:
+        """Lets the bridge forward no frame between the ends, or all again. The capture has them in either case."""
+        for end in self.ends:
+            isolated = "on" if apart else "off"
+            call("ip", "-n", self.hub, "link", "set", f"p{end.number}", "type", "bridge_slave", "isolated", isolated)
+
     def start(self) -> float:
         for end in self.ends:
             end.start_device()
