@@ -7,3 +7,4 @@ pub mod Room
 pub mod RowIndex
 pub mod RxRows
 pub mod Scis
+pub mod Limited

@@ -58,7 +58,7 @@ IsRxRow-at scis (first ∷ rows) zero row h there = let same : first ≡ row = c
 IsRxRow-at scis (first ∷ rows) (suc i) row h there = IsRxRow-at scis rows i row h.2 there
 
 -- an SA whose number no row has is none of the rows
-other_row : (rows : List RxRow) (sci : Sci) (an i : ℕ) (row : RxRow) → rx_row rows sci an ≡ None → slice_get rows i ≡ Some row → is_at sci an row ≡ false
+pub other_row : (rows : List RxRow) (sci : Sci) (an i : ℕ) (row : RxRow) → rx_row rows sci an ≡ None → slice_get rows i ≡ Some row → is_at sci an row ≡ false
 other_row [] sci an i row free there = cc
 other_row (first ∷ rows) sci an zero row free there =
     let parts = cond_none (is_at sci an first) first (rx_row rows sci an) free in

@@ -8,3 +8,4 @@ pub mod Judged
 pub mod Delivered
 pub mod Verdicts
 pub mod Opened
+pub mod Within

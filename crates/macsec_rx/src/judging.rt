@@ -1,6 +1,6 @@
 //! The verdict on a tagged frame (IEEE 802.1AE, 10.6).
 
-ghost use Rattle.std.specs.Prelude.{◌≡◌, ◌≤◌, ◌+◌, ◌&&◌, ℕ, List, IfNone, IfSome, IsSome, None, Some, length, option_map, slice_get};
+ghost use Rattle.std.specs.Prelude.{◌≡◌, ◌≢◌, ◌≤◌, ◌+◌, ◌&&◌, ℕ, List, [], IfNone, IfOk, IfSome, IsSome, None, OnErr, OnOk, Some, length, option_map, slice_get};
 ghost use Rattle.macsec_gcm.specs.Gcm.{max_plaintext_len};
 ghost use Rattle.macsec_suite.specs.KeyRows.{InstalledKey, key_row};
 ghost use Rattle.macsec_pn.specs.Numbers.{is_late};
@@ -18,10 +18,14 @@ ghost use Rattle.macsec_rx.specs.Rows.{AreChannels};
 ghost use Rattle.macsec_rx.specs.Judged.{ShowsJudgement, ShowsOutcome};
 ghost use Rattle.macsec_rx.specs.Index.{row_of_found};
 ghost use Rattle.macsec_rx.specs.Opened.{IfOpened, IfOpenedUnder, job_number, job_row, job_tagged};
+ghost use Rattle.macsec_rx.specs.Within.{outside, outside_in};
 
 use crate::channels::Found;
 use crate::delivering::{deliver_bare, deliver_opened};
-use crate::{Judged, Mode, OpenJob, OpenedFrame, RxChannels, RxOptions, RxRow, Verdict};
+use crate::within::outside_found;
+use crate::{
+    Judged, Mode, OpenJob, OpenedFrame, OutsidePn, PnLimits, RxChannels, RxOptions, RxRow, Verdict,
+};
 use macsec_suite::{KeyRow, KeyTable, Suite, iv_of};
 use macsec_tag::Mpdu;
 
@@ -94,14 +98,53 @@ impl RxChannels {
         ensures numbers { self.new ≡ record self.old { rows = rows_after options.now.window (judge_tagged options.now keys.now self.old mpdu.now) self.old.rows } }
         ensures channels { AreChannels self.new }
     {
+        match self.judge_within(keys, options, &[], mpdu, opened, out) {
+            Ok(judged) => judged,
+            Err(_) => unreachable!(),
+        }
+    }
+
+    /// Judges a tagged frame as `judge` does, except that it accepts a packet number only within the limits of its SA
+    /// (10.6.2 to 10.6.4). `limits` has the limits of each SA at the SA's index in `rows`. An SA without an entry has no
+    /// limits.
+    ///
+    /// Errors: the ICV is valid, and the packet number is outside the limits. Then nothing changes except `out`, which
+    /// may have octets of the plaintext.
+    #[inline(always)]
+    pub fn judge_within(
+        &mut self,
+        keys: &KeyTable,
+        options: &RxOptions,
+        limits: &[PnLimits],
+        mpdu: &Mpdu<'_>,
+        opened: &Option<OpenedFrame>,
+        out: &mut [u8],
+    ) -> Result<Judged, OutsidePn>
+        requires keys_there { HaveRxKeys keys.now self.old.rows }
+        requires opened { IfOpened opened.now keys.now mpdu.now out.old }
+        requires frame { unpadded_length mpdu.now ≤ max_frame_len }
+        requires room { max_frame_len ≤ length out.old }
+        ensures outside { outside_in result ≡ outside limits.now self.old.rows (judge_tagged options.now keys.now self.old mpdu.now) }
+        ensures unlimited { OnErr result (limits.now ≢ []) }
+        ensures judged { IfOk result (λ judged. ShowsJudgement judged out.new (judge_tagged options.now keys.now self.old mpdu.now)) }
+        ensures place { IfOk result (λ judged. IsInPlace judged.delivered mpdu.now) }
+        ensures undelivered { IfOk result (λ judged. IfNone judged.delivered (LeavesReceived out.old out.new mpdu.now)) }
+        ensures channel { IfOk result (λ judged. IfSome judged.row (λ at. slice_get self.old.scis judged.channel ≡ Some at.0)) }
+        ensures numbers { OnOk result (self.new ≡ record self.old { rows = rows_after options.now.window (judge_tagged options.now keys.now self.old mpdu.now) self.old.rows }) }
+        ensures unchanged { OnErr result (self.new ≡ self.old) }
+        ensures channels { AreChannels self.new }
+    {
         let found = self.in_use(mpdu);
         let row = row_of(&found);
         let outcome = judge_tagged_row(keys, options, &row, mpdu, opened, out);
+        if let Some(outside) = outside_found(limits, outcome.accepted, &found) {
+            return Err(outside);
+        }
         self.accept_at(&found, outcome.accepted, options.window);
-        Judged {
+        Ok(Judged {
             channel: channel_of(&found),
             ..outcome.judged
-        }
+        })
     }
 }
 

@@ -20,6 +20,9 @@
 //! key, and needs no SA. `judge` compares the key and the IV of what was opened with its own, and opens the frame
 //! itself if they differ. So it judges and delivers the same, whether a frame was opened before or not.
 //!
+//! Proved: `judge_within` judges as `judge` does, except that it accepts a packet number only within the limits of its
+//! SA (`specs/Within.antt`). A valid frame outside them changes nothing but the slice.
+//!
 //! Proved: `row_and_number` returns the SA and the packet number of a frame, without the cipher, and `number_to_accept` the
 //! packet number that `judge` would accept. Both change nothing. `rows` returns the SAs, at most 256.
 #![tactic(auto)]
@@ -32,6 +35,7 @@ mod channels;
 mod delivering;
 mod index;
 mod judging;
+mod within;
 
 pub use channels::{MAX_CHANNEL_COUNT, MAX_ROW_COUNT, RxChannels};
 pub use macsec_commands::Mode;
@@ -39,6 +43,7 @@ use macsec_pn::RxNumbers;
 use macsec_suite::KeyNumber;
 use macsec_tag::{An, Sci};
 use std::fmt;
+pub use within::{OutsidePn, PnLimits, RxPn};
 
 /// The verdict on a received frame. Each verdict is named like its counter, without InPkts.
 #[derive(Clone, Copy, PartialEq, Eq, Debug)]
