@@ -8,6 +8,7 @@ pub mod ChannelsCounted
 pub mod Steps
 pub mod SentFrames
 pub mod ReceivedFrames
+pub mod LimitedFrames
 pub mod Limits
 pub mod Sums
 pub mod ChannelAt

@@ -21,3 +21,4 @@ pub mod Protects
 pub mod Delivers
 pub mod Jobs
 pub mod Outcomes
+pub mod Limited

@@ -1,6 +1,6 @@
 //! What the endpoint returns for a frame.
 
-use crate::{Sci, SealJob, Verdict};
+use crate::{OutsidePn, Sci, SealJob, Verdict};
 
 /// Why nothing is sent for a client frame.
 #[derive(Clone, Copy, PartialEq, Eq, Debug)]
@@ -44,4 +44,13 @@ pub struct Received<'a> {
     pub uncontrolled: &'a [u8],
     /// The frame at the controlled port, if one is delivered.
     pub controlled: Option<&'a [u8]>,
+}
+
+/// The result for a link frame whose packet number is accepted only within limits.
+#[derive(Drop)]
+pub enum LimitedReceived<'a> {
+    /// The endpoint received the frame.
+    Received(Received<'a>),
+    /// The frame is valid, and dropped: its packet number is outside the limits of its SA. Nothing changes.
+    Outside(OutsidePn),
 }

@@ -18,6 +18,10 @@
 //! between a plan and its job are, the result of the job is the same. `send_by` and `plan_send_by` are `send` and
 //! `plan_send` for a caller that has found the enabled SA already (`enabled_sa`).
 //!
+//! Proved: `receive_into` is the step of `finish_receive`, except that a packet number is accepted only within limits for
+//! its receive SA (`specs/Limited.antt`). A valid frame outside them is dropped, and changes nothing. The result says where
+//! the delivered frame is, and `limited_received` returns the frames.
+//!
 //! Proved: `row_and_number` returns the receive SA and the packet number of a link frame, without the cipher, and
 //! `number_to_accept` the packet number that `receive` would accept. Both change nothing.
 //!
@@ -40,6 +44,7 @@ ghost use Rattle.std.specs.Borrow.{sem};
 ghost use Rattle.macsec_secy.specs.Step.{client_frame, frame_fault, link_frame, operator_command, step, uncontrolled_frame};
 ghost use Rattle.macsec_secy.specs.Answers.{IfPlanned, MakesEndpoint, output_of_command, output_of_frame, output_of_received, output_of_sent, PlansOutput};
 ghost use Rattle.macsec_secy.specs.Laws.{number_of_row, number_used};
+ghost use Rattle.macsec_secy.specs.Limited.{IsPlacedWithin, limited_step, output_of_placed};
 ghost use Rattle.macsec_secy.specs.Rests.{RestsAs};
 ghost use Rattle.macsec_secy.specs.Sound.{IsSound};
 ghost use Rattle.macsec_secy.specs.Sums.{AddsFrames};
@@ -58,7 +63,7 @@ mod receiving;
 mod reception;
 mod showing;
 
-pub use answers::{DropReason, Planned, Received, Sent};
+pub use answers::{DropReason, LimitedReceived, Planned, Received, Sent};
 use arrayvec::ArrayVec;
 pub use counters::{ChannelCounters, Counters, RxCounters, TxCounters};
 pub use fault::FrameFault;
@@ -67,7 +72,7 @@ pub use macsec_commands::{
     Sci, Suite, TagForm,
 };
 use macsec_rx::{MAX_CHANNEL_COUNT, RxChannels};
-pub use macsec_rx::{OpenJob, OpenedFrame, RxRow, Verdict};
+pub use macsec_rx::{OpenJob, OpenedFrame, OutsidePn, PnLimits, RxPn, RxRow, Verdict};
 pub use macsec_suite::Refusal;
 use macsec_suite::{KeyTable, SuiteKey};
 use macsec_tag::reading::read;
@@ -75,7 +80,8 @@ use macsec_tag::{ADDRESSES_LENGTH, MIN_FRAME_LEN, Read};
 pub use macsec_tx::{EnabledSa, SealJob, TxRow};
 use macsec_tx::{TxChannel, TxPlan};
 pub use options::Options;
-use reception::receive_frame;
+pub use reception::{Delivered, Outcome, limited_received};
+use reception::{receive_frame, receive_frame_within};
 use std::alloc::Global;
 use std::marker::Model;
 
@@ -427,6 +433,45 @@ impl Secy {
             out,
         );
         Ok(outcome.received(frame, out))
+    }
+
+    /// Receives a link frame as `finish_receive` does, except that it accepts a packet number only within limits (10.6).
+    /// `limits` has those of each receive SA, in the order of `rx_rows`. An SA without an entry has no limits.
+    ///
+    /// Returns where the delivered frame is, for `limited_received`; or, as `Ok(Err(..))`, that the frame is valid and its
+    /// packet number is outside the limits. Such a frame is dropped. It changes nothing except `out`, which may have
+    /// octets of its plaintext.
+    pub fn receive_into(
+        &mut self,
+        limits: &[PnLimits],
+        frame: &[u8],
+        opened: &Option<OpenedFrame>,
+        out: &mut [u8],
+    ) -> Result<Result<Outcome, OutsidePn>, FrameFault>
+        requires room { max_frame_len ≤ length out.old }
+        requires opened { OpensFrame opened.now self.old.keys frame.now out.old }
+        ensures after { self.new ≡ (limited_step self.old limits.now frame.now).1 }
+        ensures output { output_of_placed result frame.now out.new ≡ (limited_step self.old limits.now frame.now).0 }
+        ensures within { IsPlacedWithin result (length out.new) }
+        ensures before { IsSound self.old }
+        ensures sound { IsSound self.new }
+    {
+        if let Some(fault) = self.frame_fault(frame) {
+            return Err(fault);
+        }
+        let options = self.rx_options();
+        let outcome = receive_frame_within(
+            &mut self.rx,
+            &mut self.rx_counters,
+            &mut self.counters,
+            &self.keys,
+            &options,
+            limits,
+            frame,
+            opened,
+            out,
+        );
+        Ok(outcome)
     }
 
     /// The fault of a frame, if it has one. It depends only on the frame's length, not on the endpoint. This is a
