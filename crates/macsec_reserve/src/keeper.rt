@@ -8,6 +8,7 @@ ghost use Rattle.macsec_tx.specs.Transmit.{tx_row};
 ghost use Rattle.macsec_rx.specs.Channels.{rx_row};
 ghost use Rattle.macsec_commands.specs.Configs.{config_fault};
 ghost use Rattle.macsec_secy.specs.Answers.{MakesEndpoint, output_of_command, output_of_frame, output_of_received};
+ghost use Rattle.macsec_secy.specs.Limited.{IsPlacedWithin, output_of_placed};
 ghost use Rattle.macsec_secy.specs.Sound.{IsSound};
 ghost use Rattle.macsec_secy.specs.State.{start};
 ghost use Rattle.macsec_secy.specs.Step.{client_frame, link_frame, operator_command, uncontrolled_frame};
@@ -18,6 +19,7 @@ ghost use Rattle.macsec_suite.specs.KeyRows.{key_row};
 ghost use Rattle.macsec_reserve.specs.Forgetting.{as_taken, can_forget, fingerprint_of, forgetting, forgetting_step};
 ghost use Rattle.macsec_reserve.specs.Journal.{highest, sending_name};
 ghost use Rattle.macsec_reserve.specs.Keeping.{begins_at, endpoint_input, endpoint_output, is_below_floor, keeping_step, may_go, now_durable, rx_floor, tx_floor, uses_reserved, wanted_for, wanted_last, was_reserved};
+ghost use Rattle.macsec_reserve.specs.Limited.{limited_keeping_step};
 ghost use Rattle.macsec_reserve.specs.Names.{IsAtHand, entry_of, name_or_none, name_row, names_after};
 ghost use Rattle.macsec_reserve.specs.Replay.{row_name, saved_for};
 ghost use Rattle.macsec_reserve.specs.Rests.{RestsAs};
@@ -29,7 +31,7 @@ use crate::{Reservation, highest, is_journal, receiving_name, sending_name};
 use macsec_aes::Key;
 use macsec_secy::{
     An, Command, EnabledSa, EndConfig, FrameFault, KeyNumber, NewFault, NewKey, OpenedFrame,
-    Planned, Received, Refusal, RxRow, Sci, Secy, Sent, TxRow,
+    Outcome, OutsidePn, Planned, PnLimits, Received, Refusal, RxRow, Sci, Secy, Sent, TxRow,
 };
 use std::alloc::Global;
 use std::marker::Model;
@@ -335,6 +337,24 @@ impl Keeper {
         ensures sound { IsSound (keeping_step self.old (endpoint_input (link_frame frame.now))).1.secy }
     {
         self.secy.receive(frame)
+    }
+
+    /// Receives a link frame within limits, into the caller's buffer, as `Secy::receive_into`.
+    pub fn receive_into(
+        &mut self,
+        limits: &[PnLimits],
+        frame: &[u8],
+        opened: &Option<OpenedFrame>,
+        out: &mut [u8],
+    ) -> Result<Result<Outcome, OutsidePn>, FrameFault>
+        requires room { max_frame_len ≤ length out.old }
+        requires opened { OpensFrame opened.now self.old.secy.keys frame.now out.old }
+        ensures after { self.new ≡ (limited_keeping_step self.old limits.now frame.now).1 }
+        ensures output { output_of_placed result frame.now out.new ≡ (limited_keeping_step self.old limits.now frame.now).0 }
+        ensures within { IsPlacedWithin result (length out.new) }
+        ensures before { IsSound self.old.secy }
+    {
+        self.secy.receive_into(limits, frame, opened, out)
     }
 
     /// Notes that a reservation is durable: its record is on stable storage, where every later run will read it. One
