@@ -1,5 +1,5 @@
 pub mod LastEnds
 pub mod Entries
-pub mod Standings
+pub mod WithinLimits
+pub mod LimitsKept
 pub mod Commands
-pub mod Passing

@@ -19,7 +19,7 @@ use Rattle.macsec_reserve.specs.Histories.{Run}
 use Rattle.macsec_reserve.specs.Journal.{highest}
 use Rattle.macsec_reserve.specs.Keeping.{Keeping, KeepingInput, KeepingOutput, alone, endpoint_input, endpoint_output, keeping_step, noted, now_durable, opened, rx_floor, wanted_last}
 use Rattle.macsec_reserve.specs.Replay.{row_name}
-use Rattle.macsec_ahead.specs.declared.answers.RxPn.{RxPn}
+use Rattle.macsec_rx.specs.declared.within.RxPn.{RxPn}
 use Rattle.macsec_ahead.specs.Ends.{Ends, after_retiring, end_of, ended_by, no_ends, with_ends}
 
 -- the keeping endpoint; whether it reserves ahead of receiving; what was reported durable for its receive SAs; and where

@@ -1,40 +1,24 @@
 -- What the calls of an endpoint that can reserve ahead return, as outputs.
-use Rattle.std.specs.Prelude.{◌≡◌, ℕ, List, Bool, true, false, if◌then◌else◌, Option, Some, None, Result, Ok, Err}
+use Rattle.std.specs.Prelude.{◌≡◌, ℕ, List, Bool, Result, Ok, Err}
 use Rattle.macsec_commands.specs.declared.config.EndConfig.{EndConfig}
 use Rattle.macsec_commands.specs.declared.fault.NewFault.{NewFault}
-use Rattle.macsec_rx.specs.declared.RxRow.{RxRow}
-use Rattle.macsec_rx.specs.Judge.{row_and_number}
+use Rattle.macsec_rx.specs.declared.within.OutsidePn.TheVariants.{Above, Below}
 use Rattle.macsec_suite.specs.KeyRows.{InstalledKey}
+use Rattle.macsec_secy.specs.declared.answers.LimitedReceived.{LimitedReceived}
+use Rattle.macsec_secy.specs.declared.answers.LimitedReceived.TheVariants as by
 use Rattle.macsec_secy.specs.declared.fault.FrameFault.{FrameFault}
 use Rattle.macsec_secy.specs.Answers.{output_of_received}
-use Rattle.macsec_secy.specs.Reception.{judgement_of}
 use Rattle.macsec_reserve.specs.declared.keeper.KeptPlan.{KeptPlan}
 use Rattle.macsec_reserve.specs.declared.keeper.OpenFault.{OpenFault}
 use Rattle.macsec_reserve.specs.Answers.{MakesAlone, MakesKeeper, PlansKept}
 use Rattle.macsec_reserve.specs.Keeping.{KeepingOutput, endpoint_output}
-use Rattle.macsec_ahead.specs.declared.answers.AheadReceived.{AheadReceived}
-use Rattle.macsec_ahead.specs.declared.answers.AheadReceived.TheVariants as by
-use Rattle.macsec_ahead.specs.declared.answers.PnStanding.{PnStanding}
-use Rattle.macsec_ahead.specs.declared.answers.PnStanding.TheVariants as as_code
-use Rattle.macsec_ahead.specs.Ahead.{Ahead, AheadOutput, Standing, alone_with, before_this_run, dropped_before_this_run, dropped_not_reserved, kept, not_yet, opened_with, passes, standing_of}
+use Rattle.macsec_ahead.specs.Ahead.{Ahead, AheadOutput, alone_with, dropped_before_this_run, dropped_not_reserved, kept, opened_with}
 
-abbrev pub shown : PnStanding → Standing
-shown as_code.Passes = passes
-shown (as_code.NotYet at) = not_yet at
-shown (as_code.BeforeThisRun at) = before_this_run at
-
--- of the packet number of a frame, whether the frame is valid or not
-abbrev pub standing_found : Ahead → Option (RxRow × ℕ) → Standing
-standing_found a None = passes
-standing_found a (Some it) = standing_of a it.0 it.1
-
-abbrev pub standing_unopened : Ahead → List ℕ → Standing
-standing_unopened a frame = standing_found a (row_and_number (judgement_of a.k.secy frame))
-
-abbrev pub output_of_ahead : Result AheadReceived FrameFault → AheadOutput
+-- a frame above the limits is not reserved yet, and one below them was reserved by an earlier run
+abbrev pub output_of_ahead : Result LimitedReceived FrameFault → AheadOutput
 output_of_ahead (Ok (by.Received r)) = kept (endpoint_output (output_of_received (Ok r)))
-output_of_ahead (Ok (by.NoReservation at)) = dropped_not_reserved at
-output_of_ahead (Ok (by.BeforeThisRun at)) = dropped_before_this_run at
+output_of_ahead (Ok (by.Outside (Above at))) = dropped_not_reserved at
+output_of_ahead (Ok (by.Outside (Below at))) = dropped_before_this_run at
 output_of_ahead (Err f) = kept (endpoint_output (output_of_received (Err f)))
 
 -- the output is one of the keeping endpoint, of which this holds

@@ -1,30 +1,30 @@
 //! The endpoint.
 
-ghost use Rattle.std.specs.Prelude.{◌≡◌, ◌≤◌, ◌+◌, ◌∷◌, [], ◌++◌, map, length, true, is_some, IfOk, option_and_then, vec_capacity, vec_len, if◌then◌else◌};
+ghost use Rattle.std.specs.Prelude.{◌≡◌, ◌≤◌, ◌+◌, ◌∷◌, [], ◌++◌, map, length, IfOk, option_and_then, vec_capacity, vec_len, if◌then◌else◌};
 ghost use Rattle.std.specs.Borrow.{sem};
 ghost use Rattle.macsec_tag.specs.Limits.{max_frame_len};
 ghost use Rattle.macsec_rx.specs.Channels.{rx_row};
 ghost use Rattle.macsec_rx.specs.Limits.{max_row_count};
-ghost use Rattle.macsec_secy.specs.Accepting.{number_to_accept};
-ghost use Rattle.macsec_secy.specs.Answers.{output_of_command, output_of_received};
+ghost use Rattle.macsec_secy.specs.Answers.{output_of_command};
 ghost use Rattle.macsec_secy.specs.Jobs.{OpensFrame};
 ghost use Rattle.macsec_secy.specs.Step.{client_frame, link_frame, operator_command};
 ghost use Rattle.macsec_reserve.specs.Answers.{output_of_kept};
 ghost use Rattle.macsec_reserve.specs.Entries.{raised_by};
 ghost use Rattle.macsec_reserve.specs.Keeping.{endpoint_input, endpoint_output, now_durable};
-ghost use Rattle.macsec_ahead.specs.Ahead.{ahead_step, begins_again, command_forgetting, entry_for, floor_of, kept, passes, standing, standing_of, wanted_to_accept};
-ghost use Rattle.macsec_ahead.specs.Answers.{MakesAhead, MakesAloneWith, PlansAhead, output_of_ahead, shown, standing_unopened};
+ghost use Rattle.macsec_ahead.specs.Ahead.{ahead_step, begins_again, command_forgetting, entry_for, floor_of, kept, wanted_to_accept};
+ghost use Rattle.macsec_ahead.specs.Answers.{MakesAhead, MakesAloneWith, PlansAhead, output_of_ahead};
 ghost use Rattle.macsec_ahead.specs.Ends.{after_retiring, ends_among, no_ends, with_ends, without_key};
+ghost use Rattle.macsec_ahead.specs.Limits.{limits_for, limits_with};
 ghost use Rattle.macsec_ahead.specs.Rests.{RestsAs};
 
+use crate::EndTable;
 use crate::ends::ended_of;
-use crate::{AheadReceived, EndTable, PnStanding, RxPn};
 use macsec_reserve::{
     Keeper, KeptPlan, KeptSent, OpenFault, Reservation, highest, raise, wanted_last,
 };
 use macsec_secy::{
-    An, Command, EndConfig, FrameFault, KeyNumber, MAX_FRAME_LEN, NewFault, OpenedFrame, Received,
-    Refusal, RxRow, Sci, Secy,
+    An, Command, EndConfig, FrameFault, KeyNumber, LimitedReceived, MAX_FRAME_LEN, NewFault,
+    OpenedFrame, PnLimits, Refusal, RxRow, Sci, Secy, limited_received,
 };
 use std::alloc::{AllocError, Global};
 use std::marker::Model;
@@ -49,19 +49,27 @@ pub struct AheadKeeper {
     ended: EndTable,
     /// Space for the SAs as they are before a command.
     rows: Vec<RxRow>,
+    /// With the option, the packet numbers that may be accepted from each receive SA, in the order of the SAs. So a frame
+    /// needs no digest.
+    limits: Vec<PnLimits>,
+    /// A buffer for the longest frame, for those that are delivered from tagged ones.
+    room: Vec<u8>,
 }
 
 impl Model for AheadKeeper {
-    ghost use Rattle.std.specs.Prelude.{vec_capacity};
+    ghost use Rattle.std.specs.Prelude.{vec_capacity, vec_len};
     ghost use Rattle.macsec_ahead.specs.Ahead.{Ahead};
+    ghost use Rattle.macsec_ahead.specs.Limits.{limits_with};
     ghost use Rattle.macsec_ahead.specs.Space.{HasSpace};
+    ghost use Rattle.std.specs.Prelude.{◌≡◌};
 
     ghost Value = { Ahead };
 
     ghost view = { λ a. record { k = a.keeper; ahead = a.ahead; taken = a.taken.items; ended = a.ended } };
 
-    // There is space for the SAs that there can be.
-    ghost invariant = { λ a. HasSpace (vec_capacity a.taken) (vec_capacity a.spare) (vec_capacity a.rows) };
+    // There is space for the SAs that there can be, and the limits are those of what is reserved.
+    ghost invariant = { λ a. HasSpace (vec_capacity a.taken) (vec_capacity a.spare) (vec_capacity a.rows) (vec_capacity a.limits) (vec_len a.room)
+        × (a.limits.items ≡ limits_with a.ahead a.keeper a.taken.items) };
 }
 
 impl AheadKeeper {
@@ -103,10 +111,13 @@ impl AheadKeeper {
     fn with(alloc: Global, keeper: Keeper, ahead: bool) -> Result<AheadKeeper, AllocError>
         ensures { IfOk result (λ a. a ≡ record { k = keeper; ahead = ahead; taken = []; ended = no_ends }) }
     {
-        let taken = Vec::with_capacity(alloc, MAX_ROW_COUNT)?;
+        let taken: Vec<Reservation> = Vec::with_capacity(alloc, MAX_ROW_COUNT)?;
         let spare = Vec::with_capacity(alloc, MAX_ROW_COUNT)?;
         let ended = EndTable::new(alloc)?;
         let rows = Vec::with_capacity(alloc, MAX_ROW_COUNT)?;
+        let mut limits = Vec::with_capacity(alloc, MAX_ROW_COUNT)?;
+        take_limits(&mut limits, taken.as_slice(), &keeper, ahead);
+        let room = vec![in alloc; 0; MAX_FRAME_LEN]?;
         Ok(AheadKeeper {
             keeper,
             ahead,
@@ -114,6 +125,8 @@ impl AheadKeeper {
             spare,
             ended,
             rows,
+            limits,
+            room,
         })
     }
 
@@ -148,12 +161,13 @@ impl AheadKeeper {
     }
 
     /// Receives a link frame, as `Keeper::receive`. With the option, a valid frame is dropped if its packet number is not
-    /// reserved in this run. The delivered frame is in `out`, which has `MAX_FRAME_LEN` octets or more.
+    /// reserved in this run. The delivered frame is in `out`, which has `MAX_FRAME_LEN` octets or more. If nothing is
+    /// delivered, the octets of `out` mean nothing.
     pub fn receive<'a>(
         &mut self,
         frame: &'a [u8],
         out: &'a mut [u8],
-    ) -> Result<AheadReceived<'a>, FrameFault>
+    ) -> Result<LimitedReceived<'a>, FrameFault>
         requires { max_frame_len ≤ length out.old }
         ensures after { self.new ≡ (ahead_step self.old (endpoint_input (link_frame frame.now))).1 }
         ensures output { output_of_ahead result ≡ (ahead_step self.old (endpoint_input (link_frame frame.now))).0 }
@@ -161,92 +175,46 @@ impl AheadKeeper {
         self.finish_receive(frame, &None, out)
     }
 
-    /// Receives a link frame whose `standing` is `Passes`, as `Keeper::receive`. The delivered frame is in the endpoint.
-    pub fn receive_passing<'a>(&'a mut self, frame: &'a [u8]) -> Result<Received<'a>, FrameFault>
-        requires { standing self.old (link_frame frame.now) ≡ passes }
+    /// Receives a link frame, as `receive`. The delivered frame is in the endpoint's own buffer.
+    pub fn receive_inside<'a>(
+        &'a mut self,
+        frame: &'a [u8],
+    ) -> Result<LimitedReceived<'a>, FrameFault>
         ensures* after { sem 𝓛 (RestsAs self.entry (ahead_step self.old (endpoint_input (link_frame frame.now))).1) }
-        ensures output { kept (endpoint_output (output_of_received result)) ≡ (ahead_step self.old (endpoint_input (link_frame frame.now))).0 }
+        ensures output { output_of_ahead result ≡ (ahead_step self.old (endpoint_input (link_frame frame.now))).0 }
     {
-        self.keeper.receive(frame)
+        match self.keeper.receive_into(
+            self.limits.as_slice(),
+            frame,
+            &None,
+            self.room.as_mut_slice(),
+        ) {
+            Ok(outcome) => Ok(limited_received(&outcome, frame, self.room.as_slice())),
+            Err(fault) => Err(fault),
+        }
     }
 
     /// Receives a link frame that was opened before, or not, as `Keeper::finish_receive`. With the option, a valid frame is
-    /// dropped if its packet number is not reserved in this run.
+    /// dropped if its packet number is not reserved in this run; then `out` may have octets of its plaintext.
     pub fn finish_receive<'a>(
         &mut self,
         frame: &'a [u8],
         opened: &Option<OpenedFrame>,
         out: &'a mut [u8],
-    ) -> Result<AheadReceived<'a>, FrameFault>
+    ) -> Result<LimitedReceived<'a>, FrameFault>
         requires room { max_frame_len ≤ length out.old }
         requires opened { OpensFrame opened.now self.old.k.secy.keys frame.now out.old }
         ensures after { self.new ≡ (ahead_step self.old (endpoint_input (link_frame frame.now))).1 }
         ensures output { output_of_ahead result ≡ (ahead_step self.old (endpoint_input (link_frame frame.now))).0 }
     {
-        match self.standing(frame) {
-            PnStanding::NotYet(pn) => Ok(AheadReceived::NoReservation(pn)),
-            PnStanding::BeforeThisRun(pn) => Ok(AheadReceived::BeforeThisRun(pn)),
-            PnStanding::Passes => match self.keeper.finish_receive(frame, opened, out) {
-                Ok(received) => Ok(AheadReceived::Received(received)),
-                Err(fault) => Err(fault),
-            },
-        }
-    }
-
-    /// Whether a link frame may be accepted, if it is valid. A frame is opened here only if its packet number is not
-    /// reserved: then it is dropped only if its ICV is valid.
-    pub fn standing(&self, frame: &[u8]) -> PnStanding
-        ensures { shown result ≡ standing self.now (link_frame frame.now) }
-    {
-        let it = self.standing_unopened(frame);
-        if is_passing(&it) {
-            return it;
-        }
-        if_valid(it, self.is_accepted(frame))
-    }
-
-    /// Would the keeping endpoint accept the packet number of a frame? This opens the frame and changes nothing.
-    fn is_accepted(&self, frame: &[u8]) -> bool
-        ensures { result ≡ is_some (number_to_accept self.now.k.secy frame.now) }
-    {
-        let mut out = [0; MAX_FRAME_LEN];
-        self.keeper
-            .secy()
-            .number_to_accept(frame, &mut out)
-            .is_some()
-    }
-
-    /// Whether the packet number of a frame may be accepted, whether the frame is valid or not.
-    fn standing_unopened(&self, frame: &[u8]) -> PnStanding
-        ensures { shown result ≡ standing_unopened self.now frame.now }
-    {
-        if !self.ahead {
-            return PnStanding::Passes;
-        }
-        match self.keeper.secy().row_and_number(frame) {
-            None => PnStanding::Passes,
-            Some((row, number)) => self.standing_of(&row, number),
-        }
-    }
-
-    /// Whether a packet number of an SA may be accepted.
-    fn standing_of(&self, row: &RxRow, number: u64) -> PnStanding
-        requires { self.now.ahead ≡ true }
-        ensures { shown result ≡ standing_of self.now row.now number }
-    {
-        let name = self.keeper.name_of_row(row);
-        let at = RxPn {
-            sci: row.sci,
-            an: row.an,
-            number,
+        let outcome = match self
+            .keeper
+            .receive_into(self.limits.as_slice(), frame, opened, out)
+        {
+            Ok(outcome) => outcome,
+            Err(fault) => return Err(fault),
         };
-        if number <= self.keeper.reserved_before(&name) {
-            PnStanding::BeforeThisRun(at)
-        } else if number <= highest(self.taken.as_slice(), &name) {
-            PnStanding::Passes
-        } else {
-            PnStanding::NotYet(at)
-        }
+        Ok(limited_received(&outcome, frame, out))
     }
 
     /// Notes that a reservation is durable: its record is on stable storage, where every later run will read it. One for a
@@ -262,6 +230,12 @@ impl AheadKeeper {
         );
         swap(&mut self.taken, &mut self.spare);
         self.keeper.now_durable(reservation);
+        take_limits(
+            &mut self.limits,
+            self.taken.as_slice(),
+            &self.keeper,
+            self.ahead,
+        );
     }
 
     /// The reservation to make durable next, to accept up to `amount` packet numbers after `next` from the receive SA of this
@@ -321,6 +295,12 @@ impl AheadKeeper {
             command,
             done.is_ok(),
         );
+        take_limits(
+            &mut self.limits,
+            self.taken.as_slice(),
+            &self.keeper,
+            self.ahead,
+        );
         done
     }
 
@@ -344,6 +324,12 @@ impl AheadKeeper {
             command,
             done.is_ok(),
         );
+        take_limits(
+            &mut self.limits,
+            self.taken.as_slice(),
+            &self.keeper,
+            self.ahead,
+        );
         done
     }
 
@@ -362,23 +348,6 @@ impl AheadKeeper {
             _ => false,
         }
     }
-}
-
-/// May a packet number be accepted?
-fn is_passing(it: &PnStanding) -> bool
-    ensures { result ≡ true → shown it.now ≡ passes }
-{
-    match *it {
-        PnStanding::Passes => true,
-        PnStanding::NotYet(_) | PnStanding::BeforeThisRun(_) => false,
-    }
-}
-
-/// Whether a frame may be accepted, by its packet number: an invalid one is left to the endpoint.
-fn if_valid(it: PnStanding, is_valid: bool) -> PnStanding
-    ensures { shown result ≡ (if is_valid then shown it else passes) }
-{
-    if is_valid { it } else { PnStanding::Passes }
 }
 
 /// Makes an entry for each receive SA, with what was reported durable for it before and now.
@@ -415,6 +384,39 @@ fn entry_for(row: &RxRow, taken: &[Reservation], keeper: &Keeper) -> Reservation
     let name = keeper.name_of_row(row);
     let last = highest(taken, &name);
     Reservation { name, last }
+}
+
+/// Makes the limits of each receive SA again, by what was reported durable for it. Without the option there are none.
+fn take_limits(limits: &mut Vec<PnLimits>, taken: &[Reservation], keeper: &Keeper, ahead: bool)
+    requires { max_row_count ≤ vec_capacity limits.old }
+    ensures items { limits.new.items ≡ limits_with ahead keeper.now taken.now }
+    ensures space { vec_capacity limits.old ≤ vec_capacity limits.new }
+{
+    limits.clear();
+    if ahead {
+        append_limits(limits, keeper.secy().rx_rows(), taken, keeper);
+    }
+}
+
+/// Appends the limits of each of these SAs.
+fn append_limits(limits: &mut Vec<PnLimits>, rows: &[RxRow], taken: &[Reservation], keeper: &Keeper)
+    requires { vec_len limits.old + length rows.now ≤ vec_capacity limits.old }
+    ensures items { limits.new.items ≡ limits.old.items ++ map (limits_for keeper.now taken.now) rows.now }
+    ensures space { vec_capacity limits.old ≤ vec_capacity limits.new }
+{
+    for row in rows {
+        limits.push(limits_for(row, taken, keeper)).unwrap();
+    }
+}
+
+/// The limits of an SA.
+fn limits_for(row: &RxRow, taken: &[Reservation], keeper: &Keeper) -> PnLimits
+    ensures { result ≡ limits_for keeper.now taken.now row.now }
+{
+    let name = keeper.name_of_row(row);
+    let before = keeper.reserved_before(&name);
+    let upto = highest(taken, &name);
+    PnLimits { before, upto }
 }
 
 /// Takes a copy of the receive SAs.

@@ -4,7 +4,8 @@
 //!
 //! Proved: each call of an `AheadKeeper` is one step of the endpoint of `specs/Ahead.antt`, result and state;
 //! `command_forgetting` is the step of `command` that also forgets the octets of a key that it retires. A frame that is
-//! dropped because its packet number is not reserved changes nothing. `wanted_to_accept` returns the reservation to make
+//! dropped because its packet number is not reserved changes nothing. It is dropped as soon as its ICV is found valid: the
+//! limits of each receive SA are made when something is reported durable and after a command. `wanted_to_accept` returns the reservation to make
 //! durable next, and `rx_floor` where an SA can begin. An `EndTable` is the table of `specs/Ends.antt`. After the creation of
 //! the endpoint no call allocates.
 //!
@@ -13,10 +14,9 @@
 //! forgotten.
 #![tactic(auto)]
 
-mod answers;
 mod ends;
 mod keeper;
 
-pub use answers::{AheadReceived, PnStanding, RxPn};
 pub use ends::{EndTable, EndedKey, EndedSa};
 pub use keeper::AheadKeeper;
+pub use macsec_secy::{LimitedReceived, OutsidePn, RxPn};

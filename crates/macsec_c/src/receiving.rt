@@ -8,7 +8,7 @@ ghost use Rattle.macsec_c.specs.Answers.{after_input, received_parts};
 ghost use Rattle.macsec_c.specs.Lending.{RestsAs};
 
 use crate::endpoint::Endpoint;
-use macsec_c_calls::{EMPTY, Received, received_of, unreceived, unreserved};
+use macsec_c_calls::{EMPTY, Received, received_of, unreceived};
 
 /// Receives a link frame. The delivered frame borrows from the endpoint or is the caller's.
 fn reception<'a>(e: &'a mut Endpoint, frame: &'a [u8]) -> Received<'a>
@@ -18,11 +18,7 @@ fn reception<'a>(e: &'a mut Endpoint, frame: &'a [u8]) -> Received<'a>
     if !e.is_made() {
         return unreceived(frame, EMPTY);
     }
-    let standing = e.held().standing(frame);
-    if !standing.is_passing() {
-        return unreserved(&standing, frame);
-    }
-    received_of(e.held().receive_passing(frame), frame)
+    received_of(e.held().receive_inside(frame), frame)
 }
 
 /// Receives a link frame. `macsec_receive` of the header calls this with a result that names no frame, and a frame that

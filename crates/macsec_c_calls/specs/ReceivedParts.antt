@@ -1,10 +1,10 @@
 -- The result of receiving a link frame, as C sees it.
 use Rattle.std.specs.Prelude.{ℕ, List, [], replicate, Bool, true, false, Option, Some, None}
 use Rattle.macsec_tag.specs.declared.identifiers.Sci.{Sci}
+use Rattle.macsec_rx.specs.declared.within.RxPn.{RxPn}
 use Rattle.macsec_secy.specs.Step.{Output, done, refused, leaves, dropped_no_sa, dropped_too_long, received, fault}
 use Rattle.macsec_reserve.specs.Keeping.{KeepingOutput, dropped_no_reservation, endpoint_output, noted}
-use Rattle.macsec_ahead.specs.declared.answers.RxPn.{RxPn}
-use Rattle.macsec_ahead.specs.Ahead.{AheadOutput, Standing, before_this_run, dropped_before_this_run, dropped_not_reserved, kept, not_yet, passes}
+use Rattle.macsec_ahead.specs.Ahead.{AheadOutput, dropped_before_this_run, dropped_not_reserved, kept}
 use Rattle.macsec_c_calls.specs.declared.receiving.Received.{Received}
 use Rattle.macsec_c_calls.specs.Statuses.{done_status, earlier_run_verdict, no_reservation_verdict, number_of_verdict, status_of_frame_fault}
 
@@ -60,13 +60,7 @@ abbrev pub dropped_parts : ℕ → RxPn → ReceivedParts
 dropped_parts verdict at =
     record { status = done_status; verdict = verdict; place = place_parts (Some (at.sci, at.an)); delivered = delivered_parts None; pn = at.number; reserved = replicate 2 0 }
 
--- by its standing; one that passes is not dropped
-abbrev pub unreserved_parts : Standing → ReceivedParts
-unreserved_parts passes = unreceived done_status
-unreserved_parts (not_yet at) = dropped_parts no_reservation_verdict at
-unreserved_parts (before_this_run at) = dropped_parts earlier_run_verdict at
-
 abbrev pub parts_of_ahead : AheadOutput → ReceivedParts
 parts_of_ahead (kept output) = parts_of_kept output
-parts_of_ahead (dropped_not_reserved at) = unreserved_parts (not_yet at)
-parts_of_ahead (dropped_before_this_run at) = unreserved_parts (before_this_run at)
+parts_of_ahead (dropped_not_reserved at) = dropped_parts no_reservation_verdict at
+parts_of_ahead (dropped_before_this_run at) = dropped_parts earlier_run_verdict at

@@ -205,7 +205,7 @@ fn finished_as(received: &Reception) -> Finished
 fn dropped_as(verdict: u32, at: &RxPn) -> Finished
     ensures { (out : List ℕ) → parts_of_finished result out ≡ dropped_parts verdict at.now }
 {
-    let (has_sa, sci, an) = place_of(Some((at.sci, at.an.number())));
+    let (has_sa, sci, an) = place_of(Some((at.sci, at.an)));
     Finished {
         length: 0,
         status: DONE,

@@ -51,7 +51,7 @@ pub use jobs::{
     Finished, Planned, finish_frame, open_job, plan_to_receive, plan_to_send, seal_job, unfinished,
     unplanned,
 };
-pub use receiving::{Received, received_of, unreceived, unreserved};
+pub use receiving::{Received, received_of, unreceived};
 pub use reserving::{
     Record, note_durable, show_rx_floor, show_to_accept, show_to_save, show_tx_floor, show_wanted,
     write_compacted,

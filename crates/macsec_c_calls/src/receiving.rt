@@ -1,16 +1,16 @@
 //! The result of receiving a frame (IEEE 802.1AE, 10.6).
 
-ghost use Rattle.std.specs.Prelude.{◌≡◌, ℕ, List, option_map};
+ghost use Rattle.std.specs.Prelude.{◌≡◌, ℕ, List, Ok, option_map};
 ghost use Rattle.std.specs.Borrow.{Bor};
-ghost use Rattle.macsec_secy.specs.Answers.{output_of_received};
-ghost use Rattle.macsec_ahead.specs.Answers.{shown};
-ghost use Rattle.macsec_c_calls.specs.ReceivedParts.{delivered_parts, dropped_parts, parts_of_output, parts_of_received, place_parts, unreceived, unreserved_parts};
+ghost use Rattle.macsec_secy.specs.declared.answers.LimitedReceived.TheVariants.{Outside};
+ghost use Rattle.macsec_ahead.specs.Answers.{output_of_ahead};
+ghost use Rattle.macsec_c_calls.specs.ReceivedParts.{delivered_parts, dropped_parts, parts_of_ahead, parts_of_received, place_parts, unreceived};
 
 use crate::{
     DONE, VERDICT_EARLIER_RUN, VERDICT_NO_RESERVATION, number_of_verdict, status_of_frame_fault,
 };
-use macsec_ahead::{PnStanding, RxPn};
-use macsec_secy::{FrameFault, Received as Reception, Sci};
+use macsec_ahead::{LimitedReceived, OutsidePn, RxPn};
+use macsec_secy::{FrameFault, Sci};
 
 /// The result of receiving a link frame.
 #[repr(C)]
@@ -79,7 +79,7 @@ pub fn unreceived<'a>(frame: &'a [u8], status: u32) -> Received<'a>
 fn dropped_as<'a>(verdict: u32, at: &RxPn, frame: &'a [u8]) -> Received<'a>
     ensures { parts_of_received result ≡ dropped_parts verdict at.now }
 {
-    let (has_sa, sci, an) = place_of(Some((at.sci, at.an.number())));
+    let (has_sa, sci, an) = place_of(Some((at.sci, at.an)));
     Received {
         frame: &frame[..0],
         status: DONE,
@@ -93,23 +93,26 @@ fn dropped_as<'a>(verdict: u32, at: &RxPn, frame: &'a [u8]) -> Received<'a>
     }
 }
 
-/// The result for a link frame that does not pass, by its standing.
-pub fn unreserved<'a>(standing: &PnStanding, frame: &'a [u8]) -> Received<'a>
-    ensures { parts_of_received result ≡ unreserved_parts (shown standing.now) }
+/// The result for a valid link frame whose packet number is not reserved in this run.
+fn dropped_of<'a>(outside: &OutsidePn, frame: &'a [u8]) -> Received<'a>
+    ensures { parts_of_received result ≡ parts_of_ahead (output_of_ahead (Ok (Outside outside.now))) }
 {
-    match standing {
-        PnStanding::Passes => unreceived(frame, DONE),
-        PnStanding::NotYet(at) => dropped_as(VERDICT_NO_RESERVATION, at, frame),
-        PnStanding::BeforeThisRun(at) => dropped_as(VERDICT_EARLIER_RUN, at, frame),
+    match outside {
+        OutsidePn::Above(at) => dropped_as(VERDICT_NO_RESERVATION, at, frame),
+        OutsidePn::Below(at) => dropped_as(VERDICT_EARLIER_RUN, at, frame),
     }
 }
 
 /// The result of receiving this link frame.
-pub fn received_of<'a>(outcome: Result<Reception<'a>, FrameFault>, frame: &'a [u8]) -> Received<'a>
-    ensures { parts_of_received result ≡ parts_of_output (output_of_received outcome.entry) }
+pub fn received_of<'a>(
+    outcome: Result<LimitedReceived<'a>, FrameFault>,
+    frame: &'a [u8],
+) -> Received<'a>
+    ensures { parts_of_received result ≡ parts_of_ahead (output_of_ahead outcome.entry) }
 {
     match outcome {
-        Ok(received) => {
+        Ok(LimitedReceived::Outside(outside)) => dropped_of(&outside, frame),
+        Ok(LimitedReceived::Received(received)) => {
             let (has_sa, sci, an) = place_of(received.row);
             let (frame, delivered) = delivered_of(received.controlled, frame);
             Received {

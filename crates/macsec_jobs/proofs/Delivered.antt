@@ -6,6 +6,7 @@ use Rattle.macsec_tag.specs.Limits.{max_frame_len}
 use Rattle.macsec_tag.specs.declared.identifiers.Sci.{Sci}
 use Rattle.macsec_rx.specs.declared.Verdict.{Verdict}
 use Rattle.macsec_rx.specs.Judge.{Judgement}
+use Rattle.macsec_secy.specs.declared.answers.LimitedReceived.TheVariants as by
 use Rattle.macsec_secy.specs.declared.answers.Received.{Received}
 use Rattle.macsec_secy.specs.declared.fault.FrameFault.{FrameFault}
 use Rattle.macsec_secy.specs.Answers.{output_of_received}
@@ -16,7 +17,6 @@ use Rattle.macsec_secy.specs.Reception.{judgement_of, state_after_receiving}
 use Rattle.macsec_secy.specs.Step.{Input, Output, frame_fault, link_frame, received, received_output, step, unless_fault}
 use Rattle.macsec_reserve.specs.Keeping.{Keeping, KeepingOutput, endpoint_input, endpoint_output, keeping_step}
 use Rattle.macsec_reserve.proofs.Steps.{received_step}
-use Rattle.macsec_ahead.specs.declared.answers.AheadReceived.TheVariants as by
 use Rattle.macsec_ahead.specs.Ahead.{Ahead, Standing, ahead_by, ahead_step, before_this_run, kept, not_yet, passes, standing}
 use Rattle.macsec_ahead.specs.Answers.{output_of_ahead}
 

@@ -16,7 +16,7 @@ ghost use Rattle.macsec_jobs.specs.PlannedKeys.{is_installed, key_of};
 ghost use Rattle.macsec_jobs.specs.Slots.{frame_planned, is_idle, is_opening, is_received, is_sealing, open_fault, seal_fault, usable};
 
 use crate::{Finished, JobFault, JobKey, PlannedKey, Reception, SendPlan, Work};
-use macsec_ahead::{AheadKeeper, AheadReceived};
+use macsec_ahead::{AheadKeeper, LimitedReceived, OutsidePn};
 use macsec_reserve::{Keeper, KeptPlan};
 use macsec_rx::OpenedFrame;
 use macsec_secy::laws::lengths_of_frames;
@@ -319,7 +319,7 @@ fn receive_frame(
     // The proof cites this law; the call does nothing.
     lengths_of_frames();
     match endpoint.finish_receive(frame, opened, room) {
-        Ok(AheadReceived::Received(received)) => {
+        Ok(LimitedReceived::Received(received)) => {
             let delivered = delivered_to(received.controlled, out);
             Ok(Finished::Received(Reception {
                 verdict: received.verdict,
@@ -327,8 +327,8 @@ fn receive_frame(
                 delivered,
             }))
         }
-        Ok(AheadReceived::NoReservation(pn)) => Ok(Finished::NoReservation(pn)),
-        Ok(AheadReceived::BeforeThisRun(pn)) => Ok(Finished::BeforeThisRun(pn)),
+        Ok(LimitedReceived::Outside(OutsidePn::Above(pn))) => Ok(Finished::NoReservation(pn)),
+        Ok(LimitedReceived::Outside(OutsidePn::Below(pn))) => Ok(Finished::BeforeThisRun(pn)),
         Err(fault) => Err(fault),
     }
 }

@@ -22,7 +22,7 @@ use Rattle.macsec_reserve.specs.Replay.{row_name}
 use Rattle.macsec_reserve.proofs.HighestOf.{highest-append}
 use Rattle.macsec_reserve.proofs.Reduced.{reduced_reserves}
 use Rattle.macsec_reserve.proofs.Steps.{before_stays, salt_stays}
-use Rattle.macsec_ahead.specs.declared.answers.RxPn.{RxPn}
+use Rattle.macsec_rx.specs.declared.within.RxPn.{RxPn}
 use Rattle.macsec_ahead.specs.Ahead.{Ahead, Standing, ahead_after, ahead_by, ahead_step, before_this_run, begins_again, for_each_row, is_through, lets_through, not_yet, opening_with, passes, standing, standing_by}
 use Rattle.macsec_restarts.specs.AheadRuns.{AcceptsAbove, AcceptsAboveInAll, AcceptsReserved, AreOfOneSa, IsReservedIn, accepted_from, accepted_in, delivery_name, newly_accepted}
 use Rattle.macsec_restarts.specs.Delivered.{Delivery, delivered_by, newly_delivered}

@@ -24,7 +24,7 @@ use Rattle.macsec_reserve.specs.Keeping.{Keeping, KeepingInput, KeepingOutput, e
 use Rattle.macsec_reserve.specs.Replay.{row_name}
 use Rattle.macsec_reserve.proofs.Steps.{before_stays, keeps_stays, salt_stays}
 use Rattle.macsec_reserve.proofs.Written.{same_octets-refl}
-use Rattle.macsec_ahead.specs.declared.answers.RxPn.{RxPn}
+use Rattle.macsec_rx.specs.declared.within.RxPn.{RxPn}
 use Rattle.macsec_ahead.specs.declared.ends.EndedSa.{EndedSa}
 use Rattle.macsec_ahead.specs.Ahead.{Ahead, AheadOutput, Standing, ahead_after, ahead_by, ahead_step, before_this_run, begins_again, ended_after, entry_for, for_each_row, is_through, lets_through, not_yet, opening_with, passes, standing, standing_by, standing_of, through}
 use Rattle.macsec_ahead.specs.Ends.{Ends, after_retiring, end_of, ended_by, ended_of, is_gone, with_ends}

@@ -17,7 +17,7 @@ use Rattle.macsec_reserve.specs.Journal.{highest}
 use Rattle.macsec_reserve.specs.Keeping.{Keeping, KeepingOutput, endpoint_input, keeping_step, now_durable, wanted_last}
 use Rattle.macsec_reserve.specs.Replay.{row_name}
 use Rattle.macsec_reserve.proofs.Written.{same_octets-refl}
-use Rattle.macsec_ahead.specs.declared.answers.RxPn.{RxPn}
+use Rattle.macsec_rx.specs.declared.within.RxPn.{RxPn}
 use Rattle.macsec_ahead.specs.Ahead.{Ahead, Standing, ahead_by, ahead_step, before_this_run, dropped_not_reserved, for_each_row, not_yet, passes, standing_by}
 use Rattle.macsec_restarts.specs.AheadSteps.{AsksWhereDropped, PassesOnceReserved, ReachesPn, WantsEnough}
 use Rattle.macsec_restarts.proofs.RowSteps.{found_row}

@@ -14,7 +14,7 @@ use Rattle.macsec_reserve.specs.Histories.{Run, closing, reported}
 use Rattle.macsec_reserve.specs.Journal.{highest}
 use Rattle.macsec_reserve.specs.Keeping.{KeepingInput, endpoint_input, endpoint_output, keeping_step, now_durable}
 use Rattle.macsec_reserve.specs.Replay.{row_name}
-use Rattle.macsec_ahead.specs.declared.answers.RxPn.{RxPn}
+use Rattle.macsec_rx.specs.declared.within.RxPn.{RxPn}
 use Rattle.macsec_ahead.specs.Ahead.{Ahead, ahead_after, ahead_step, begins_again, closing_with, dropped_not_reserved, kept, lets_through, passes, run_inside, standing, wanted_to_accept}
 use Rattle.macsec_ahead.specs.Ends.{end_of, end_of_row}
 

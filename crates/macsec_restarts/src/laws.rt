@@ -10,7 +10,7 @@ ghost use Rattle.macsec_reserve.specs.declared.reservation.Reservation.{Reservat
 ghost use Rattle.macsec_reserve.specs.Keeping.{Keeping, KeepingInput};
 ghost use Rattle.macsec_reserve.specs.Histories.{Run};
 ghost use Rattle.macsec_restarts.specs.Acceptance.{AcceptsInTime};
-ghost use Rattle.macsec_ahead.specs.declared.answers.RxPn.{RxPn};
+ghost use Rattle.macsec_rx.specs.declared.within.RxPn.{RxPn};
 ghost use Rattle.macsec_ahead.specs.Ahead.{Ahead};
 ghost use Rattle.macsec_restarts.specs.AheadForgetting.{AcceptsAboveForgettingInAll, AcceptsReservedForgetting, AheadForgetsAlike, StaysSoundInside, StepsForgetting};
 ghost use Rattle.macsec_restarts.specs.AheadOrder.{ComesInOrderOnceWith};

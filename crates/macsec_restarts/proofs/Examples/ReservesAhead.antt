@@ -30,7 +30,7 @@ use Rattle.macsec_counterexamples.proofs.Restarts.Goes.{command, command_step, l
 use Rattle.macsec_counterexamples.proofs.Restarts.Journals.{journal, salt}
 use Rattle.macsec_counterexamples.proofs.Restarts.Receivers.{channels_are, keys_are, name_of}
 use Rattle.macsec_counterexamples.proofs.Restarts.Senders.{kept}
-use Rattle.macsec_ahead.specs.declared.answers.RxPn.{RxPn}
+use Rattle.macsec_rx.specs.declared.within.RxPn.{RxPn}
 use Rattle.macsec_ahead.specs.declared.ends.EndedSa.{EndedSa}
 use Rattle.macsec_ahead.specs.Ends.{no_ends}
 use Rattle.macsec_ahead.specs.Ahead.{Ahead, ahead_by, ahead_step, before_this_run, dropped_not_reserved, is_through, kept as an_output, lets_through, not_yet, passes, run_inside, standing_by, wanted_to_accept}

@@ -1,0 +1,15 @@
+-- Sending leaves the limits as they are.
+use Rattle.std.proofs.Common.{ap, sym, ◌∙◌}
+use Rattle.macsec_reserve.specs.Keeping.{Keeping}
+use Rattle.macsec_ahead.specs.Limits.{limits_with}
+use Rattle.macsec_ahead.proofs.LimitsKept.{kept_sending}
+use Rattle.macsec_ahead.proofs.keeper.AheadKeeper.plan_send.Goals as goal
+
+pub invariant_of-self : goal.invariant_of-self
+invariant_of-self c =
+    let a = c.self.inside in (
+      c.self.invariant.0,
+      c.self.invariant.1
+          ∙ sym (kept_sending a.ahead a.keeper a.taken.items c.args.frame.now)
+          ∙ ap (λ (k : Keeping). limits_with a.ahead k a.taken.items) (sym c.plan_send.ensures.after),
+    )
