@@ -168,10 +168,10 @@ void __wrap_free(void *block) {
     __real_free(block);
 }
 
-/* An endpoint has twelve blocks, and one more beside a journal with records; a key has one, and a slot three. Only the
+/* An endpoint has 14 blocks, and one more beside a journal with records; a key has one, and a slot three. Only the
  * calls that make one, a line and a journal ask for blocks; one that answers MACSEC_E_TAKEN or MACSEC_E_EMPTY does not.
  */
-enum { BLOCKS = 12 };
+enum { BLOCKS = 14 };
 
 static void check_blocks(const char *name, unsigned handle, bool held_before, uint32_t status) {
     const char *reading[] = { "configure",    "command_line",      "answer",

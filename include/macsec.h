@@ -36,7 +36,7 @@
  *            (MACSEC_E_EMPTY, MACSEC_E_TAKEN), then the arguments (MACSEC_E_NO_SUCH_..), then the rest. If several
  *            statuses of arguments apply, or several refusals of a command, the call returns the lowest; but
  *            MACSEC_E_PN_FLOOR comes first where a journal is the reason.
- * MEMORY     macsec_new allocates twelve blocks by malloc, 19.0 MB in all: four for 4,096 keys, one for a frame, seven
+ * MEMORY     macsec_new allocates 14 blocks by malloc, 19.1 MB in all: four for 4,096 keys, two for a frame, eight
  *            for the rest. macsec_free frees them. macsec_configure allocates the same, and so do macsec_reserve_open and
  *            macsec_reserve_configure, with one more for a journal that has records. macsec_key_take allocates one
  *            block, and macsec_slot_new three. macsec_configure, macsec_reserve_configure, macsec_command_line and
