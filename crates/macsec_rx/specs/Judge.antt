@@ -14,7 +14,7 @@
 --   13  the ICV is valid: Delayed if it is late, else Passed; DA, SA and opened data are delivered
 -- Here SA in "no SA is enabled" is the secure association; in "DA, SA and data" it is the source address.
 -- A frame whose SecTAG has no fault is judged from step 4 on. Only step 13 accepts the packet number.
-use Rattle.std.specs.Prelude.{ℕ, List, [], ◌∷◌, ◌++◌, take, find, slice_range, ◌+◌, ◌==◌, Bool, true, false, not, ◌&&◌, ◌||◌, is_some, option_map, if◌then◌else◌, Option, Some, None}
+use Rattle.std.specs.Prelude.{ℕ, List, [], ◌∷◌, ◌++◌, take, find, slice_range, ◌+◌, ◌==◌, Bool, true, false, not, ◌&&◌, ◌||◌, is_some, if◌then◌else◌, Option, Some, None}
 use Rattle.macsec_tag.specs.declared.identifiers.Sci.{Sci}
 use Rattle.macsec_tag.specs.Frame.{MpduParts}
 use Rattle.macsec_pn.specs.Numbers.{recovered_number, is_late, accept}
@@ -166,10 +166,6 @@ rows_after window j rows = rows_accepting window (accepted_number j) j.row rows
 -- the SCI and the association number of an SA
 abbrev pub place_of : RxRow → Sci × ℕ
 place_of row = (row.sci, row.an)
-
--- the SA that the verdict depends on, if it depends on one, and the packet number
-abbrev pub row_and_number : Judgement → Option (RxRow × ℕ)
-row_and_number j = option_map (λ (row : RxRow). (row, j.number)) j.row
 
 -- the octets at a position, with a length
 abbrev pub octets_at : List ℕ → ℕ × ℕ → List ℕ

@@ -11,7 +11,7 @@ ghost use Rattle.macsec_rx.specs.Limits.{unpadded_length};
 ghost use Rattle.macsec_rx.specs.Channels.{with_rx};
 ghost use Rattle.macsec_rx.specs.Commands.{HaveRxKeys};
 ghost use Rattle.macsec_rx.specs.declared.RxOptions.{RxOptions};
-ghost use Rattle.macsec_rx.specs.Judge.{accepted_number, is_bad_number, is_disabled, is_strict, judge_number, judge_opened, judge_row, judge_tagged, row_and_number};
+ghost use Rattle.macsec_rx.specs.Judge.{is_bad_number, is_disabled, is_strict, judge_number, judge_opened, judge_row, judge_tagged};
 ghost use Rattle.macsec_rx.specs.Judge.{judge_tagged_row, judge_validated, number_of_frame, octets_at, place_of, rows_after};
 ghost use Rattle.macsec_rx.specs.Delivered.{IsInPlace, LeavesReceived, frame_with, opened_under};
 ghost use Rattle.macsec_rx.specs.Rows.{AreChannels};
@@ -167,54 +167,6 @@ impl RxChannels {
         }
         let found = self.in_use(mpdu);
         job_row(keys, options, &row_of(&found), mpdu)
-    }
-
-    /// The SA that the verdict on a tagged frame depends on, if it depends on one, and the frame's packet number, 0 if
-    /// none is recovered. Nothing changes, and no cipher is used. The key of each SA must be in the table.
-    pub fn row_and_number(&self, keys: &KeyTable, mpdu: &Mpdu<'_>) -> Option<(RxRow, u64)>
-        requires keys_there { HaveRxKeys keys.now self.now.rows }
-        ensures { (options : RxOptions) → result ≡ row_and_number (judge_tagged options keys.now self.now mpdu.now) }
-    {
-        let tag = mpdu.tag();
-        let is_reserved = tag.e() && !tag.c();
-        if is_reserved {
-            return None;
-        }
-        let row = row_of(&self.in_use(mpdu))?;
-        Some(row_with_number(keys, &row, mpdu))
-    }
-
-    /// The packet number that `judge` would accept for a tagged frame now, if it would accept one. Nothing changes but
-    /// `out`, whose octets mean nothing afterwards. The other arguments are those of `judge`.
-    pub fn number_to_accept(
-        &self,
-        keys: &KeyTable,
-        options: &RxOptions,
-        mpdu: &Mpdu<'_>,
-        out: &mut [u8],
-    ) -> Option<u64>
-        requires keys_there { HaveRxKeys keys.now self.now.rows }
-        requires frame { unpadded_length mpdu.now ≤ max_frame_len }
-        requires room { max_frame_len ≤ length out.old }
-        ensures { result ≡ accepted_number (judge_tagged options.now keys.now self.now mpdu.now) }
-    {
-        let found = self.in_use(mpdu);
-        let row = row_of(&found);
-        let outcome = judge_tagged_row(keys, options, &row, mpdu, &None, out);
-        outcome.accepted
-    }
-}
-
-/// The SA of a frame with the frame's packet number, 0 if none is recovered.
-fn row_with_number(keys: &KeyTable, row: &RxRow, mpdu: &Mpdu<'_>) -> (RxRow, u64)
-    requires key_there { IsSome (key_row keys.now row.now.key) }
-    ensures { (options : RxOptions) → Some result ≡ row_and_number (judge_row options keys.now mpdu.now (Some row.now)) }
-{
-    let key = keys.key(row.key).unwrap();
-    let pn = mpdu.tag().pn();
-    match number_of_frame(key.suite_key.suite(), row, pn) {
-        Some(number) => (*row, number),
-        None => (*row, 0),
     }
 }
 

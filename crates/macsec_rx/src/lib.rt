@@ -21,10 +21,8 @@
 //! itself if they differ. So it judges and delivers the same, whether a frame was opened before or not.
 //!
 //! Proved: `judge_within` judges as `judge` does, except that it accepts a packet number only within the limits of its
-//! SA (`specs/Within.antt`). A valid frame outside them changes nothing but the slice.
-//!
-//! Proved: `row_and_number` returns the SA and the packet number of a frame, without the cipher, and `number_to_accept` the
-//! packet number that `judge` would accept. Both change nothing. `rows` returns the SAs, at most 256.
+//! SA (`specs/Within.antt`). A valid frame outside them changes nothing but the slice. `rows` returns the SAs, at most
+//! 256.
 #![tactic(auto)]
 
 ghost use Rattle.std.specs.Prelude.{◌≡◌, Some};

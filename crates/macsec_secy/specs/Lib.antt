@@ -7,7 +7,6 @@ pub mod Commands
 pub mod Reception
 pub mod Verdicts
 pub mod Step
-pub mod Accepting
 pub mod Frames
 pub mod Sums
 pub mod Laws

@@ -22,9 +22,6 @@
 //! its receive SA (`specs/Limited.antt`). A valid frame outside them is dropped, and changes nothing. The result says where
 //! the delivered frame is, and `limited_received` returns the frames.
 //!
-//! Proved: `row_and_number` returns the receive SA and the packet number of a link frame, without the cipher, and
-//! `number_to_accept` the packet number that `receive` would accept. Both change nothing.
-//!
 //! Laws of the machine (`laws`). `uses_no_number_twice`: for every list of inputs, the packet numbers of the frames
 //! sent protected under one key number rise in the order of sending. `accepts_sent`: a frame that another endpoint
 //! protected gets the verdict `OK` and gives the client frame if the conditions of `specs/Accepts.antt` hold; if its SL
@@ -49,7 +46,6 @@ ghost use Rattle.macsec_secy.specs.Rests.{RestsAs};
 ghost use Rattle.macsec_secy.specs.Sound.{IsSound};
 ghost use Rattle.macsec_secy.specs.Sums.{AddsFrames};
 
-mod accepting;
 mod answers;
 mod associations;
 mod counters;
