@@ -1,5 +1,5 @@
 -- AES by look-ups of nibbles. A byte is represented by another one under a linear map, and its inverse is found by
--- look-ups of nibbles and sums, in which 80 hexadecimal stands for infinity: the entry for infinity is 0.
+-- look-ups of nibbles and sums. There 80 hexadecimal represents infinity: the entry for infinity is 0.
 use Rattle.std.specs.Prelude.{◌≡◌, ℕ, ◌+◌, ◌*◌, ◌/◌, ◌%◌, ◌<◌, ◌≤◌, ◌⊎◌, List, [], ◌∷◌, length, map, nat_lt, if◌then◌else◌, bit_xor, slice_index, slice_index_or}
 use Rattle.std.specs.List.{range_with_len}
 use Rattle.macsec_aes.specs.Aes.{rounds_of, schedule_of}

@@ -1,4 +1,4 @@
--- Planes of 32 lanes. The first half of the lanes has the states of eight blocks, the second half those of the next
+-- Planes of 32 lanes. The first half of the lanes has the states of eight blocks, the second half the states of the next
 -- eight.
 use Rattle.std.specs.Prelude.{◌≡◌, ℕ, ◌+◌, ◌*◌, ◌/◌, ◌%◌, ◌<◌, List, map, slice_index}
 use Rattle.std.specs.List.{range_with_len}

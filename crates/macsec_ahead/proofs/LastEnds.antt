@@ -46,7 +46,7 @@ last_under-more es i e key before after less is_item is_before is_after =
     ∙ ap (λ (x : EndedKey). last_under (take i es ++ x ∷ []) key) is_item
     ∙ ap (λ fs. last_under fs key) (sym (take_more es i e less))
 
--- the ends of the first of the other SAs, and then those of the rest
+-- the ends of the first of the other SAs, and then the ends of the rest
 pub ends_one_more : (s : State) (rows : List RxRow) (i : ℕ) (row : RxRow) (t after : Ends) → i < length rows → row ≡ get_or rows i row → after ≡ with_ends (ends_among s (row ∷ [])) t →
     with_ends (ends_among s (drop i rows)) t ≡ with_ends (ends_among s (drop (i + 1) rows)) after
 ends_one_more s rows i row t after less is_row is_after =

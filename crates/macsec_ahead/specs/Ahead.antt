@@ -1,6 +1,6 @@
--- An endpoint beside a journal that can also reserve packet numbers (PNs) ahead of receiving. With this option it accepts a
--- PN only if a durable record already says so. With and without it, it remembers where the receive SAs ended that this
--- run deleted.
+-- An endpoint with a journal that can also reserve packet numbers (PNs) ahead of receiving. With this option it accepts a
+-- PN only if a durable record already reserves it. With and without the option, it remembers where the receive SAs that
+-- this run deleted have ended.
 use Rattle.std.specs.Prelude.{ℕ, ◌==◌, ◌&&◌, not, nat_lt, nat_le, max, List, [], ◌∷◌, map, Bool, true, false, if◌then◌else◌, Option, Some, None, option_map}
 use Rattle.macsec_tag.specs.declared.identifiers.Sci.{Sci}
 use Rattle.macsec_suite.specs.declared.refusal.Refusal.TheVariants.{PnFloor}
@@ -30,11 +30,11 @@ pub record Ahead : Type 0 where
   pub taken : List Reservation
   pub ended : Ends
 
--- as it is opened beside a journal, with the option or without it: nothing is reserved
+-- an endpoint opened with a journal, with the option or without it: nothing is reserved
 abbrev pub opened_with : Bool → EndConfig → List ℕ → Ahead
 opened_with ahead config journal = record { k = opened config journal; ahead = ahead; taken = []; ended = no_ends }
 
--- as it is made without a journal, and so without the option
+-- an endpoint made without a journal, and so without the option
 abbrev pub alone_with : EndConfig → Ahead
 alone_with config = record { k = alone config; ahead = false; taken = []; ended = no_ends }
 
@@ -46,7 +46,7 @@ pub data Standing : Type 0 where
   not_yet : RxPn → Standing
   before_this_run : RxPn → Standing
 
--- of a PN of a receive SA: the first test that holds decides
+-- the standing of a receive SA's PN: the first test that holds decides
 abbrev pub standing_of : Ahead → RxRow → ℕ → Standing
 standing_of a row n =
     let name = row_name a.k.salt a.k.secy row in
@@ -56,7 +56,7 @@ standing_of a row n =
     else if nat_le n (highest a.taken name) then passes
     else not_yet at
 
--- only a frame that is valid is tested: step 13 of reception decides on it
+-- only a valid frame is tested: one on which step 13 of reception decides
 abbrev pub standing_by : Ahead → Judgement → Option FrameFault → Option RxRow → Standing
 standing_by a j None (Some row) = if j.step == 13 then standing_of a row j.number else passes
 standing_by a j fault row = passes
@@ -82,7 +82,7 @@ abbrev pub begins_again : Ahead → Input → Bool
 begins_again a (operator_command (RxSa sci an key ssci lowest)) = nat_lt 0 lowest && nat_le lowest (end_of a.ended key sci an)
 begins_again a input = false
 
--- a command adds the ends of the SAs that it deletes, and removes those of the key that it retires; without a journal
+-- a command adds the ends of the SAs that it deletes, and removes the ends under a key that it retires; without a journal
 -- nothing is remembered
 abbrev pub ended_after : Ahead → Input → KeepingOutput × Keeping → Ends
 ended_after a (operator_command c) answer =
@@ -91,8 +91,8 @@ ended_after a input answer = a.ended
 
 -- ---- steps
 
--- a frame that is dropped as not reserved can be presented again once its PN is reserved; one that an earlier run may have
--- accepted can never pass, and asks for no record
+-- a frame that is dropped as not reserved can be presented again once its PN is reserved; a frame whose PN an earlier run
+-- may have accepted can never pass, and asks for no record
 pub data AheadOutput : Type 0 where
   kept : KeepingOutput → AheadOutput
   dropped_not_reserved : RxPn → AheadOutput
@@ -104,8 +104,8 @@ ahead_by false (not_yet at) a input answer = (dropped_not_reserved at, a)
 ahead_by false (before_this_run at) a input answer = (dropped_before_this_run at, a)
 ahead_by false passes a input answer = (kept answer.0, record a { k = answer.1; ended = ended_after a input answer })
 
--- as the keeping endpoint, except that no SA begins again at a PN which this run may have accepted, and that with the
--- option no PN is accepted which is not reserved; in both cases nothing changes
+-- the keeping endpoint's step, with two exceptions, in which nothing changes: an SA does not begin again at a PN which this
+-- run may have accepted, and with the option a PN that is not reserved is not accepted
 abbrev pub ahead_step : Ahead → KeepingInput → AheadOutput × Ahead
 ahead_step a (now_durable r) =
     (kept noted, record a { k = (keeping_step a.k (now_durable r)).1; taken = map (raised_by r) (for_each_row a) })
@@ -123,7 +123,8 @@ ahead_after a (input ∷ inputs) = ahead_after (ahead_step a input).1 inputs
 
 -- ---- what to reserve next
 
--- of a receive SA, to accept up to `amount` PNs after `next`: its own next PN, or the PN of a frame that was dropped
+-- the record that a receive SA needs to accept up to `amount` PNs after `next`: its own next PN, or the PN of a frame that
+-- was dropped
 abbrev pub wanted_to_accept : Ahead → ℕ → ℕ → RxRow → Option Reservation
 wanted_to_accept a amount next row =
     let name = row_name a.k.salt a.k.secy row in

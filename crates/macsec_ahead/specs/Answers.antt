@@ -21,7 +21,7 @@ output_of_ahead (Ok (by.Outside (Above at))) = dropped_not_reserved at
 output_of_ahead (Ok (by.Outside (Below at))) = dropped_before_this_run at
 output_of_ahead (Err f) = kept (endpoint_output (output_of_received (Err f)))
 
--- the output is one of the keeping endpoint, of which this holds
+-- the output is an output of the keeping endpoint, and this holds for it
 abbrev pub IfKept : AheadOutput → (KeepingOutput → Type 0) → Type 0
 IfKept (kept output) holds = holds output
 IfKept (dropped_not_reserved at) holds = ⊥

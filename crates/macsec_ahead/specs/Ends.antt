@@ -60,7 +60,7 @@ has_end es by = list_any (λ e. is_of by.key by.sci by.an e) es
 abbrev pub has_key_end : List EndedKey → EndedSa → Bool
 has_key_end es by = list_any (λ e. is_under by.key e) es
 
--- without an entry of its own
+-- one more end that gets no entry: it shares the number of its key, or else the number of all further keys
 abbrev pub with_key_end : EndedSa → Ends → Ends
 with_key_end by t =
     if has_key_end t.keys by then record t { keys = map (key_raised by) t.keys }

@@ -1,4 +1,4 @@
--- The answers of the calls for jobs are those of the steps.
+-- The calls for jobs answer as the steps do.
 use Rattle.std.proofs.Common.{◌≡◌, ℕ, List, Bool, true, false, refl, ap, sym, subst, ◌∙◌}
 use Rattle.std.specs.Prelude.{not, if◌then◌else◌, Result, Ok, Err, IfOk, OnErr, OnOk}
 use Rattle.macsec_secy.specs.declared.answers.DropReason.TheVariants as reason

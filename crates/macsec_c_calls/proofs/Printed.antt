@@ -61,7 +61,7 @@ otherwise false x y is = refl
 
 -- ---- a key to retire
 
--- octets may replace only those of a retired key
+-- octets may replace only the octets of a retired key
 retired_row : (o : Option InstalledKey) (bytes : List ℕ) (b : Bool) → (holds_of (can_have bytes) o && b) ≡ true → holds_of (λ (row : InstalledKey). row.retired) o ≡ true
 retired_row None bytes b can = cc
 retired_row (Some row) bytes b can = by_retired row.retired _ b can

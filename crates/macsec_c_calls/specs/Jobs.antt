@@ -23,7 +23,7 @@ use Rattle.macsec_c_calls.specs.Statuses.{done_status, job_status, space_status,
 
 -- ---- plans
 
--- there is no plan, with this status
+-- no plan: the call returns this status
 abbrev pub unplanned : ℕ → Planned
 unplanned status = record { status = status; fate = 0; key = 0; job = false; reserved = replicate 4 0 }
 
@@ -40,7 +40,7 @@ planned_for (Ok (plan.Dropped reason.TooLong)) key = planned_as 4 0 false
 planned_for (Ok plan.NoReservation) key = planned_as 5 0 false
 planned_for (Err f) key = unplanned (status_of_frame_fault f)
 
--- and for a link frame, by whether it is to be opened
+-- the answer for a link frame, by whether it is to be opened
 abbrev pub taken_as : Result Bool FrameFault → ℕ → Planned
 taken_as (Ok job) key = planned_as 0 (if job then key else 0) job
 taken_as (Err f) key = unplanned (status_of_frame_fault f)
@@ -49,8 +49,7 @@ taken_as (Err f) key = unplanned (status_of_frame_fault f)
 abbrev pub sent_by : Ahead → List ℕ → SentParts
 sent_by e frame = sent_of (ahead_step e (endpoint_input (client_frame frame))).0
 
--- the endpoint takes its step for the client frame, and the answer is that of the step, but for a protected frame: that is
--- what the slot's job makes
+-- the endpoint takes its step for the client frame, and answers as the step does; the slot's job makes the protected frame
 pub record IsPlanned (e : Ahead) (client : List ℕ) (result : Planned) (later : Ahead) (left : SlotState) : Type 0 where
   pub after : later ≡ (ahead_step e (endpoint_input (client_frame client))).1
   pub status : result.status ≡ (sent_by e client).status
@@ -61,7 +60,7 @@ pub record IsPlanned (e : Ahead) (client : List ℕ) (result : Planned) (later :
   pub idle : is_idle left.work ≡ not result.job
   pub reserved : result.reserved ≡ replicate 4 0
 
--- by whether the slot has no frame; else nothing changes
+-- a plan if the slot has no frame; otherwise nothing changes
 abbrev pub PlansIf : Bool → Ahead → SlotState → List ℕ → Planned → Ahead → SlotState → Type 0
 PlansIf true e s frame result after left = IsPlanned e frame result after left
 PlansIf false e s frame result after left = (result ≡ unplanned job_status) × (after ≡ e) × (left ≡ s)
@@ -69,18 +68,18 @@ PlansIf false e s frame result after left = (result ≡ unplanned job_status) ×
 abbrev pub PlansToSend : Ahead → SlotState → List ℕ → Planned → Ahead → SlotState → Type 0
 PlansToSend e s frame result after left = PlansIf (is_idle s.work) e s frame result after left
 
--- the slot has the link frame, with the opening that it needs, if it needs one
+-- the slot has the link frame, and its opening if it needs one
 pub record IsTaken (e : Ahead) (link : List ℕ) (result : Planned) (left : SlotState) : Type 0 where
   pub frame : left.frame ≡ link
   pub planned : PlansWork left.work left.key (job_of_frame e.k.secy link) e.k.secy.keys
   pub shown : result ≡ planned_as 0 (if is_opening left.work then left.key.number else 0) (is_opening left.work)
 
--- by the fault of the frame
+-- the slot takes the frame, unless the frame has a fault
 abbrev pub TakesUnless : Option FrameFault → Ahead → List ℕ → Planned → SlotState → Type 0
 TakesUnless None e frame result left = IsTaken e frame result left
 TakesUnless (Some f) e frame result left = (result ≡ unplanned (status_of_frame_fault f)) × (is_idle left.work ≡ true)
 
--- by whether the slot has no frame; else nothing changes
+-- the same if the slot has no frame; otherwise nothing changes
 abbrev pub TakesIf : Bool → Ahead → SlotState → List ℕ → Planned → SlotState → Type 0
 TakesIf true e s frame result left = TakesUnless (frame_fault frame) e frame result left
 TakesIf false e s frame result left = (result ≡ unplanned job_status) × (left ≡ s)
@@ -90,7 +89,7 @@ PlansToReceive e s frame result left = TakesIf (is_idle s.work) e s frame result
 
 -- ---- jobs
 
--- the protected frame is at the start of the buffer, and the slot has no frame; or nothing changes, and why
+-- the protected frame is at the start of the buffer, and the slot has no frame; or nothing changes, and the status says why
 abbrev pub SealsUnless : Option JobFault → SlotState → List ℕ → ℕ → ℕ → List ℕ → ℕ → SlotState → Type 0
 SealsUnless None s out written status out_after written_after left =
     (status ≡ done_status) × (take written_after out_after ≡ frame_planned s) × (written_after ≤ length out) × (is_idle left.work ≡ true)
@@ -101,7 +100,7 @@ abbrev pub SealsWith : SlotState → PlannedKey → List ℕ → ℕ → ℕ →
 SealsWith s key out written status out_after written_after left =
     SealsUnless (seal_fault s.work s.key s.frame key (length out)) s out written status out_after written_after left
 
--- the slot has the same link frame, which is no longer to be opened; or nothing changes, and why
+-- the slot has the same link frame, which is no longer to be opened; or nothing changes, and the status says why
 abbrev pub OpensUnless : Option JobFault → SlotState → ℕ → SlotState → Type 0
 OpensUnless None s status left =
     (status ≡ done_status) × (is_received left.work ≡ true) × (is_opening left.work ≡ false) × (left.frame ≡ s.frame)
@@ -115,8 +114,8 @@ OpensWith s key status left = OpensUnless (open_fault s.work s.key key) s status
 abbrev pub parts_of_finished : Finished → List ℕ → ReceivedParts
 parts_of_finished r out = record { status = r.status; verdict = r.verdict; place = (r.has_sa, r.sci, r.an); delivered = (r.delivered, take r.length out); pn = r.pn; reserved = r.reserved }
 
--- the endpoint takes its step for the link frame of the slot, with the answer that `macsec_receive` would have; what is
--- delivered is at the start of the buffer
+-- the endpoint takes its step for the slot's link frame, and answers as `macsec_receive` would; what is delivered is at the
+-- start of the buffer
 pub record IsFinished (e : Ahead) (link : List ℕ) (result : Finished) (out : List ℕ) (later : Ahead) (left : SlotState) : Type 0 where
   pub after : later ≡ (ahead_step e (endpoint_input (link_frame link))).1
   pub shown : parts_of_finished result out ≡ received_of (ahead_step e (endpoint_input (link_frame link))).0
@@ -129,7 +128,7 @@ pub record IsUnfinished (status : ℕ) (e : Ahead) (s : SlotState) (result : Fin
   pub same_endpoint : later ≡ e
   pub same_slot : left ≡ s
 
--- by whether the slot has a link frame, and whether the buffer is too small
+-- the frame is finished if the slot has a link frame and the buffer is large enough; otherwise nothing changes
 abbrev pub FinishesIf : Bool → Bool → Ahead → SlotState → List ℕ → Finished → List ℕ → Ahead → SlotState → Type 0
 FinishesIf false small e s out result out_after after left = IsUnfinished job_status e s result out out_after after left
 FinishesIf true true e s out result out_after after left = IsUnfinished space_status e s result out out_after after left

@@ -24,7 +24,7 @@ abbrev pub saved_at : Sci → Keeping → ℕ → Option Reservation
 saved_at sci k an = option_map (saved_for k.salt k.secy) (rx_row k.secy.rx.rows sci an)
 
 -- the reservation that the receive SA of this SCI and number needs next to accept up to `amount` packet numbers, if it
--- exists and needs one: after its own next one, or after that of a frame which was dropped if that is later
+-- exists and needs one: after its own next packet number, or after the number of a dropped frame if this is higher
 abbrev pub accepting_at : Sci → ℕ → ℕ → Ahead → ℕ → Option Reservation
 accepting_at sci amount pn e an = option_and_then (λ row. wanted_to_accept e amount (max row.next pn) row) (rx_row e.k.secy.rx.rows sci an)
 

@@ -15,7 +15,7 @@ min_answer_len = 64
 abbrev pub needed : Answer → ℕ
 needed a = max min_answer_len (length a.text)
 
--- the endings of answers that are written: all but those of a small buffer and of too little memory
+-- the endings of answers that are written: all except a buffer that is too small and too little memory
 abbrev pub is_answered : Ending → Bool
 is_answered TooLong = false
 is_answered (Wrong fault.Memory) = false

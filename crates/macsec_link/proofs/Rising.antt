@@ -1,4 +1,4 @@
--- The items of two lists, pair by pair, each pair at a moment of its own: the moments rise.
+-- The items of two lists, pair by pair, no two pairs at the same moment: the moments rise.
 use Rattle.macsec_link.proofs.Names.{◌≡◌, ℕ, zero, suc, ◌<◌, ◌≤◌, List, [], ◌∷◌, ◌++◌, length, refl, ap, subst, arith, All, AllPairs, slice_get, Some}
 use Rattle.macsec_link.proofs.Names.{All-nil, All-push, All-weaker}
 use Rattle.macsec_link.proofs.Pairs.{no_pairs, pairs-push}

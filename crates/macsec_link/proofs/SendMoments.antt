@@ -1,4 +1,4 @@
--- Each frame that is sent protected is sent at a moment of its own: the moments rise.
+-- No two protected frames are sent at the same moment: the moments rise.
 use Rattle.macsec_link.proofs.Names.{◌≡◌, ℕ, suc, List, [], ◌++◌, arith, append-nil, refl, subst, sym, Option, Some, None, TxRow, sending_of, End}
 use Rattle.macsec_link.proofs.Names.{Event, Send, SendUncontrolled, Deliver, Alter, Pad, Inject, WorldFault}
 use Rattle.macsec_commands.specs.declared.event.Event.TheVariants.{Command}

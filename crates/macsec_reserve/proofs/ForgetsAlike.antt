@@ -1,4 +1,4 @@
--- A run with forgetting beside the same run without: the same endpoint but for the octets of forgotten keys.
+-- A run with forgetting, compared with the same run without: the endpoints differ only in the octets of forgotten keys.
 use Rattle.std.proofs.Common.{◌≡◌, inl, inr, ℕ, ◌≤◌, Bool, true, false, List, [], ◌∷◌, ◌++◌, map, length, refl, ap, sym, subst, ◌∙◌, arith, length-append, All, Contains}
 use Rattle.std.specs.Prelude.{◌==◌, ◌||◌, ◌&&◌, not, is_some, if◌then◌else◌, Option, Some, None, IsSome, unwrap_or}
 use Rattle.std.specs.List.{list_any}

@@ -19,7 +19,7 @@ use Rattle.macsec_reserve.specs.Forgetting.{is_done_output}
 use Rattle.macsec_reserve.specs.Journal.{sending_name}
 use Rattle.macsec_reserve.specs.Keeping.{for_each_key, nothing_yet}
 
--- ---- entries, and those of the keys for which nothing was reported
+-- ---- entries, and the entries of keys for which nothing was reported
 
 -- the entries with those that are missing; `all` has one for each key
 abbrev pub completed : List Reservation → List Reservation → List Reservation

@@ -28,7 +28,7 @@ pub record KeyLaws : Type 0 where
   pub stays_given_up : (s : State) (n : ℕ) (input : Input) → StaysGivenUp s n input
   pub alike : (s : State) (n : ℕ) (bytes : List ℕ) (input : Input) → StepsAlike s n bytes input
 
--- the number of a key, and the octets that take the place of its own
+-- the number of a key, and the octets that replace its octets
 abbrev pub Replacement : Type 0
 Replacement = ℕ × List ℕ
 

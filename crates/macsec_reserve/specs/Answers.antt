@@ -22,7 +22,7 @@ output_of_kept (Ok (Sent sent)) = endpoint_output (output_of_sent (Ok sent))
 output_of_kept (Ok NoReservation) = dropped_no_reservation
 output_of_kept (Err f) = endpoint_output (output_of_sent (Err f))
 
--- the output is one of the endpoint, of which this holds
+-- the output is an output of the endpoint, and this holds for it
 abbrev pub IfEndpoint : KeepingOutput → (Output → Type 0) → Type 0
 IfEndpoint (endpoint_output output) holds = holds output
 IfEndpoint dropped_no_reservation holds = ⊥

@@ -57,7 +57,7 @@ others k [] = []
 others k (input ∷ inputs) =
     if installs_retired k input then others (forgetting_step k input).1 inputs else input ∷ others (forgetting_step k input).1 inputs
 
--- the outputs to them
+-- the outputs for these inputs
 abbrev pub outputs_to_others : Keeping → List KeepingInput → List KeepingOutput
 outputs_to_others k [] = []
 outputs_to_others k (input ∷ inputs) =
@@ -73,7 +73,7 @@ outputs k (input ∷ inputs) = (keeping_step k input).0 ∷ outputs (keeping_ste
 abbrev pub RefusesRetired : KeepingOutput → Type 0
 RefusesRetired output = (output ≡ endpoint_output (refused PnFloor)) ⊎ (output ≡ endpoint_output (refused KeyRetired))
 
--- the same output, or the one and the other of these refusals
+-- the same output, or two of these refusals
 abbrev pub AreAlike : KeepingOutput → KeepingOutput → Type 0
 AreAlike x y = (x ≡ y) ⊎ (RefusesRetired x × RefusesRetired y)
 
@@ -82,19 +82,19 @@ AreAllAlike [] [] = Unit {0}
 AreAllAlike (x ∷ xs) (y ∷ ys) = AreAlike x y × AreAllAlike xs ys
 AreAllAlike xs ys = ⊥
 
--- two endpoints that are the same but for the octets of retired keys
+-- two endpoints that differ only in the octets of retired keys
 pub record AreSameBut (s t : State) : Type 0 where
   pub same : t ≡ record s { keys = t.keys }
   pub keys : (n : ℕ) → is_retired s.keys n ≡ false → key_row t.keys n ≡ key_row s.keys n
 
--- a run with forgetting, and the one without: both stay sound, seal the same, answer alike, and end alike
+-- a run with forgetting and the one without: both stay sound, seal the same, answer alike, and end alike
 pub record RunsAlike (k f : Keeping) (inputs : List KeepingInput) : Type 0 where
   pub sound : StaysSound k (others f inputs)
   pub seals : sealed_forgetting f inputs ≡ sealed_from k (others f inputs)
   pub answers : AreAllAlike (outputs k (others f inputs)) (outputs_to_others f inputs)
   pub ends : AreSameBut (keeping_after k (others f inputs)).secy (forgetting_after f inputs).secy
 
--- at each moment of the run the endpoint is sound, as each call leaves it
+-- the endpoint is sound at each moment of the run, as each call leaves it
 abbrev pub StaysSoundForgetting : Keeping → List KeepingInput → Type 0
 StaysSoundForgetting k inputs = (n : ℕ) → IsSound (forgetting_after k (take n inputs)).secy
 

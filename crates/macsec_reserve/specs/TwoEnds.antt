@@ -17,7 +17,7 @@ pub record AreOfTwoEnds (run other : Run) : Type 0 where
   pub sci : run.config.sci ≢ other.config.sci
   pub keys : (x y : InstalledKey) → Contains (closing run).secy.keys x → Contains (closing other).secy.keys y → x.bytes ≡ y.bytes → AgreeAtBoth x y
 
--- the histories of two ends, each with a journal of its own
+-- the histories of two ends, each with its own journal
 abbrev pub RepeatsNoIvAtBoth : List Run → List Run → Type 0
 RepeatsNoIvAtBoth runs others =
     IsHistory runs → IsHistory others → All (λ run. All (AreOfTwoEnds run) others) runs → AllPairs HasOtherIv (sealed_in_all runs ++ sealed_in_all others)

@@ -89,7 +89,7 @@ by_runs laws (run ∷ runs) sounds =
     (All-weaker (IsSentIn runs) P (λ x is. record { run = is.run; among = inr is.among; sound = is.sound; it = is.it }) (sent_in_all runs)
     (by_runs laws runs (All-tail IsSoundRun run runs sounds)))
 
--- ---- the uses of the cipher are those of what was sent
+-- ---- the uses of the cipher belong to what was sent
 
 abbrev pub seal_of_sent : SentIn → CipherUse
 seal_of_sent x = x.seal

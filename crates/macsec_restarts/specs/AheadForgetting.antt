@@ -1,5 +1,5 @@
 -- An endpoint that can reserve ahead of receiving and forgets the octets of the keys that it retires, as the library for C
--- makes it. Beside it, the same run of an endpoint that forgets none.
+-- makes it. Its runs are compared with those that an endpoint makes which forgets none.
 use Rattle.std.specs.Prelude.{◌≡◌, ◌<◌, ℕ, List, [], ◌∷◌, ◌++◌, take, Bool, true, false, if◌then◌else◌, Contains}
 use Rattle.std.specs.List.{AllPairs}
 use Rattle.macsec_secy.specs.Sound.{IsSound}
@@ -25,7 +25,7 @@ abbrev pub ahead_forgetting_after : Ahead → List KeepingInput → Ahead
 ahead_forgetting_after a [] = a
 ahead_forgetting_after a (input ∷ inputs) = ahead_forgetting_after (ahead_forgetting_step a input).1 inputs
 
--- the output and the keeping endpoint afterwards are those of the keeping endpoint's step that forgets
+-- the output, and the keeping endpoint after it, are what the keeping endpoint's forgetting step gives
 pub record TakesTheForgettingStep (a : Ahead) (input : KeepingInput) : Type 0 where
   pub output : (ahead_forgetting_step a input).0 ≡ kept (forgetting_step a.k input).0
   pub after : (ahead_forgetting_step a input).1.k ≡ (forgetting_step a.k input).1
@@ -49,16 +49,16 @@ abbrev pub accepted_from_forgetting : Ahead → List KeepingInput → List Deliv
 accepted_from_forgetting a [] = []
 accepted_from_forgetting a (input ∷ inputs) = newly_accepted a input ++ accepted_from_forgetting (ahead_forgetting_step a input).1 inputs
 
--- ---- beside the same run without forgetting
+-- ---- compared with a run without forgetting
 
--- the inputs without the installations of octets that retired keys have, or whose fingerprints they have
+-- the inputs, except those that install octets which a retired key has, or whose fingerprint it has
 abbrev pub others_with : Ahead → List KeepingInput → List KeepingInput
 others_with a [] = []
 others_with a (input ∷ inputs) =
     if installs_retired a.k input then others_with (ahead_forgetting_step a input).1 inputs
     else input ∷ others_with (ahead_forgetting_step a input).1 inputs
 
--- the outputs to them
+-- the outputs for these inputs
 abbrev pub outputs_to_others_with : Ahead → List KeepingInput → List AheadOutput
 outputs_to_others_with a [] = []
 outputs_to_others_with a (input ∷ inputs) =
@@ -70,7 +70,7 @@ abbrev pub outputs_with : Ahead → List KeepingInput → List AheadOutput
 outputs_with a [] = []
 outputs_with a (input ∷ inputs) = (ahead_step a input).0 ∷ outputs_with (ahead_step a input).1 inputs
 
--- the same output, or the one and the other refusal of a new SA under a retired key
+-- the same output; or both refuse a new SA under a retired key, maybe with different refusals
 abbrev pub AreAlikeWith : AheadOutput → AheadOutput → Type 0
 AreAlikeWith (kept x) (kept y) = AreAlike x y
 AreAlikeWith x y = x ≡ y
@@ -80,14 +80,14 @@ AreAllAlikeWith [] [] = Unit {0}
 AreAllAlikeWith (x ∷ xs) (y ∷ ys) = AreAlikeWith x y × AreAllAlikeWith xs ys
 AreAllAlikeWith xs ys = ⊥
 
--- two endpoints that are the same but for the octets of retired keys
+-- two endpoints that differ only in the octets of retired keys
 pub record AreSameButWith (a f : Ahead) : Type 0 where
   pub secy : AreSameBut a.k.secy f.k.secy
   -- what is reserved ahead, and where deleted SAs ended
   pub taken : f.taken ≡ a.taken
   pub ended : f.ended ≡ a.ended
 
--- a run with forgetting, and the one without: both answer alike, send, deliver and accept the same, and end alike
+-- a run with forgetting and the one without: they answer alike, send, deliver and accept the same, and end alike
 pub record AheadRunsAlike (a f : Ahead) (inputs : List KeepingInput) : Type 0 where
   pub answers : AreAllAlikeWith (outputs_with a (others_with f inputs)) (outputs_to_others_with f inputs)
   pub sends : sent_from_forgetting f inputs ≡ sent_from_with a (others_with f inputs)
@@ -95,7 +95,7 @@ pub record AheadRunsAlike (a f : Ahead) (inputs : List KeepingInput) : Type 0 wh
   pub accepts : accepted_from_forgetting f inputs ≡ accepted_from a (others_with f inputs)
   pub ends : AreSameButWith (ahead_after a (others_with f inputs)) (ahead_forgetting_after f inputs)
 
--- at each moment of a run the endpoint is sound, as each call leaves it
+-- the endpoint is sound at each moment of a run, as each call leaves it
 abbrev pub IsSoundForgetting : Bool → Run → Type 0
 IsSoundForgetting ahead run = (n : ℕ) → IsSound (ahead_forgetting_after (opening_with ahead run) (take n run.inputs)).k.secy
 

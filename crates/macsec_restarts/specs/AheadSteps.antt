@@ -20,7 +20,7 @@ use Rattle.macsec_ahead.specs.Ends.{end_of, end_of_row}
 
 -- ---- the keeping endpoint inside
 
--- the output and the keeping endpoint afterwards are those of the keeping endpoint's step
+-- the output, and the keeping endpoint after it, are what the keeping endpoint's step gives
 pub record TakesTheStep (a : Ahead) (input : KeepingInput) : Type 0 where
   pub output : (ahead_step a input).0 ≡ kept (keeping_step a.k input).0
   pub after : (ahead_step a input).1.k ≡ (keeping_step a.k input).1
@@ -32,7 +32,7 @@ pub record StepsInside (a : Ahead) (input : KeepingInput) : Type 0 where
   pub reports : (r : Reservation) → lets_through a (now_durable r) ≡ true
   pub frames : (frame : List ℕ) → lets_through a (endpoint_input (client_frame frame)) ≡ true
 
--- so the keeping endpoint inside is as after a run of its own, to which the same was reported
+-- so a run leaves the keeping endpoint inside as `run_inside` does, to which the same was reported
 pub record IsKeepingInside (ahead : Bool) (run : Run) : Type 0 where
   pub inside : (closing_with ahead run).k ≡ closing (run_inside ahead run)
   pub reports : reported (run_inside ahead run) ≡ reported run
@@ -43,8 +43,8 @@ IsAsBefore a input = a.ahead ≡ false → begins_again a input ≡ false → Ta
 
 -- ---- a frame that was dropped can be presented again
 
--- once a record under the SA's name is durable that reaches the frame's PN, the frame is not dropped any more, unless an
--- earlier run may have accepted its PN
+-- once a durable record under the SA's name reaches the frame's PN, the frame is not dropped any more, unless an earlier run
+-- may have accepted its PN
 abbrev pub PassesOnceReserved : Ahead → List ℕ → RxRow → List ℕ → Reservation → Type 0
 PassesOnceReserved a frame row delivered r =
     let j = judgement_of a.k.secy frame in
@@ -57,12 +57,12 @@ pub record ReachesPn (a : Ahead) (n : ℕ) (row : RxRow) (r : Reservation) : Typ
   pub name : r.name ≡ row_name a.k.salt a.k.secy row
   pub last : n ≤ r.last
 
--- the record to write next is one
+-- the record to write next, if there is one, reaches `next`
 abbrev pub WantsEnough : Ahead → ℕ → ℕ → RxRow → Reservation → Type 0
 WantsEnough a amount next row r = wanted_to_accept a amount next row ≡ Some r → ReachesPn a next row r
 
--- a frame of an SA that was dropped as not reserved: the output names the SA and the frame's PN, and with it as the next
--- PN there is a record to write
+-- the output for a frame that was dropped as not reserved names its SA and its PN; with this PN as the next one, there is a
+-- record to write
 pub record AsksForRecord (a : Ahead) (amount : ℕ) (row : RxRow) (number : ℕ) (at : RxPn) : Type 0 where
   pub of_sci : at.sci ≡ row.sci
   pub of_an : at.an ≡ row.an
@@ -83,12 +83,12 @@ RemembersEnd a input row =
     a.k.keeps ≡ true → rx_row a.k.secy.rx.rows row.sci row.an ≡ Some row → rx_row after.k.secy.rx.rows row.sci row.an ≡ None →
     end_of_row row ≤ end_of after.ended row.key row.sci row.an
 
--- for the rest of the run, or until its key is retired: then no SA is created under the key any more
+-- the end is remembered for the rest of the run, or until its key is retired: then no SA is created under the key any more
 abbrev pub KeepsEnds : Ahead → List KeepingInput → ℕ → Sci → ℕ → Type 0
 KeepsEnds a inputs key sci an =
     let after = ahead_after a inputs in IsGivenUp after.k.secy key ⊎ (end_of a.ended key sci an ≤ end_of after.ended key sci an)
 
--- at that end or below it the SA is not created again under the key, and nothing changes
+-- the SA is not created again under the key at that end or below it, and nothing changes
 abbrev pub RefusesBelowEnd : Ahead → Sci → ℕ → ℕ → ℕ → ℕ → Type 0
 RefusesBelowEnd a sci an key ssci lowest =
     0 < lowest → lowest ≤ end_of a.ended key sci an →

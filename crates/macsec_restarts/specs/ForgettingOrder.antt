@@ -52,8 +52,8 @@ ComesInOrderForgetting ahead e bytes sci an events =
     IsSubsequence (map numbered_delivery (delivered_at bytes sci an (delivered_in_all_forgetting (ahead e) (runs_of e events))))
     (map numbered_sent (sent_under bytes (sent_in_all_forgetting (ahead (other_end e)) (runs_of (other_end e) events))))
 
--- at each moment. The endpoints that forget are sound; the other premises are those of order, of the endpoints that
--- forget none: the octets of a key are those with which it was installed
+-- at each moment. The endpoints that forget are sound. The other premises are the premises of order for the endpoints that
+-- forget none: there a key keeps the octets with which it was installed
 abbrev pub ComesInOrderOnceForgetting : (End → Bool) → List Happening → Type 0
 ComesInOrderOnceForgetting ahead events =
     (e : End) (bytes : List ℕ) (sci : Sci) (an : ℕ) → ((f : End) → All (IsSoundForgetting (ahead f)) (runs_of f events)) →

@@ -74,7 +74,7 @@ lines_before law script w after made sound old new (Err f) it =
 
 -- ---- the script
 
--- a script of which nothing is written yet
+-- a script before anything of it is written
 none_before : (answer : Result (Option ScriptParts) ScriptFault) → IfOk answer (λ it. AnyPromisedUpTo it Memory [])
 none_before (Ok None) = refl
 none_before (Ok (Some script)) = inl refl

@@ -90,7 +90,7 @@ cut_piece : (start : WorldState) (before : List NumberedLine) (entry : NumberedL
 cut_piece start before entry old mid w front so_far begins =
     ap (λ v. (line_step v entry.0 entry.1).0) (sym so_far.world) ∙ starts_with_rest (line_step w entry.0 entry.1).0 front begins
 
--- the lines before it were printed, and a prefix of its own text
+-- the lines before it were printed, and a prefix of its text
 cut_at : (start : WorldState) (lines : List NumberedLine) (i : ℕ) (entry : NumberedLine) (old mid new : Option (List ℕ)) (w : WorldState) →
     entry ≡ get_or lines i entry → i < length lines → CarriedOut start (take i lines) old mid w →
     AppendsFront mid new (line_step w entry.0 entry.1).0 → AppendsFront old new (text_from start lines)
@@ -115,7 +115,7 @@ given_up start lines i entry old mid new w item within so_far Memory h = cut_at 
 given_up start lines i entry old mid new w item within so_far Write h = cut_at start lines i entry old mid new w item within so_far h
 given_up start lines i entry old mid new w item within so_far other h = h
 
--- a write fails in a line: the lines before it were printed, and a prefix of its own text, and it was carried out
+-- a write fails in a line: the line was carried out, the lines before it were printed, and so was a prefix of its text
 cut_into : StepIsSound → (start : WorldState) (lines : List NumberedLine) (i : ℕ) (entry : NumberedLine) (old mid new : Option (List ℕ)) (w after : WorldState) →
     entry ≡ get_or lines i entry → i < length lines → CarriedOut start (take i lines) old mid w → AppendsFront mid new (line_step w entry.0 entry.1).0 →
     after ≡ (line_step w entry.0 entry.1).1 → (IsSound w → IsSound after) → IsPromisedBefore (IsSoundUpTo start after lines) old new Write

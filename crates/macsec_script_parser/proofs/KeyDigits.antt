@@ -58,7 +58,7 @@ pair_of a b i (Some x) (Some y) ha hb =
 
 -- ---- decoding pair by pair
 
--- these octets before those of the pairs that are left
+-- these octets before the octets of the pairs that are left
 abbrev pub prepend : List ℕ → Result (List ℕ) FromHexError → Result (List ℕ) FromHexError
 prepend front (Ok rest) = Ok (front ++ rest)
 prepend front (Err e) = Err e
@@ -117,7 +117,8 @@ prepend-nil (Err e) = refl
 
 -- ---- the loop
 
--- of the first i pairs, this many octets are digits: all of them, and the octets are those of the pairs; or fewer, and the word is no hex text
+-- of the first i pairs, this many octets are digits: all of them, and the pairs give these octets; or fewer, and the word is
+-- no hex text
 pub record AreRead (word octets : List ℕ) (i digits : ℕ) : Type 0 where
   pub most : digits ≤ 2 * i
   pub all : digits ≡ 2 * i → IsBefore word octets i

@@ -49,7 +49,7 @@ on_after_line add first made next i lines d line within way is adds =
 
 -- ---- the end
 
--- the first fault is that of the whole text
+-- the first fault is the fault of the whole text
 faulty : {X Y : Type 0} (r : Result X ScriptFault) (finish : X → Result Y ScriptFault) (f : ScriptFault) → Parses r (Err f) → Parses (and_then r finish) (Err f)
 faulty r finish script.Memory h = tt
 faulty r finish script.Read h = h

@@ -71,7 +71,7 @@ retired_row row = record row { retired = true }
 abbrev pub keys_retiring : List InstalledKey → ℕ → List InstalledKey
 keys_retiring rows number = with_key retired_row number rows
 
--- the row with other octets in place of its own
+-- the row with its octets replaced
 abbrev pub with_bytes : List ℕ → InstalledKey → InstalledKey
 with_bytes bytes row = record row { bytes = bytes }
 

@@ -204,7 +204,7 @@ origin_fails octet other = (
       sent_none it.0 it.1 it.3,
 )
 
--- the law of order likewise, with the other premises at each moment
+-- the law of order with the premise weakened in the same way, and the other premises at each moment
 abbrev pub OrderWhereStrictAtEnd : EndConfig → EndConfig → List Event → Type 0
 OrderWhereStrictAtEnd a b events =
     IsGenuine (new_trace a b) events → AgreeOnKeys (world_after (new_world a b) events) →

@@ -125,7 +125,7 @@ one_run_each left_out a b sound sound' apart' =
       one_b = subst (AllPairs (IsSameEndBut left_out)) (sym (runs_of-blocks B its)) (one_alone (IsSameEndBut left_out) b);
     }
 
--- the uses of the cipher are those of what was sent
+-- the uses of the cipher belong to what was sent
 pub seals_are : (runs : List Run) (sends : List SentIn) → sent_in_all runs ≡ sends → sealed_in_all runs ≡ map seal_of_sent sends
 seals_are runs sends is = sym (seals_of_runs runs) ∙ ap (map seal_of_sent) is
 

@@ -95,7 +95,7 @@ link_1 = receiver.link 1 t
 abbrev link_3 : KeepingInput
 link_3 = receiver.link 3 u
 
--- ---- its runs, and those of the keeping endpoint inside
+-- ---- its runs, and the runs of the keeping endpoint inside
 
 abbrev run_of : Bool → List KeepingInput → Run
 run_of again inputs = record { journal = journal false (before_b again); config = gcm_b; inputs = receiver.commands again ++ inputs }
@@ -426,7 +426,7 @@ these_inside =
     ∙ ap (λ (b : Run). blocks ((A, run_a false) ∷ (B, b) ∷ (A, run_a true) ∷ (B, run_inside true (run_b true)) ∷ [])) (inside_b false)
     ∙ ap (λ (b : Run). blocks ((A, run_a false) ∷ (B, inner_b false) ∷ (A, run_a true) ∷ (B, b) ∷ [])) (inside_b true)
 
--- the premises of order are those of the keeping endpoints inside
+-- the premises of order hold for the keeping endpoints inside
 orderly_inside : (before h : List Happening) → AtEach (IsOrderly B bytes sci_a 0) before h → AtEach (IsOrderlyInside true B bytes sci_a 0) before h
 orderly_inside before [] each = tt
 orderly_inside before (h ∷ more) each = (one h each.0, orderly_inside (before ++ h ∷ []) more each.1)

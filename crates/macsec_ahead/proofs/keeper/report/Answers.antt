@@ -1,4 +1,4 @@
--- Each SA has an entry, and a report raises those of its name.
+-- Each SA has an entry, and a report raises the entries with its name.
 use Rattle.std.proofs.Common.{◌≡◌, ◌++◌, length, map, ap, ◌∙◌, arith}
 use Rattle.std.proofs.lemmas.List.{length-map, with_items_is}
 use Rattle.macsec_secy.specs.State.{State}

@@ -1,4 +1,4 @@
--- The answer is that of the step.
+-- The call answers as the step does.
 use Rattle.std.proofs.Common.{◌≡◌, ap, false, refl, rules, true, ◌∙◌}
 use Rattle.std.specs.Prelude.{length, nat_lt}
 use Rattle.std.proofs.lemmas.Bool.{le-ltb, lt-ltb}

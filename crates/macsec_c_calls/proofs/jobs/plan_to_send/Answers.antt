@@ -1,4 +1,4 @@
--- The answer is that of the step.
+-- The call answers as the step does.
 use Rattle.std.proofs.Common.{◌≡◌, ap, false, rules, true, ◌∙◌}
 use Rattle.macsec_jobs.specs.Slots.{is_idle}
 use Rattle.macsec_c_calls.specs.Jobs.{planned_for}

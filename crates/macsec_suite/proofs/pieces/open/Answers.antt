@@ -1,4 +1,4 @@
--- All pieces were checked, so the result is that of the whole text. If the tag is valid, all of them are decrypted.
+-- All pieces were checked, so the result holds for the whole text. If the tag is valid, all of them are decrypted.
 use Rattle.std.proofs.Common.{ap, sym, ◌∙◌, subst}
 use Rattle.std.specs.Prelude.{◌≡◌, ℕ, List, [], Some, None, IfSome, IfNone}
 use Rattle.macsec_gcm.specs.Gcm.{open_of}

@@ -1,4 +1,4 @@
--- The ends of the SAs that are gone are added, and those of a key that is retired removed.
+-- The ends of the deleted SAs are added, and the ends under a retired key are removed.
 use Rattle.std.proofs.Common.{◌≡◌, false, ap, sym, ◌∙◌}
 use Rattle.macsec_secy.specs.State.{State}
 use Rattle.macsec_secy.specs.Step.{operator_command}

@@ -1,4 +1,4 @@
--- The keeping endpoint takes its step within the limits, which are those of what is reserved.
+-- The keeping endpoint takes its step within the limits, which follow from what is reserved.
 use Rattle.std.proofs.Common.{◌≡◌, List, refl, ap, sym, ◌∙◌}
 use Rattle.std.specs.Prelude.{Ok, Err}
 use Rattle.macsec_rx.specs.declared.within.PnLimits.{PnLimits}

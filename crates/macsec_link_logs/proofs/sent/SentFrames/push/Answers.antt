@@ -1,4 +1,4 @@
--- The frame is added to those of the log. By a term, so that the prover refuses a mutant quickly.
+-- The frame is added to the log. By a term, so that the prover refuses a mutant quickly.
 use Rattle.std.proofs.Common.{◌∙◌, ℕ, List, ap}
 use Rattle.std.proofs.lemmas.List.{map-append}
 use Rattle.macsec_link_logs.specs.Kept.{KeptSentLog, frames_kept}
