@@ -1,5 +1,5 @@
--- Where the receive SAs ended that this run deleted: a table of bounded size. While there is space for it, each SA has an
--- entry. The others share a number for each key, or in the end one number for all keys, which may refuse more than needed.
+-- Where the receive SAs that this run deleted have ended: a table of bounded size. While there is space, each SA gets an
+-- entry. Further SAs share a number for each key, and at last one number for all keys. So more may be refused than needed.
 use Rattle.std.specs.Prelude.{ℕ, ◌-◌, ◌^◌, ◌==◌, ◌&&◌, not, nat_lt, min, max, List, [], ◌∷◌, ◌++◌, length, map, filter, Bool, if◌then◌else◌}
 use Rattle.std.specs.List.{list_any}
 use Rattle.macsec_tag.specs.declared.identifiers.Sci.{Sci}
@@ -12,7 +12,7 @@ use Rattle.macsec_secy.specs.State.{State}
 use Rattle.macsec_ahead.specs.declared.ends.EndedKey.{EndedKey}
 use Rattle.macsec_ahead.specs.declared.ends.EndedSa.{EndedSa}
 
--- how many SAs have an entry at most, and how many keys have a number
+-- the most SAs that have an entry, and the most keys that have a number
 abbrev pub max_end_count : ℕ
 max_end_count = 1024
 
@@ -87,14 +87,14 @@ end_of_row row = min (row.lowest - 1) (2 ^ 64 - 1)
 abbrev pub ended_of : RxRow → EndedSa
 ended_of row = record { key = row.key; sci = row.sci; an = row.an; last = end_of_row row }
 
--- of these SAs, those that are not there
+-- the ends of the SAs in a list that do not exist
 abbrev pub is_gone : State → RxRow → Bool
 is_gone s row = not (has_rx s.rx.rows row.sci row.an)
 
 abbrev pub ends_among : State → List RxRow → List EndedSa
 ends_among s rows = map ended_of (filter (is_gone s) rows)
 
--- the SAs that were there before a step, and are not there after it
+-- the ends of the SAs that existed before a step and do not exist after it
 abbrev pub ended_by : State → State → List EndedSa
 ended_by s after = ends_among after s.rx.rows
 

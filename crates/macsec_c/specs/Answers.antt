@@ -1,5 +1,5 @@
--- What the calls of a handle return, given the outputs of its endpoint: of the machine of `macsec_ahead`, which without a
--- journal is the machine. A command takes its step in the machine that forgets retired keys.
+-- What the calls of a handle return, given the outputs of its endpoint. The endpoint is the machine of `macsec_ahead`, which
+-- without a journal is the machine. A command takes its step in the machine that forgets retired keys.
 use Rattle.std.specs.Prelude.{◌≡◌, ℕ, List, Bool, true, false, Option, Some, None, Ok, Err, option_map}
 use Rattle.macsec_commands.specs.declared.command.Command.{Command}
 use Rattle.macsec_commands.specs.declared.config.EndConfig.{EndConfig}
@@ -52,7 +52,7 @@ Makes (Some e) config status after = (status ≡ taken_status) × (after ≡ Som
 Makes None (Err f) status after = (status ≡ status_of_argument_fault f) × (after ≡ None)
 Makes None (Ok config) status after = MakesInto (config_fault config) (alone_with config) status after
 
--- for an endpoint beside these octets, if they are a journal; it reserves ahead of receiving, or not
+-- the same for an endpoint with these octets, if they are a journal; it reserves ahead of receiving, or not
 abbrev pub MakesBeside : Bool → Bool → EndConfig → List ℕ → ℕ → Option Ahead → Type 0
 MakesBeside false ahead config journal status after = (status ≡ not_journal_status) × (after ≡ None)
 MakesBeside true ahead config journal status after = MakesInto (config_fault config) (opened_with ahead config journal) status after

@@ -1,5 +1,5 @@
--- The calls for jobs, at handles of endpoints, keys and slots. A handle without its thing is refused first, in this order: the
--- endpoint, the slot, the key.
+-- The calls for jobs, at handles of endpoints, keys and slots. An empty handle is refused first, in this order: the
+-- endpoint's, the slot's, the key's.
 use Rattle.std.specs.Prelude.{◌≡◌, ℕ, List, true, Option, Some, None, Ok, Err}
 use Rattle.macsec_suite.specs.KeyRows.{key_row}
 use Rattle.macsec_ahead.specs.Ahead.{Ahead}
@@ -16,7 +16,7 @@ use Rattle.macsec_commands.specs.declared.fault.NewFault.TheVariants.{Memory}
 
 -- ---- keys
 
--- the key of this number in an endpoint, into a handle without one
+-- the key of this number in an endpoint is taken into an empty handle
 abbrev pub TakesHeld : Option PlannedKey → Option Ahead → Named ℕ → ℕ → Option PlannedKey → Type 0
 TakesHeld (Some key) held number status after = (status ≡ taken_status) × (after ≡ Some key)
 TakesHeld None None number status after = (status ≡ empty_status) × (after ≡ None)
@@ -25,7 +25,7 @@ TakesHeld None (Some e) (Ok n) status after = TakesKey (key_row e.k.secy.keys n)
 
 -- ---- slots
 
--- a slot without a frame, into a handle without one; or out of memory
+-- a slot without a frame is made in an empty handle; or out of memory
 abbrev pub MakesSlot : Option SlotState → ℕ → Option SlotState → Type 0
 MakesSlot (Some s) status after = (status ≡ taken_status) × (after ≡ Some s)
 MakesSlot None status (Some s) = (status ≡ done_status) × (is_idle s.work ≡ true)

@@ -5,7 +5,7 @@ use Rattle.macsec_commands.specs.declared.config.EndConfig.{EndConfig}
 use Rattle.macsec_c_calls.specs.declared.creating.Config.{Config}
 use Rattle.macsec_c_calls.specs.Arguments.{Named, form_of, naming_both, sci_of, suite_of}
 
--- with this suite and tag form
+-- the configuration with this suite and tag form
 abbrev pub config_with : Config → Suite → TagForm → EndConfig
 config_with c suite form = record { suite = suite; sci = sci_of c.sci; max_frame = c.max_frame; form = form }
 

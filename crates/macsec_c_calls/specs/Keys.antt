@@ -6,7 +6,7 @@ use Rattle.macsec_suite.specs.declared.key_row.NewKey.{NewKey}
 use Rattle.macsec_c_calls.specs.declared.commands.Sak.{Sak}
 use Rattle.macsec_c_calls.specs.Arguments.{Named, key_number_of, key_of, key_suite_of}
 
--- with this suite, number and octets, which are checked in this order
+-- the key with this suite, number and octets, which are checked in this order
 abbrev pub key_with : Sak → Named (Option Suite) → Named ℕ → Named Key → Named NewKey
 key_with k (Ok suite) (Ok number) (Ok bytes) =
     Ok (record { number = number; bytes = bytes; salt = k.salt; ssci = k.ssci; offset = k.offset; suite = suite })

@@ -1,4 +1,4 @@
--- The statement of the law of answers: they are what a script prints for the endpoint.
+-- The statement of the law of answers: an answer is what a script prints for the endpoint.
 use Rattle.std.specs.Prelude.{◌≡◌, ◌⊎◌, ◌||◌, ℕ, Bool, true, false, MatchOption}
 use Rattle.macsec_aes.specs.Keys.{key_bytes}
 use Rattle.macsec_suite.specs.KeyRows.{the_key}
@@ -20,13 +20,13 @@ use Rattle.macsec_script_parser.specs.declared.lines.LineFault.TheVariants as fa
 use Rattle.macsec_script_printer.specs.OneEnd.{TextAndState, one_end_step}
 use Rattle.macsec_c_calls.specs.Answers.{Answer, answer_of_line, wrong}
 
--- a command that is refused because of a journal: it begins at a packet number that an earlier run may have used, or this
--- run before it deleted the SA
+-- a command that is refused because of a journal: it creates an SA at a packet number that an earlier run may have used, or
+-- that this run may have used before it deleted the SA
 abbrev pub is_refused_by_journal : Ahead → Action → Bool
 is_refused_by_journal e (action.Event (event.Command A c)) = begins_again e (operator_command c) || is_below_floor e.k (operator_command c)
 is_refused_by_journal e other = false
 
--- a command that installs a forgotten key: the endpoint refuses it as a repeated one, and has only its fingerprint
+-- a command that installs a forgotten key: the endpoint has only its fingerprint, and refuses it as a repeated key
 abbrev pub installs_forgotten : Ahead → Action → Bool
 installs_forgotten e (action.Event (event.Command A (Key key))) = is_forgotten e.k (key_bytes key.bytes)
 installs_forgotten e other = false
@@ -38,14 +38,14 @@ IsButForgotten e (action.Event (event.Command A (Retire n))) s t =
     (t ≡ s) ⊎ ((is_retired s.keys n ≡ true) × (t ≡ replacing n (fingerprint e.k.salt (the_key s.keys n).bytes) s))
 IsButForgotten e other s t = t ≡ s
 
--- the answer has the text that a script prints, and the endpoint after it is the one after the script's line, except that
+-- the answer has the text that a script prints. The endpoint after it is the endpoint after the script's line, except that
 -- it forgets the key that the line retires
 pub record IsPrinted (e : Ahead) (said : Action) (a : Answer) (it : TextAndState) : Type 0 where
   pub text : a.text ≡ it.0
   pub state : IsButForgotten e said it.1 a.after.k.secy
 
--- the answer to a line about end A alone is what a script prints for it, unless the journal refuses it, or it installs a
--- forgotten key; every other line is in a wrong place
+-- the answer to a line about end A alone is what a script prints for it, unless the journal refuses the line or the line
+-- installs a forgotten key; every other line is in a wrong place
 abbrev pub AnswersAsPrinted : Ahead → ℕ → Line → Type 0
 AnswersAsPrinted e n (line.End at config) = answer_of_line e n (line.End at config) ≡ wrong e n fault.Ends
 AnswersAsPrinted e n (line.Action said) =

@@ -1,6 +1,6 @@
--- What sealing a frame for a test gives: the frame as `protect_in_place` of `macsec_suite` would protect it, also if the
--- octets before its data are no SecTAG. Authenticated only are the octets before the data (destination and source
--- address, SecTAG) and the clear octets of the data: those before the confidentiality offset, or all without
+-- What sealing a frame for a test gives: the frame as `protect_in_place` of `macsec_suite` would protect it, even if the
+-- octets before its data are no SecTAG. The octets before the data (destination and source address, SecTAG) are only
+-- authenticated, and so are the clear octets of the data: the octets before the confidentiality offset, or all without
 -- confidentiality. The other data are encrypted (IEEE 802.1AE, 10.5, 14.5 to 14.8).
 use Rattle.std.specs.Prelude.{ℕ, ◌+◌, List, [], ◌∷◌, Bool, length, nat_lt, Option, Some, None, Ok, Err}
 use Rattle.macsec_aes.specs.declared.Key.{Key}
@@ -19,7 +19,7 @@ use Rattle.macsec_c_calls.specs.Statuses.{done_status, status_of_argument_fault,
 use Rattle.macsec_c_calls.specs.declared.commands.Sak.{Sak}
 
 -- the first status that applies: the suite's keys have another length, the packet number is above the suite's last one,
--- the frame has no 16 octets after its head, or it is too long. The packet number 0 is no fault, nor is any offset
+-- the frame has fewer than 16 octets after its head, or it is too long. Neither packet number 0 nor any offset is a fault
 abbrev pub seal_fault : Suite → Key → ℕ → ℕ → List ℕ → Option ℕ
 seal_fault suite key pn head frame =
     first_that_holds (

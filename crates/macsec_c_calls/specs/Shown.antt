@@ -50,7 +50,7 @@ low_half n = n % 2 ^ 64
 abbrev pub high_half : ℕ → ℕ
 high_half n = n / 2 ^ 64
 
--- of each struct the reserved members are 0
+-- the reserved members of each struct are 0
 abbrev pub options_shown : Options → OptionsShown
 options_shown o = record { window = o.window; mode = number_of_mode o.mode; form = number_of_form o.form; protect = o.protect; replay = o.replay; reserved = replicate 5 0 }
 

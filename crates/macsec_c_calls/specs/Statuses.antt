@@ -119,8 +119,8 @@ number_of_verdict Delayed = 10
 number_of_verdict Invalid = 11
 number_of_verdict Passed = 12
 
--- the numbers of two verdicts that only an endpoint has which reserves ahead of receiving: a valid frame is dropped, since
--- its packet number is not reserved yet, or since an earlier run had reserved it
+-- the numbers of two verdicts of an endpoint that reserves ahead of receiving: a valid frame is dropped because its packet
+-- number is not reserved yet, or because an earlier run had reserved it
 abbrev pub no_reservation_verdict : ℕ
 no_reservation_verdict = 13
 

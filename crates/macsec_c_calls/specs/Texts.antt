@@ -82,7 +82,7 @@ unless_new_fault (Some f) made = Err (New f)
 abbrev pub created_alone : Creation
 created_alone config = unless_new_fault (config_fault config) (alone_with config)
 
--- beside these octets, if they are a journal; it reserves ahead of receiving, or not
+-- with these octets, if they are a journal; the endpoint reserves ahead of receiving, or not
 abbrev pub created_if : Bool → Bool → List ℕ → Creation
 created_if false ahead journal config = Err NotJournal
 created_if true ahead journal config = unless_new_fault (config_fault config) (opened_with ahead config journal)

@@ -1,4 +1,4 @@
--- What is written of an answer to a buffer of the caller's.
+-- What is written of an answer to the caller's buffer.
 use Rattle.std.specs.Prelude.{◌≡◌, ◌≤◌, ◌<◌, ℕ, List, ◌++◌, Bool, true, false, drop, length, max}
 use Rattle.macsec_ahead.specs.Ahead.{Ahead}
 use Rattle.macsec_script_parser.specs.declared.lines.LineFault.TheVariants as fault
@@ -7,7 +7,7 @@ use Rattle.macsec_c_calls.specs.declared.answering.Ending.{Ending}
 use Rattle.macsec_c_calls.specs.declared.answering.Ending.TheVariants.{Done, Refused, Wrong, TooLong}
 use Rattle.macsec_c_calls.specs.Answers.{Answer, answer_of}
 
--- the fewest octets of a buffer: so many are enough for each answer but counters and packet numbers
+-- the fewest octets of a buffer; they are enough for every answer except counters and packet numbers
 abbrev pub min_answer_len : ℕ
 min_answer_len = 64
 
@@ -29,18 +29,18 @@ pub record IsWritten (a : Answer) (before : List ℕ) (r : Answered) (out : List
   pub octets : out ≡ a.text ++ drop (length a.text) before
   pub endpoint : after ≡ a.after
 
--- nothing is written and nothing changes, with this length for an answer
+-- nothing is written and nothing changes; this length is returned
 pub record IsUnwritten (e : Ahead) (before : List ℕ) (count : ℕ) (r : Answered) (out : List ℕ) (after : Ahead) : Type 0 where
   pub len : r.length ≡ count
   pub octets : out ≡ before
   pub endpoint : after ≡ e
 
--- the answer needs more octets than the buffer has, and it is reported how many
+-- the answer needs more octets than the buffer has, and their number is returned
 pub record IsTooLong (e : Ahead) (a : Answer) (before : List ℕ) (r : Answered) (out : List ℕ) (after : Ahead) : Type 0 where
   pub room : length before < needed a
   pub unwritten : IsUnwritten e before (needed a) r out after
 
--- by how the line ended: an answer is written, unless the buffer is too small or memory runs out
+-- an answer is written, unless the buffer is too small or memory runs out
 abbrev pub WritesAs : Ending → Ahead → Answer → List ℕ → Answered → List ℕ → Ahead → Type 0
 WritesAs Done e a before r out after = IsWritten a before r out after
 WritesAs (Refused refusal) e a before r out after = IsWritten a before r out after

@@ -1,4 +1,4 @@
--- What a crash leaves of a journal: each record that was durable, at its place, and around it any octets at all.
+-- What a crash leaves of a journal: each record that was durable, where it was written, and any octets around it.
 use Rattle.std.specs.Prelude.{◌≡◌, ◌<◌, ◌≤◌, ◌%◌, ◌^◌, ℕ, List, ◌++◌, length}
 use Rattle.std.specs.List.{All, AllPairs}
 use Rattle.macsec_reserve.specs.declared.reservation.Reservation.{Reservation}
@@ -31,12 +31,12 @@ pub record StandsIn (journal : List ℕ) (r : Reservation) : Type 0 where
 abbrev pub LeavesRecords : Run → Run → Type 0
 LeavesRecords run later = All (StandsIn later.journal) (reported run)
 
--- then the later run reads what they reserve
+-- so the later run reads what they reserve
 abbrev pub LeavesDurable : Run → Run → Type 0
 LeavesDurable run later = LeavesRecords run later → KeepsDurable run later
 
--- the runs are sound and agree on their keys, and every later run reads the same salt, and each record that was
--- reported durable to a run, at its place
+-- the runs are sound and agree on their keys; every later run reads the same salt, and each record that was reported
+-- durable to an earlier run, where it was written
 pub record IsHistoryOfCrashes (runs : List Run) : Type 0 where
   pub sound : All (λ run. StaysSound (opening run) run.inputs) runs
   pub agree : AllPairs AgreeOnKeys runs

@@ -1,5 +1,5 @@
--- A keeping endpoint that forgets the octets of a key when it retires the key. In their place it keeps a fingerprint, by
--- which it still refuses them.
+-- A keeping endpoint that forgets the octets of a key when it retires the key. It keeps a fingerprint instead, by which it
+-- still refuses these octets.
 use Rattle.std.specs.Prelude.{ℕ, List, [], ◌∷◌, ◌++◌, length, take, Bool, true, false, ◌&&◌, if◌then◌else◌, Option, Some, None}
 use Rattle.macsec_aes.specs.Keys.{key_bytes}
 use Rattle.macsec_aes.specs.declared.Key.{Key as KeyOctets}
@@ -19,8 +19,8 @@ use Rattle.macsec_reserve.specs.Keeping.{Keeping, KeepingInput, KeepingOutput, e
 
 -- ---- fingerprints
 
--- the fingerprint of a key: the first octets of its name for sending, as many as it has itself. The name is a digest, so
--- the fingerprint does not reveal the key
+-- the fingerprint of a key: the first octets of its name for sending, as many as the key has. The name is a digest, so the
+-- fingerprint does not reveal the key
 abbrev pub fingerprint : List ℕ → List ℕ → List ℕ
 fingerprint salt bytes = take (length bytes) (sending_name salt bytes)
 
@@ -28,14 +28,14 @@ abbrev pub key_of_fingerprint : List ℕ → KeyOctets → KeyOctets
 key_of_fingerprint salt (K128 bytes) = K128 (fingerprint salt bytes)
 key_of_fingerprint salt (K256 bytes) = K256 (fingerprint salt bytes)
 
--- a key of these octets was forgotten: a retired key has their fingerprint
+-- a key with these octets was forgotten: a retired key has their fingerprint
 abbrev pub is_forgotten : Keeping → List ℕ → Bool
 is_forgotten k bytes = has_retired k.secy.keys (fingerprint k.salt bytes)
 
 -- ---- installing
 
--- a key to install, as the endpoint takes it: a forgotten key counts as its fingerprint, which is in the table, and so is
--- refused as a repeated key
+-- a key to install, as the endpoint takes it: a forgotten key counts as its fingerprint. This is in the table, so the key
+-- is refused as a repeated one
 abbrev pub as_taken : Keeping → NewKey → NewKey
 as_taken k key = if is_forgotten k (key_bytes key.bytes) then record key { bytes = key_of_fingerprint k.salt key.bytes } else key
 
@@ -61,8 +61,8 @@ fingerprint_of k n = fingerprint k.salt (the_key k.secy.keys n).bytes
 abbrev pub can_forget : Keeping → ℕ → Bool
 can_forget k n = can_replace k.secy.keys n (fingerprint_of k n)
 
--- the key's fingerprint takes the place of its octets. What was reported durable for each key stays under the name that
--- the key has now
+-- the key's fingerprint replaces its octets. What was reported durable for each key stays under the name that the key has
+-- now
 abbrev pub forgetting : Keeping → ℕ → Keeping
 forgetting k n = record k {
   secy = replacing n (fingerprint_of k n) k.secy;
@@ -89,7 +89,7 @@ then_forget (Some n) answer = (answer.0, if is_done answer.0 && can_forget answe
 
 -- ---- steps
 
--- as a keeping endpoint, but it refuses the keys that it has forgotten, and forgets those that it retires
+-- the keeping endpoint's step, except that it refuses forgotten keys, and forgets a key that it retires
 abbrev pub forgetting_step : Keeping → KeepingInput → KeepingOutput × Keeping
 forgetting_step k input = then_forget (retired_by input) (keeping_step k (taken k input))
 

@@ -1,4 +1,4 @@
--- What forgetting changes: nothing but the answers about retired keys.
+-- What forgetting changes: only the answers about retired keys.
 use Rattle.std.specs.Prelude.{◌≡◌, ◌⊎◌, ℕ, List, [], ◌∷◌, ◌++◌, take, Bool, true, false, ◌||◌, if◌then◌else◌, None}
 use Rattle.std.specs.List.{All, AllPairs}
 use Rattle.macsec_aes.specs.Keys.{key_bytes}
@@ -42,7 +42,7 @@ BecomesKnown k key = (forgetting_step k (installing key)).0 ≡ endpoint_output 
 abbrev pub StaysKnown : Keeping → KeepingInput → List ℕ → Type 0
 StaysKnown k input bytes = IsSound k.secy → is_known k bytes ≡ true → is_known (forgetting_step k input).1 bytes ≡ true
 
--- such a key is refused as a repeated one, if no refusal comes before that one, and nothing changes
+-- such a key is refused as a repeated one, unless an earlier refusal applies, and nothing changes
 abbrev pub RefusesKnown : Keeping → NewKey → Type 0
 RefusesKnown k key =
     is_known k (key_bytes key.bytes) ≡ true → has_wrong_length (suite_of k.secy.config.suite key) key.bytes ≡ false →
@@ -51,7 +51,7 @@ RefusesKnown k key =
 
 -- ---- beside the same run without forgetting
 
--- the inputs without the installations of octets that retired keys have, or whose fingerprints they have
+-- the inputs, except those that install octets which a retired key has, or whose fingerprint it has
 abbrev pub others : Keeping → List KeepingInput → List KeepingInput
 others k [] = []
 others k (input ∷ inputs) =

@@ -15,7 +15,7 @@ use Rattle.macsec_reserve.specs.declared.reservation.Reservation.{Reservation}
 use Rattle.macsec_reserve.specs.Journal.{highest, reservations, salt_of}
 use Rattle.macsec_reserve.specs.Keeping.{Keeping, KeepingInput, endpoint_input, now_durable, keeping_after, keeping_step, may_go, opened}
 
--- a run: the octets that it read, its configuration, and what came in until it ended, at whatever moment
+-- a run: the octets that it read, its configuration, and its inputs until it ended; it can end at any moment
 pub record Run : Type 0 where
   pub journal : List ℕ
   pub config : EndConfig
@@ -49,7 +49,7 @@ sealed s (client_frame frame) = sealed_by s frame (frame_fault frame) (sending_o
 sealed s (uncontrolled_frame frame) = []
 sealed s (link_frame frame) = []
 
--- the uses that a keeping endpoint seals: none where nothing changes
+-- the uses that a keeping endpoint seals: none for an input that changes nothing
 abbrev pub sealed_if : Bool → List CipherUse → List CipherUse
 sealed_if false uses = []
 sealed_if true uses = uses
@@ -65,14 +65,14 @@ sealed_from k (input ∷ inputs) = newly_sealed k input ++ sealed_from (keeping_
 abbrev pub sealed_in : Run → List CipherUse
 sealed_in run = sealed_from (opening run) run.inputs
 
--- all runs of a history, one after another
+-- the uses that all runs of a history seal, one run after another
 abbrev pub sealed_in_all : List Run → List CipherUse
 sealed_in_all [] = []
 sealed_in_all (run ∷ runs) = sealed_in run ++ sealed_in_all runs
 
 -- ---- what a history is
 
--- keys of the same octets have the same suite and, where packet numbers are extended, the same salt
+-- two keys with the same octets have the same suite and, if packet numbers are extended, the same salt
 pub record AgreeOnKey (x y : InstalledKey) : Type 0 where
   pub suite : x.suite ≡ y.suite
   pub salt : is_xpn x.suite ≡ true → x.salt ≡ y.salt
@@ -81,15 +81,15 @@ abbrev pub AgreeOnKeys : Run → Run → Type 0
 AgreeOnKeys run later =
     (x y : InstalledKey) → Contains (closing run).secy.keys x → Contains (closing later).secy.keys y → x.bytes ≡ y.bytes → AgreeOnKey x y
 
--- the journal that a later run reads has what was reported durable to the run; a crash may add any octets to it
+-- the journal that the later run reads has what was reported durable to the earlier run; a crash may add any octets to it
 abbrev pub KeepsDurable : Run → Run → Type 0
 KeepsDurable run later = (name : List ℕ) → highest (reported run) name ≤ highest (reservations later.journal) name
 
--- the journal that a later run reads has the salt of the one that the run read
+-- the later run reads a journal with the same salt as the earlier run
 abbrev pub SameSalt : Run → Run → Type 0
 SameSalt run later = salt_of later.journal ≡ salt_of run.journal
 
--- at each moment of the run the endpoint is sound, as each call leaves it
+-- the endpoint is sound at each moment of the run, as each call leaves it
 abbrev pub StaysSound : Keeping → List KeepingInput → Type 0
 StaysSound k inputs = (n : ℕ) → IsSound (keeping_after k (take n inputs)).secy
 

@@ -1,5 +1,5 @@
--- A keeping endpoint: the endpoint of the machine, with what earlier runs may have used and with what this run has
--- reserved. Without a journal it keeps nothing, and is the machine.
+-- A keeping endpoint: the endpoint of the machine, with what earlier runs may have used and what this run has reserved.
+-- Without a journal it keeps nothing, and is the machine.
 use Rattle.std.specs.Prelude.{ℕ, ◌+◌, ◌-◌, ◌/◌, ◌^◌, min, option_map, List, [], ◌∷◌, ◌++◌, map, drop, length, replicate, nat_lt, nat_le, not, ◌&&◌, ◌||◌, Bool, true, false, if◌then◌else◌, Option, Some, None}
 use Rattle.std.specs.List.{list_any}
 use Rattle.macsec_suite.specs.KeyRows.{InstalledKey, key_row, the_key}
@@ -25,12 +25,12 @@ pub record Keeping : Type 0 where
   pub before : List Reservation
   pub granted : List Reservation
 
--- as it is opened beside a journal: nothing is reserved
+-- a keeping endpoint opened with a journal: nothing is reserved
 abbrev pub opened : EndConfig → List ℕ → Keeping
 opened config journal =
     record { secy = start config; keeps = true; salt = salt_of journal; before = reduced (reservations journal); granted = [] }
 
--- as it is made without a journal
+-- a keeping endpoint made without a journal
 abbrev pub alone : EndConfig → Keeping
 alone config = record { secy = start config; keeps = false; salt = replicate 24 0; before = []; granted = [] }
 
@@ -40,7 +40,7 @@ key_name salt keys key = sending_name salt (the_key keys key).bytes
 
 -- ---- what was reported durable
 
--- the entry of a key for which nothing was
+-- the entry of a key for which nothing was reported
 abbrev pub nothing_yet : List ℕ → InstalledKey → Reservation
 nothing_yet salt key = record { name = sending_name salt key.bytes; last = 0 }
 
@@ -54,36 +54,36 @@ for_each_key salt granted keys = granted ++ map (nothing_yet salt) (drop (length
 abbrev pub may_use : Keeping → UsedNumber → Bool
 may_use k u = let name = key_name k.salt k.secy.keys u.0 in nat_lt (highest k.before name) u.1 && nat_le u.1 (highest k.granted name)
 
--- an input that uses packet numbers, by the machine, may use them all
+-- the endpoint may use every packet number that the machine would use for this input
 abbrev pub uses_reserved : Keeping → Input → Bool
 uses_reserved k input = not (list_any (λ u. not (may_use k u)) (number_used k.secy input))
 
--- without a journal any may be used
+-- without a journal every number may be used
 abbrev pub may_go : Keeping → Input → Bool
 may_go k input = not k.keeps || uses_reserved k input
 
--- the first packet number of an association to be, and the name under which it counts
+-- the first packet number of an SA that a command creates, and the name under which it counts
 abbrev pub begins_at : List ℕ → State → Command → Option (List ℕ × ℕ)
 begins_at salt s (TxSa an key next conf) = Some (key_name salt s.keys key, next)
 begins_at salt s (RxSa sci an key ssci lowest) = Some (receiving_name (key_name salt s.keys key) sci an, lowest)
 begins_at salt s c = None
 
--- an earlier run may have used the number, from 1 on
+-- the number is 1 or more, and an earlier run may have used it
 abbrev pub was_reserved : List Reservation → Option (List ℕ × ℕ) → Bool
 was_reserved before None = false
 was_reserved before (Some it) = nat_lt 0 it.1 && nat_le it.1 (highest before it.0)
 
--- a command that begins at a number which an earlier run may have used
+-- a command that creates an SA at a number which an earlier run may have used
 abbrev pub is_below_floor : Keeping → Input → Bool
 is_below_floor k (operator_command c) = k.keeps && was_reserved k.before (begins_at k.salt k.secy c)
 is_below_floor k input = false
 
--- the highest packet number that an earlier run may have used under the key of this number, if there is such a key: in
--- frames that the endpoint sent
+-- the highest packet number that an earlier run may have used under the key of this number in frames that the endpoint
+-- sent, if there is such a key
 abbrev pub tx_floor : Keeping → ℕ → Option ℕ
 tx_floor k key = option_map (λ (row : InstalledKey). highest k.before (sending_name k.salt row.bytes)) (key_row k.secy.keys key)
 
--- and in frames from this SCI that the receive association of this number accepted
+-- the same for frames from this SCI that the receive SA of this number accepted
 abbrev pub rx_floor : Sci → ℕ → Keeping → ℕ → Option ℕ
 rx_floor sci an k key =
     option_map (λ (row : InstalledKey). highest k.before (receiving_name (sending_name k.salt row.bytes) sci an)) (key_row k.secy.keys key)
@@ -103,8 +103,8 @@ pub data KeepingOutput : Type 0 where
 abbrev pub with_step : Keeping → Output × State → KeepingOutput × Keeping
 with_step k answer = (endpoint_output answer.0, record k { secy = answer.1 })
 
--- as the machine, except that no association begins at a number that an earlier run may have used, and that no packet
--- number is used which is not reserved; in both cases nothing changes
+-- the machine's step, with two exceptions, in which nothing changes: no SA begins at a number that an earlier run may have
+-- used, and no packet number is used which is not reserved
 abbrev pub keeping_step : Keeping → KeepingInput → KeepingOutput × Keeping
 keeping_step k (now_durable r) =
     (noted, record k { granted = map (raised_by r) (for_each_key k.salt k.granted k.secy.keys) })
@@ -120,15 +120,15 @@ keeping_after k (input ∷ inputs) = keeping_after (keeping_step k input).1 inpu
 
 -- ---- what to reserve next
 
--- the last number to reserve, if fewer than half of `amount` numbers are left: `amount` after the next one, at most the
--- last of 64 bits
+-- the last number to reserve, if fewer than half of `amount` numbers are left: `amount` above the next number, and at most
+-- 2^64 - 1
 abbrev pub wanted_last : ℕ → ℕ → ℕ → Option ℕ
 wanted_last reserved next amount =
     if nat_le (2 ^ 64) next then None
     else if nat_le (min (next + amount / 2) (2 ^ 64 - 1)) reserved then None
     else Some (min (next + amount) (2 ^ 64 - 1))
 
--- of a transmit association
+-- the reservation that a transmit SA needs next, if it needs one
 abbrev pub wanted_for : Keeping → ℕ → TxRow → Option Reservation
 wanted_for k amount row =
     let name = key_name k.salt k.secy.keys row.key in

@@ -1,5 +1,5 @@
--- The second promise: what was accepted before a saved number is not delivered again by a later run that drops late
--- frames.
+-- The second promise: if packet numbers that were accepted are saved, no later run that drops late frames delivers their
+-- frames again.
 use Rattle.std.specs.Prelude.{◌≡◌, ◌<◌, ◌≤◌, ◌-◌, ◌^◌, ◌==◌, ℕ, List, min, Some, None, true, false, Contains}
 use Rattle.std.specs.List.{All}
 use Rattle.macsec_tag.specs.declared.identifiers.Sci.{Sci}
@@ -16,22 +16,22 @@ use Rattle.macsec_reserve.specs.Journal.{highest, receiving_name, reservations, 
 use Rattle.macsec_reserve.specs.Histories.{KeepsDurable, Run, SameSalt, opening, reported}
 use Rattle.macsec_reserve.specs.Keeping.{Keeping, KeepingInput, endpoint_input, now_durable, keeping_after, keeping_step, key_name}
 
--- the name under which the numbers of a receive association are saved
+-- the name under which the packet numbers of a receive SA are saved
 abbrev pub row_name : List ℕ → State → RxRow → List ℕ
 row_name salt s row = receiving_name (key_name salt s.keys row.key) row.sci row.an
 
--- what is to be saved of it: below its lowest acceptable packet number nothing is accepted
+-- what is to be saved of a receive SA: below its lowest acceptable packet number nothing is accepted
 abbrev pub saved_for : List ℕ → State → RxRow → Reservation
 saved_for salt s row = record { name = row_name salt s row; last = min (row.lowest - 1) (2 ^ 64 - 1) }
 
--- while the replay window is 0 that covers each packet number which the association has accepted: its next one is above
+-- while the replay window is 0, this covers each packet number that the SA has accepted: its next packet number is above
 -- them
 abbrev pub SavesAccepted : List ℕ → State → Sci → ℕ → RxRow → ℕ → Type 0
 SavesAccepted salt s sci an row n =
     IsSound s → s.options.window ≡ 0 → rx_row s.rx.rows sci an ≡ Some row → n < row.next → n ≤ (saved_for salt s row).last
 
--- at the end of these inputs the endpoint drops late frames, and delivers this frame from this association: then its
--- packet number is above all that the journal had saved for the association when the run began
+-- if the endpoint drops late frames after these inputs, and delivers this frame from this SA, then the frame's packet
+-- number is above all that the journal had saved for the SA when the run began
 abbrev pub DeliversAbove : Run → List KeepingInput → List ℕ → RxRow → List ℕ → Type 0
 DeliversAbove run inputs frame row delivered =
     let s = (keeping_after (opening run) inputs).secy in
@@ -40,7 +40,7 @@ DeliversAbove run inputs frame row delivered =
 
 -- ---- over two runs
 
--- a frame is accepted from an association: step 13 decides, and it is delivered
+-- a frame is accepted from an SA: step 13 decides, and the frame is delivered
 pub record IsAccepted (s : State) (frame : List ℕ) (from : RxRow) : Type 0 where
   pub fits : frame_fault frame ≡ None
   pub row : (judgement_of s frame).row ≡ Some from
@@ -48,13 +48,13 @@ pub record IsAccepted (s : State) (frame : List ℕ) (from : RxRow) : Type 0 whe
   pub gives : (judgement_of s frame).delivered ≡ Some delivered
   pub step : ((judgement_of s frame).step == 13) ≡ true
 
--- the input does not delete the association of this channel and of this number
+-- the input does not delete the SA of this SC and number
 abbrev pub KeepsAssociation : Sci → ℕ → KeepingInput → Type 0
 KeepsAssociation sci an (endpoint_input input) = is_deleting sci an input ≡ false
 KeepsAssociation sci an (now_durable r) = Unit {0}
 
--- a run accepted a frame of this packet number; then, before the association was deleted and at a moment at which the
--- replay window was 0, what is to be saved of it was taken, under this name, and in the end it was durable
+-- a run accepted a frame with this packet number. Later, before the SA was deleted and while the replay window was 0, what
+-- is to be saved of the SA was read, under this name, and it became durable
 pub record HasSaved (run : Run) (name : List ℕ) (n : ℕ) : Type 0 where
   pub before : List KeepingInput
   pub frame : List ℕ
@@ -71,8 +71,8 @@ pub record HasSaved (run : Run) (name : List ℕ) (n : ℕ) : Type 0 where
   pub name_is : row_name last.salt last.secy row ≡ name
   pub durable : Contains (reported run) (saved_for last.salt last.secy row)
 
--- then no later run that drops late frames delivers a frame of that packet number, or of a lower one, from an
--- association of that name: in a journal of the same salt, one of the same key octets, SCI and number
+-- then no later run that drops late frames delivers a frame with that packet number, or a lower one, from an SA of that
+-- name. In a journal with the same salt this is an SA with the same key octets, SCI and number
 abbrev pub NeverDeliversAgain : Run → Run → List ℕ → ℕ → Type 0
 NeverDeliversAgain run later name n =
     HasSaved run name n → KeepsDurable run later → (inputs : List KeepingInput) (frame : List ℕ) (row : RxRow) (delivered : List ℕ) →
@@ -80,7 +80,7 @@ NeverDeliversAgain run later name n =
     s.options.replay ≡ true → (judgement_of s frame).row ≡ Some row → (judgement_of s frame).delivered ≡ Some delivered →
     row_name (salt_of later.journal) s row ≡ name → n < (judgement_of s frame).number
 
--- the same of key octets, an SCI and a number, where the journal keeps its salt
+-- the same for key octets, an SCI and an SA's number, if the journal keeps its salt
 abbrev pub NeverDeliversAgainUnder : Run → Run → List ℕ → Sci → ℕ → ℕ → Type 0
 NeverDeliversAgainUnder run later bytes sci an n =
     HasSaved run (receiving_name (sending_name (salt_of run.journal) bytes) sci an) n → SameSalt run later → KeepsDurable run later →

@@ -1,5 +1,5 @@
--- Order, and each frame at most once, of an end whose endpoint remembers where deleted SAs ended: no premise is about
--- commands. If it also reserves ahead of receiving, no premise is about saving.
+-- Order, and each frame at most once, for an end whose endpoint remembers where deleted SAs ended. No premise is about
+-- commands. If the endpoint also reserves ahead of receiving, no premise is about saving.
 use Rattle.std.specs.Prelude.{◌≡◌, ℕ, List, [], map, take, Bool, true, false, Option, Some, None, IfSome, Contains}
 use Rattle.macsec_tag.specs.declared.identifiers.Sci.{Sci}
 use Rattle.macsec_commands.specs.declared.event.End.{End}
@@ -26,17 +26,17 @@ abbrev pub is_inside : (End → Bool) → List Happening → Happening → Bool
 is_inside ahead before (begins e config journal) = true
 is_inside ahead before (comes_in e input) = reaches_inside (ahead e) input (last_run (runs_of e before))
 
--- what happens at the keeping endpoints inside: all but what is refused or dropped before it reaches them
+-- what happens at the keeping endpoints inside: all except what is refused or dropped before it reaches them
 abbrev pub inside : (End → Bool) → List Happening → List Happening
 inside ahead events = passing_from (is_inside ahead) [] events
 
 -- ---- the premises on the receiver
 
--- where it delivers a frame from the SA, it has strict order
+-- if the input delivers a frame from the SA, the end has strict order
 abbrev pub IsStrictInput : Keeping → List ℕ → Sci → ℕ → KeepingInput → Type 0
 IsStrictInput k bytes sci an input = (d : Delivery) → Contains (delivered_at bytes sci an (newly_delivered k input)) d → HasStrictOrder k.secy
 
--- and without the option, a run begins only beside a journal that has saved what was delivered so far
+-- and without the option, a run begins only with a journal that has saved what was delivered so far
 abbrev pub IsOrderedInside : Bool → End → List ℕ → Sci → ℕ → List Happening → Happening → Type 0
 IsOrderedInside ahead e bytes sci an before (begins f config journal) =
     same_end e f ≡ true → ahead ≡ false → SavedIn journal bytes sci an (delivered_so_far e bytes sci an before)
@@ -55,13 +55,13 @@ pub record IsOrderlyInside (ahead : Bool) (e : End) (bytes : List ℕ) (sci : Sc
 abbrev pub delivered_so_far_with : Bool → End → List ℕ → Sci → ℕ → List Happening → List Delivery
 delivered_so_far_with ahead e bytes sci an before = delivered_at bytes sci an (delivered_in_all_with ahead (runs_of e before))
 
--- it is in the order of sending, each frame at most once
+-- what was delivered is in the order of sending, each frame at most once
 abbrev pub ComesInOrderWith : (End → Bool) → End → List ℕ → Sci → ℕ → List Happening → Type 0
 ComesInOrderWith ahead e bytes sci an events =
     IsSubsequence (map numbered_delivery (delivered_so_far_with (ahead e) e bytes sci an events))
     (map numbered_sent (sent_under bytes (sent_in_all_with (ahead (other_end e)) (runs_of (other_end e) events))))
 
--- at each moment; the premises are of the keeping endpoints inside
+-- the same at each moment; the premises are about the keeping endpoints inside
 abbrev pub ComesInOrderOnceWith : (End → Bool) → List Happening → Type 0
 ComesInOrderOnceWith ahead events =
     (e : End) (bytes : List ℕ) (sci : Sci) (an : ℕ) → AtEach (IsOrderlyInside (ahead e) e bytes sci an) [] (inside ahead events) → ArePeers (inside ahead events) →

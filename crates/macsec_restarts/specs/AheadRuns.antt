@@ -34,7 +34,7 @@ abbrev pub delivered_in_all_with : Bool → List Run → List Delivery
 delivered_in_all_with ahead [] = []
 delivered_in_all_with ahead (run ∷ runs) = delivered_from_with (opening_with ahead run) run.inputs ++ delivered_in_all_with ahead runs
 
--- an output, and what its input adds to the list: one entry where a client frame is delivered from an SA, and otherwise none
+-- what an input adds to the list, by its output: one entry if a client frame is delivered from an SA, otherwise none
 abbrev pub MatchesDeliveriesWith : Ahead → KeepingInput → AheadOutput → Type 0
 MatchesDeliveriesWith a input (kept (endpoint_output (received verdict (Some place) shown (Some delivered)))) =
     IsOneDelivery (newly_delivered_with a input) place.0 place.1 delivered
@@ -43,7 +43,7 @@ MatchesDeliveriesWith a input other = newly_delivered_with a input ≡ []
 abbrev pub DeliversEachListedWith : Ahead → KeepingInput → Type 0
 DeliversEachListedWith a input = MatchesDeliveriesWith a input (ahead_step a input).0
 
--- ---- what it accepts: what it delivers from frames that are valid
+-- ---- what it accepts: what it delivers from valid frames
 
 abbrev pub is_valid : State → KeepingInput → Bool
 is_valid s (endpoint_input (link_frame frame)) = (judgement_of s frame).step == 13
@@ -56,7 +56,7 @@ abbrev pub accepted_from : Ahead → List KeepingInput → List Delivery
 accepted_from a [] = []
 accepted_from a (input ∷ inputs) = newly_accepted a input ++ accepted_from (ahead_step a input).1 inputs
 
--- by a run that reserves ahead
+-- what a run that reserves ahead accepts
 abbrev pub accepted_in : Run → List Delivery
 accepted_in run = accepted_from (opening_with true run) run.inputs
 
@@ -69,22 +69,22 @@ pub record IsReservedIn (run : Run) (d : Delivery) : Type 0 where
   pub above : highest (reservations run.journal) (delivery_name (salt_of run.journal) d) < d.number
   pub within : d.number ≤ highest (reported run) (delivery_name (salt_of run.journal) d)
 
--- it accepts no other: whatever comes in, whatever the modes, the replay protection and the windows are
+-- a run accepts only such PNs, whatever comes in, and whatever the modes, the replay protection and the windows are
 abbrev pub AcceptsReserved : Run → Type 0
 AcceptsReserved run = (d : Delivery) → Contains (accepted_in run) d → IsReservedIn run d
 
 -- ---- over all runs
 
--- under the same key octets, from the same SCI and association number (AN)
+-- two deliveries under the same key octets, from the same SCI and association number (AN)
 pub record AreOfOneSa (d e : Delivery) : Type 0 where
   pub bytes : d.bytes ≡ e.bytes
   pub sci : d.sci ≡ e.sci
   pub an : d.an ≡ e.an
 
--- what a later run accepts from an SA has a higher PN than all that the run accepted from it
+-- what the later run accepts from an SA has a higher PN than all that the earlier run accepted from it
 abbrev pub AcceptsAbove : Run → Run → Type 0
 AcceptsAbove run later = (d e : Delivery) → Contains (accepted_in run) d → Contains (accepted_in later) e → AreOfOneSa d e → d.number < e.number
 
--- if every later run reads the same salt of the journal, and what was reported durable
+-- the same for all runs, if every later run reads the same salt of the journal, and what was reported durable
 abbrev pub AcceptsAboveInAll : List Run → Type 0
 AcceptsAboveInAll runs = AllPairs SameSalt runs → AllPairs KeepsDurable runs → AllPairs AcceptsAbove runs

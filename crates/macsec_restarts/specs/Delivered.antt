@@ -30,7 +30,7 @@ delivered_by s j None (Some row) (Some delivered) =
     record { bytes = (the_key s.keys row.key).bytes; sci = row.sci; an = row.an; number = j.number; frame = delivered } ∷ []
 delivered_by s j fault row delivered = []
 
--- what an input adds to it
+-- what an input adds to the list
 abbrev pub newly_delivered : Keeping → KeepingInput → List Delivery
 newly_delivered k (endpoint_input (link_frame frame)) =
     let j = judgement_of k.secy frame in delivered_by k.secy j (frame_fault frame) j.row j.delivered
@@ -44,7 +44,7 @@ abbrev pub delivered_in_all : List Run → List Delivery
 delivered_in_all [] = []
 delivered_in_all (run ∷ runs) = delivered_from (opening run) run.inputs ++ delivered_in_all runs
 
--- from SAs of this SCI and AN, under a key of these octets
+-- the deliveries from SAs of this SCI and AN, under a key with these octets
 abbrev pub delivered_at : List ℕ → Sci → ℕ → List Delivery → List Delivery
 delivered_at bytes sci an ds = filter (λ d. same_octets d.bytes bytes && same_sci d.sci sci && d.an == an) ds
 
@@ -57,7 +57,7 @@ pub record IsOneDelivery (ds : List Delivery) (sci : Sci) (an : ℕ) (delivered 
   pub of_an : delivery.an ≡ an
   pub of_frame : delivery.frame ≡ delivered
 
--- an output, and what its input adds to the list: one entry where a client frame is delivered from an SA, and otherwise none
+-- what an input adds to the list, by its output: one entry if a client frame is delivered from an SA, otherwise none
 abbrev pub MatchesDeliveries : Keeping → KeepingInput → KeepingOutput → Type 0
 MatchesDeliveries k input (endpoint_output (received verdict (Some place) shown (Some delivered))) =
     IsOneDelivery (newly_delivered k input) place.0 place.1 delivered
@@ -66,11 +66,11 @@ MatchesDeliveries k input other = newly_delivered k input ≡ []
 abbrev pub DeliversEachListed : Keeping → KeepingInput → Type 0
 DeliversEachListed k input = MatchesDeliveries k input (keeping_step k input).0
 
--- the output is no client frame that is delivered at the controlled port without an SA
+-- the output does not deliver a client frame at the controlled port without an SA
 abbrev pub IsFromSa : KeepingOutput → Type 0
 IsFromSa (endpoint_output (received verdict None shown (Some delivered))) = ⊥
 IsFromSa other = Unit {0}
 
--- in the mode Strict nothing else is delivered at the controlled port, so the list has all that is (IEEE 802.1AE, 10.6)
+-- in the mode Strict only SAs deliver at the controlled port, so the list has all that is delivered (IEEE 802.1AE, 10.6)
 abbrev pub DeliversFromSas : Keeping → KeepingInput → Type 0
 DeliversFromSas k input = k.secy.options.mode ≡ Strict → IsFromSa (keeping_step k input).0

@@ -32,7 +32,7 @@ delivered_in_all_forgetting ahead (run ∷ runs) = delivered_from_forgetting (op
 abbrev pub closing_forgetting : Bool → Run → Ahead
 closing_forgetting ahead run = ahead_forgetting_after (opening_with ahead run) run.inputs
 
--- they are not given the installations of octets that retired keys have, or whose fingerprints they have
+-- they are not given inputs that install octets which a retired key has, or whose fingerprint it has
 abbrev pub gives : Bool → KeepingInput → Option Run → Bool
 gives ahead input None = true
 gives ahead input (Some run) = not (installs_retired (closing_forgetting ahead run).k input)

@@ -6,8 +6,8 @@ use Rattle.macsec_commands.specs.declared.event.End.TheVariants.{A, B}
 use Rattle.macsec_reserve.specs.Histories.{Run}
 use Rattle.macsec_reserve.specs.Keeping.{KeepingInput}
 
--- an end begins a run beside the octets of its journal, at whatever moment its last run ended; or something comes in at
--- its endpoint. A link frame is an input of any octets, so the link needs no state
+-- an end begins a run with the octets of its journal, whenever its last run ended; or its endpoint gets an input. A link
+-- frame is an input of any octets, so the link needs no state
 pub data Happening : Type 0 where
   begins : End → EndConfig → List ℕ → Happening
   comes_in : End → KeepingInput → Happening
@@ -18,13 +18,13 @@ same_end B B = true
 same_end A B = false
 same_end B A = false
 
--- what comes in at an end until it begins again
+-- the inputs of an end until it begins again
 abbrev pub inputs_until : End → List Happening → List KeepingInput
 inputs_until e [] = []
 inputs_until e (begins f config journal ∷ more) = if same_end e f then [] else inputs_until e more
 inputs_until e (comes_in f input ∷ more) = if same_end e f then input ∷ inputs_until e more else inputs_until e more
 
--- the runs of an end, the oldest first; what comes in before its first run is in none
+-- the runs of an end, the oldest first; inputs before its first run belong to no run
 abbrev pub runs_of : End → List Happening → List Run
 runs_of e [] = []
 runs_of e (begins f config journal ∷ more) =

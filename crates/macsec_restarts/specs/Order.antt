@@ -21,17 +21,17 @@ use Rattle.macsec_restarts.specs.Sent.{SentIn, sent_in_all, sent_under}
 
 -- ---- what was delivered
 
--- so far, over all runs
+-- what an end delivered so far, over all runs
 abbrev pub delivered_so_far : End → List ℕ → Sci → ℕ → List Happening → List Delivery
 delivered_so_far e bytes sci an before = delivered_at bytes sci an (delivered_in_all (runs_of e before))
 
--- by one run
+-- what one run delivered
 abbrev pub delivered_in : Run → List ℕ → Sci → ℕ → List Delivery
 delivered_in run bytes sci an = delivered_at bytes sci an (delivered_from (opening run) run.inputs)
 
 -- ---- the premises on the receiver
 
--- it validates strictly and drops late frames, at a replay window of 0
+-- the end validates strictly and drops late frames, at a replay window of 0
 pub record HasStrictOrder (s : State) : Type 0 where
   -- the initial options of an endpoint
   pub mode : s.options.mode ≡ Strict
@@ -42,14 +42,14 @@ pub record HasStrictOrder (s : State) : Type 0 where
 abbrev pub IsUnder : State → List ℕ → RxRow → Type 0
 IsUnder s bytes row = (the_key s.keys row.key).bytes ≡ bytes
 
--- where a step creates the SA of this SCI and AN under these key octets, its next PN is above all of these deliveries
+-- if a step creates the SA of this SCI and AN under these key octets, the SA's next PN is above all of these deliveries
 abbrev pub CreatesAbove : State → State → List ℕ → Sci → ℕ → List Delivery → Type 0
 CreatesAbove s after bytes sci an ds =
     (row : RxRow) → rx_row after.rx.rows sci an ≡ Some row → IsUnder after bytes row →
     ((earlier : RxRow) → rx_row s.rx.rows sci an ≡ Some earlier → IsUnder s bytes earlier → ⊥) → All (λ d. d.number < row.next) ds
 
--- at an input: if it delivers a frame from the SA, the end has strict order; and if it creates the SA again, the SA begins
--- above what this run delivered from it
+-- if the input delivers a frame from the SA, the end has strict order; if it creates the SA again, the SA begins above what
+-- this run delivered from it
 pub record IsOrderedInput (run : Run) (bytes : List ℕ) (sci : Sci) (an : ℕ) (input : KeepingInput) : Type 0 where
   pub order : (d : Delivery) → Contains (delivered_at bytes sci an (newly_delivered (closing run) input)) d → HasStrictOrder (closing run).secy
   pub creates : CreatesAbove (closing run).secy (keeping_step (closing run) input).1.secy bytes sci an (delivered_in run bytes sci an)
@@ -59,8 +59,8 @@ abbrev pub SavedIn : List ℕ → List ℕ → Sci → ℕ → List Delivery →
 SavedIn journal bytes sci an ds =
     All (λ d. d.number ≤ highest (reservations journal) (receiving_name (sending_name (salt_of journal) bytes) sci an)) ds
 
--- a run begins only beside a journal that has saved what was delivered so far: after a crash that loses the last save this
--- is false, and recorded frames since that save are accepted again
+-- a run begins only with a journal that has saved what was delivered so far. After a crash that loses the last save this is
+-- false, and recorded frames since that save are accepted again
 abbrev pub IsOrderedAt : End → List ℕ → Sci → ℕ → List Happening → Happening → Type 0
 IsOrderedAt e bytes sci an before (begins f config journal) = same_end e f ≡ true → SavedIn journal bytes sci an (delivered_so_far e bytes sci an before)
 IsOrderedAt e bytes sci an before (comes_in f input) =
@@ -73,7 +73,7 @@ pub record IsOrderly (e : End) (bytes : List ℕ) (sci : Sci) (an : ℕ) (before
 
 -- ---- the promise
 
--- a client frame, after its PN: so two client frames with equal octets are distinguished
+-- a client frame after its PN, so that two client frames with equal octets differ
 abbrev pub numbered_delivery : Delivery → List ℕ
 numbered_delivery d = d.number ∷ d.frame
 
@@ -86,7 +86,7 @@ ComesInOrder e bytes sci an events =
     IsSubsequence (map numbered_delivery (delivered_so_far e bytes sci an events))
     (map numbered_sent (sent_under bytes (sent_in_all (runs_of (other_end e) events))))
 
--- at each moment; the promise is of one SCI and AN: another SC with the same key is another list
+-- the same at each moment. The promise is about one SCI and AN: another SC with the same key has another list
 abbrev pub ComesInOrderOnce : List Happening → Type 0
 ComesInOrderOnce events =
     (e : End) (bytes : List ℕ) (sci : Sci) (an : ℕ) → AtEach (IsOrderly e bytes sci an) [] events → ArePeers events →

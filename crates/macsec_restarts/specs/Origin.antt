@@ -23,7 +23,7 @@ pub record WasSent (sends : List SentIn) (bytes frame : List ℕ) (number : ℕ)
   pub under : send.seal.key ≡ bytes
   pub of_number : send.number ≡ number
 
--- `before` is all that happened at both ends, and now a frame comes in from the link
+-- `before` is all that has happened at both ends, and now a frame comes in from the link
 abbrev pub ComesFromOther : List Happening → Type 0
 ComesFromOther before =
     ArePeers before → (e : End) (run : Run) (frame : List ℕ) (row : RxRow) (delivered : List ℕ) → AreOctets frame →

@@ -26,7 +26,7 @@ sent_by s frame None (Some row) =
     record { seal = use_sent (tx_options s) (the_key s.keys row.key) row frame; number = row.next; frame = frame } ∷ []
 sent_by s frame fault by = []
 
--- what an input adds to it: the client frame, if an SA protects it and its PN is reserved
+-- what an input adds to the list: the client frame, if an SA protects it and its PN is reserved
 abbrev pub newly_sent : Keeping → KeepingInput → List SentIn
 newly_sent k (endpoint_input (client_frame frame)) =
     if may_go k (client_frame frame) then sent_by k.secy frame (frame_fault frame) (sending_of k.secy frame).by else []
@@ -40,7 +40,7 @@ abbrev pub sent_in_all : List Run → List SentIn
 sent_in_all [] = []
 sent_in_all (run ∷ runs) = sent_from (opening run) run.inputs ++ sent_in_all runs
 
--- under a key of these octets
+-- what was sent under a key with these octets
 abbrev pub sent_under : List ℕ → List SentIn → List SentIn
 sent_under bytes sends = filter (λ x. same_octets x.seal.key bytes) sends
 
@@ -57,7 +57,7 @@ pub record IsOfOneUse (k : Keeping) (input : KeepingInput) (octets : List ℕ) (
   pub octets_are : octets ≡ in_a_row (parts_of k.secy client row)
   pub uses : newly_sealed k input ≡ use_sent (tx_options k.secy) (the_key k.secy.keys row.key) row client ∷ []
 
--- an output, and the uses of the cipher that its input seals: no other output seals any
+-- the uses of the cipher that an input seals, by its output: one for a protected frame, otherwise none
 abbrev pub MatchesUses : Keeping → KeepingInput → KeepingOutput → Type 0
 MatchesUses k input (endpoint_output (leaves octets (Some key))) = IsOfOneUse k input octets key
 MatchesUses k input other = newly_sealed k input ≡ []
@@ -65,13 +65,13 @@ MatchesUses k input other = newly_sealed k input ≡ []
 abbrev pub SealsEachFrame : Keeping → KeepingInput → Type 0
 SealsEachFrame k input = MatchesUses k input (keeping_step k input).0
 
--- the list has one entry for each use of the cipher, with that use
+-- the list has one entry for each use of the cipher, and the entry has that use
 abbrev pub ListsEachUse : Keeping → KeepingInput → Type 0
 ListsEachUse k input = map (λ (x : SentIn). x.seal) (newly_sent k input) ≡ newly_sealed k input
 
 -- ---- its packet numbers
 
--- of two client frames that were protected under the same key octets, the later one has the higher PN
+-- of two client frames protected under the same key octets, the later one has the higher PN
 abbrev pub Rises : SentIn → SentIn → Type 0
 Rises x y = x.seal.key ≡ y.seal.key → x.number < y.number
 
