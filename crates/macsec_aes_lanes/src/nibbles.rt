@@ -1,8 +1,8 @@
 //! The S-box by look-ups of nibbles within vectors, as Hamburg found it, in two states at a time.
 //!
 //! The bytes of a state are represented by other bytes, under a linear map: the two nibbles of such a byte are elements
-//! of a field of 16 elements. The inverse of the byte is found by five look-ups of inverses and quotients of nibbles,
-//! where 80 hexadecimal stands for infinity: the entry for infinity is 0. The last look-ups apply the affine
+//! of a field of 16 elements. The inverse of the byte is found by five look-ups of inverses and quotients of nibbles.
+//! There 80 hexadecimal represents infinity: the entry for infinity is 0. The last look-ups apply the affine
 //! transformation and give the byte, or its representation. All tables have 16 entries and are held in vectors.
 
 ghost use Rattle.std.specs.Prelude.{◌≡◌, ℕ, ◌/◌, ◌%◌, ◌^◌, ◌<◌, slice_index, bit_xor};

@@ -46,7 +46,7 @@ fn second_half(a: u8x32) -> u8x16
     a.extract::<16, 16>()
 }
 
-/// The bytes of two blocks, those of each block in the order of the lanes of its state.
+/// The bytes of two blocks, each in the order of the lanes of its state.
 #[inline(always)]
 pub fn lanes_of_two(first: [u8; 16], second: [u8; 16]) -> u8x32
     ensures { (h : ℕ) → h < 2 → (m : ℕ) → m < 16

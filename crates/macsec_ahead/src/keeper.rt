@@ -33,15 +33,15 @@ use std::mem::swap;
 /// How many receive SAs an endpoint can have.
 const MAX_ROW_COUNT: usize = 256;
 
-/// An endpoint that uses a packet number only if it has reserved it, and with the option `ahead` also accepts one only
-/// then. It creates no receive SA again at or below where it deleted the SA.
+/// An endpoint that uses a packet number only if it has reserved it. With the option `ahead` it also accepts a packet
+/// number only if it has reserved it. It creates no receive SA again at or below where it deleted the SA.
 #[derive(Drop)]
 pub struct AheadKeeper {
     /// The keeping endpoint.
     keeper: Keeper,
     /// Does it reserve ahead of receiving?
     ahead: bool,
-    /// What was reported durable for its receive SAs, an entry for each SA that there was at the last report.
+    /// What was reported durable for its receive SAs: an entry for each SA that existed at the last report.
     taken: Vec<Reservation>,
     /// Space for the entries of the next report.
     spare: Vec<Reservation>,
@@ -49,10 +49,10 @@ pub struct AheadKeeper {
     ended: EndTable,
     /// Space for the SAs as they are before a command.
     rows: Vec<RxRow>,
-    /// With the option, the packet numbers that may be accepted from each receive SA, in the order of the SAs. So a frame
-    /// needs no digest.
+    /// With the option, the packet numbers that may be accepted from each receive SA, in the order of the SAs. They are
+    /// kept so that a frame needs no digest.
     limits: Vec<PnLimits>,
-    /// A buffer for the longest frame, for those that are delivered from tagged ones.
+    /// A buffer for the longest frame, for frames that are delivered from tagged ones.
     room: Vec<u8>,
 }
 
@@ -67,7 +67,7 @@ impl Model for AheadKeeper {
 
     ghost view = { λ a. record { k = a.keeper; ahead = a.ahead; taken = a.taken.items; ended = a.ended } };
 
-    // There is space for the SAs that there can be, and the limits are those of what is reserved.
+    // There is space for the most SAs that an endpoint can have, and the limits follow from what is reserved.
     ghost invariant = { λ a. HasSpace (vec_capacity a.taken) (vec_capacity a.spare) (vec_capacity a.rows) (vec_capacity a.limits) (vec_len a.room)
         × (a.limits.items ≡ limits_with a.ahead a.keeper a.taken.items) };
 }
@@ -87,8 +87,8 @@ impl AheadKeeper {
         Ok(made)
     }
 
-    /// An endpoint of this configuration, beside a journal with these octets. With `ahead` it reserves packet numbers ahead
-    /// of receiving.
+    /// An endpoint of this configuration, with a journal of these octets. With `ahead` it reserves packet numbers ahead of
+    /// receiving.
     pub fn open(
         alloc: Global,
         config: EndConfig,
@@ -194,8 +194,8 @@ impl AheadKeeper {
         }
     }
 
-    /// Receives a link frame that was opened before, or not, as `Keeper::finish_receive`. With the option, a valid frame is
-    /// dropped if its packet number is not reserved in this run; then `out` may have octets of its plaintext.
+    /// Receives a link frame, as `Keeper::finish_receive`, whether it was opened before or not. With the option, a valid
+    /// frame is dropped if its packet number is not reserved in this run; then `out` may have octets of its plaintext.
     pub fn finish_receive<'a>(
         &mut self,
         frame: &'a [u8],
@@ -217,8 +217,8 @@ impl AheadKeeper {
         Ok(limited_received(&outcome, frame, out))
     }
 
-    /// Notes that a reservation is durable: its record is on stable storage, where every later run will read it. One for a
-    /// name of no key and of no receive SA reserves nothing in this run.
+    /// Notes that a reservation is durable: its record is on stable storage, where every later run will read it. A
+    /// reservation whose name belongs to no key and to no receive SA reserves nothing in this run.
     pub fn now_durable(&mut self, reservation: &Reservation)
         ensures { self.new ≡ (ahead_step self.old (now_durable reservation.now)).1 }
     {
@@ -239,8 +239,8 @@ impl AheadKeeper {
     }
 
     /// The reservation to make durable next, to accept up to `amount` packet numbers after `next` from the receive SA of this
-    /// SCI and association number, if fewer than half of them are reserved. `next` is the SA's next packet number, or that of
-    /// a frame that was dropped.
+    /// SCI and association number, if fewer than half of them are reserved. `next` is the SA's next packet number, or the
+    /// packet number of a frame that was dropped.
     pub fn wanted_to_accept(&self, sci: Sci, an: An, amount: u64, next: u128) -> Option<Reservation>
         ensures { result ≡ option_and_then (wanted_to_accept self.now amount next) (rx_row self.now.k.secy.rx.rows sci an) }
     {
@@ -262,9 +262,9 @@ impl AheadKeeper {
         }
     }
 
-    /// The highest packet number that an earlier run may have accepted, or this run before it deleted the SA, from the receive
-    /// SA of this SCI and association number under the key of this number: 0 if none, `None` if there is no such key. The
-    /// SA begins above it.
+    /// The highest packet number that an earlier run, or this run before it deleted the SA, may have accepted from the
+    /// receive SA of this SCI and association number under the key of this number. It is 0 if there is none, and `None` if
+    /// there is no such key. The SA begins above it.
     pub fn rx_floor(&self, sci: Sci, an: An, key: KeyNumber) -> Option<u64>
         ensures { result ≡ floor_of sci an self.now key }
     {
@@ -275,7 +275,7 @@ impl AheadKeeper {
     }
 
     /// Carries out a management command, as `Keeper::command`. A receive SA that this run deleted does not begin again at or
-    /// below its end: that is refused with `PnFloor`, before any other refusal.
+    /// below its end: such a command is refused with `PnFloor`, before any other refusal.
     pub fn command(&mut self, command: &Command) -> Result<(), Refusal>
         ensures output { kept (endpoint_output (output_of_command result)) ≡ (ahead_step self.old (endpoint_input (operator_command command.now))).0 }
         ensures after { self.new ≡ (ahead_step self.old (endpoint_input (operator_command command.now))).1 }
@@ -440,8 +440,8 @@ fn append_rows(rows: &mut Vec<RxRow>, more: &[RxRow])
     }
 }
 
-/// What a command leaves in the table of ends, beside a journal. `rows` are the SAs before it, and `secy` is the endpoint
-/// after it.
+/// Updates the table of ends after a command, if the endpoint has a journal. `rows` are the SAs before the command, and
+/// `secy` is the endpoint after it.
 fn add_ends(
     ended: &mut EndTable,
     secy: &Secy,
@@ -459,7 +459,7 @@ fn add_ends(
     remove_retired(ended, command, done);
 }
 
-/// Removes the ends of the key that a command has retired, if it is such a command.
+/// Removes the ends of the key that a command has retired, if it has retired one.
 fn remove_retired(ended: &mut EndTable, command: &Command, done: bool)
     ensures { ended.new ≡ after_retiring command.now done ended.old }
 {
@@ -478,7 +478,7 @@ fn remove_if(ended: &mut EndTable, key: KeyNumber, done: bool)
     }
 }
 
-/// Adds the ends of those of these SAs that are not there.
+/// Adds the ends of these SAs that the endpoint does not have.
 fn add_each_end(ended: &mut EndTable, secy: &Secy, rows: &[RxRow])
     ensures { ended.new ≡ with_ends (ends_among secy.now rows.now) ended.old }
 {
@@ -487,7 +487,7 @@ fn add_each_end(ended: &mut EndTable, secy: &Secy, rows: &[RxRow])
     }
 }
 
-/// Adds the end of an SA that is not there.
+/// Adds the end of an SA, if the endpoint does not have it.
 fn add_end(ended: &mut EndTable, secy: &Secy, row: &RxRow)
     ensures { ended.new ≡ with_ends (ends_among secy.now (row.now ∷ [])) ended.old }
 {

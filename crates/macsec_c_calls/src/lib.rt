@@ -12,8 +12,8 @@
 //! - `configured` and `configured_beside` create the endpoint of a text after the steps of all its commands, or give
 //!   the first fault or refusal, or run out of memory. `command_line` is the step of a line's command
 //!   (`specs/Texts.antt`).
-//! - A plan, a job and the end of a reception do what `specs/Jobs.antt` says: with a slot in between, the steps and the
-//!   answers are those of `macsec_send` and `macsec_receive`.
+//! - A plan, a job and the end of a reception do what `specs/Jobs.antt` says: with a slot in between, they take the steps
+//!   and give the answers of `macsec_send` and `macsec_receive`.
 //! - `seal` seals a frame for a test as `protect_in_place` would, whatever its SecTAG is (`specs/Sealing.antt`).
 //! - `answer` writes the answer of `specs/Answers.antt` to the beginning of the buffer, and leaves the endpoint after
 //!   it. If the buffer is too small, or memory runs out, nothing is written and nothing has changed. A line that is

@@ -61,7 +61,7 @@ pub fn run_capture<C: Read, R: Read, W: Write, T: Write>(
 /// has. With `Script(Write)` the output is at a stop.
 ///
 /// The stop at `Pcap(Read)` is the one after the last record that was read. `run_records` has a clause of this. Here
-/// only the octets that `input` has left could tell which record that is, and `CaptureReader` has no clause on these.
+/// only the octets that `input` has left could show which record that is, and `CaptureReader` has no clause on these.
 pub fn run_config<R: Read, W: Write, T: Write>(
     alloc: Global,
     direction: Direction,

@@ -55,7 +55,7 @@ pub(crate) fn an(rt: &impl Abort, number: u8) -> An {
     An::new(number).expect(rt, "an association number")
 }
 
-/// An endpoint with this configuration, after these commands, all of which it accepts.
+/// An endpoint with this configuration, after these commands. It accepts them all.
 pub(crate) fn endpoint(
     rt: &impl Abort,
     alloc: Global,

@@ -51,7 +51,7 @@ fn write_six(schedule: &LaneSchedule, first: [u8; 16], octets: &mut [u8]) -> [u8
     next
 }
 
-/// Adds the first 32 octets of `stream` to those of `text`.
+/// Adds the first 32 octets of `stream` to the first 32 octets of `text`.
 #[inline(always)]
 fn add_32(text: &mut [u8], stream: &[u8])
     requires text_length { 32 ≤ length text.old }
@@ -62,7 +62,7 @@ fn add_32(text: &mut [u8], stream: &[u8])
     sum.copy_to_slice(text);
 }
 
-/// Adds the first 16 octets of `stream` to those of `text`.
+/// Adds the first 16 octets of `stream` to the first 16 octets of `text`.
 #[inline(always)]
 fn add_16(text: &mut [u8], stream: &[u8])
     requires text_length { 16 ≤ length text.old }
@@ -150,8 +150,8 @@ impl<'k> KeyStream<'k> {
         }
     }
 
-    /// Computes the first batch, in place. Returns the key stream of its first counter block; the next octets are those of
-    /// the counter block after it.
+    /// Computes the first batch, in place. Returns the key stream of its first counter block. The next octets are the key
+    /// stream of the counter block after it.
     #[inline(always)]
     pub fn begin(&mut self) -> [u8; 16]
         ensures stream { IsStreamAt self.new self.old.schedule.now (inc32 self.old.counter) 0 }

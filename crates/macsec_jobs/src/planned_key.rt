@@ -6,7 +6,7 @@ ghost use Rattle.macsec_jobs.specs.PlannedKeys.{key_of, number_of_suite, planned
 use macsec_aes::Key;
 use macsec_suite::{KeyNumber, KeyRow, Suite};
 
-/// The key of a job: its number at its endpoint, and what tells it from every other key.
+/// The key of a job: its number at its endpoint, and what distinguishes it from every other key.
 #[derive(Clone, Copy)]
 pub struct PlannedKey {
     /// Its number.

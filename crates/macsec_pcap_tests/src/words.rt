@@ -218,8 +218,8 @@ fn text_at<'a>(rows: &[(usize, &'a str)], len: usize) -> &'a str {
     "no row"
 }
 
-/// Checks the answers for every prefix of a file. Each row has the text for the prefixes below a length, and not below
-/// that of the row before.
+/// Checks the answers for every prefix of a file. Each row has the text for the prefixes that are shorter than its length,
+/// and not shorter than the length in the row before.
 pub fn compare_prefixes(
     rt: &impl Abort,
     alloc: Global,

@@ -33,7 +33,7 @@ impl Model for Section {
 }
 
 impl Section {
-    /// The new section of a header with this byte order. `front` has the first octets of its body. `has_ethernet` tells
+    /// The new section of a header with this byte order. `front` has the first octets of its body. `has_ethernet` says
     /// whether a section before it has an Ethernet interface.
     pub(crate) fn new(has_ethernet: bool, order: Order, front: &[u8]) -> Result<Section, PcapFault>
         requires { 16 ≤ length front.now }

@@ -62,7 +62,7 @@ struct AtHand {
 /// An endpoint that uses a packet number only if it has reserved it; without a journal it uses any, as `Secy`.
 #[derive(Drop)]
 pub struct Keeper {
-    /// The endpoint, in a block of its own: so a keeper that is made or moved takes little of the stack.
+    /// The endpoint, in a separate heap block, so that a keeper that is made or moved takes little of the stack.
     pub(crate) secy: Box<Secy, Global>,
     /// Has it a journal?
     keeps: bool,
@@ -391,9 +391,9 @@ impl Keeper {
     }
 
     /// Carries out a management command, as `command`, and forgets a key that it retires: of the key's octets only a
-    /// fingerprint stays, by which they are still refused. The refusals are those of `command`, except that a new
-    /// association under a forgotten key can be refused with `KeyRetired` in place of `PnFloor`. `tx_floor` and
-    /// `rx_floor` no longer find what an earlier run reserved under a forgotten key.
+    /// fingerprint stays, by which they are still refused. It refuses as `command` does, except that a new association
+    /// under a forgotten key can be refused with `KeyRetired` in place of `PnFloor`. `tx_floor` and `rx_floor` no longer
+    /// find what an earlier run reserved under a forgotten key.
     ///
     /// Do not pass what was opened under a key to `finish_receive` once the key is forgotten.
     pub fn command_forgetting(&mut self, command: &Command) -> Result<(), Refusal>

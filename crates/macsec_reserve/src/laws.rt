@@ -36,9 +36,9 @@ pub fn repeats_no_iv()
     protects_frames();
 }
 
-/// The same over all runs of two ends, each with a journal of its own. Premises besides those of `repeats_no_iv` for
-/// each: the ends' SCIs differ, keys with the same octets at both agree as above, and with extended packet numbers
-/// their own SSCIs differ.
+/// The same over all runs of two ends, each with its own journal. Premises, in addition to the premises of `repeats_no_iv`
+/// for each end: the ends' SCIs differ, keys with the same octets at both agree as above, and with extended packet
+/// numbers their own SSCIs differ.
 pub fn repeats_no_iv_at_both()
     ensures durable { (runs others : List Run) → RepeatsNoIvAtBoth runs others }
     ensures crashes { (runs others : List Run) → RepeatsNoIvAtBothAfterCrashes runs others }

@@ -55,9 +55,9 @@ pub fn numbers_rise()
     delivers_in_time();
 }
 
-/// Origin: what a strictly validating end delivers from a receive SA was sent before by the other end, in one of its runs:
-/// now, after all that happened (`now`), and at each moment of a list of happenings (`always`). Premises: no ICV is
-/// forged, link frames are octets, and the two ends are peers (`ArePeers`).
+/// Origin: what a strictly validating end delivers from a receive SA was sent before by the other end, in one of its runs.
+/// It holds now, after all that happened (`now`), and at each moment of a list of happenings (`always`). Premises: no ICV
+/// is forged, link frames are octets, and the two ends are peers (`ArePeers`).
 pub fn comes_from_other()
     ensures now { (before : List Happening) → ComesFromOther before }
     ensures always { (events : List Happening) → AlwaysComesFromOther events }
@@ -73,9 +73,9 @@ pub fn comes_from_other()
 
 /// Order, and each frame at most once: at each moment, what was delivered over all runs under the octets of a key, from
 /// one SCI and association number, is with its packet numbers a subsequence of what the other end sent under them.
-/// Premises: those of origin; whenever a run of the receiver begins, its journal has saved all packet numbers that were
-/// delivered so far; where it delivers from the SA, it validates strictly and drops late frames at a window of 0; and no
-/// run creates the SA again at or below what it delivered.
+/// Premises: all premises of origin; whenever a run of the receiver begins, its journal has saved all packet numbers that
+/// were delivered so far; whenever it delivers from the SA, it validates strictly and drops late frames at a window of 0;
+/// and no run creates the SA again at or below what it delivered.
 pub fn comes_in_order_once()
     ensures { (events : List Happening) → ComesInOrderOnce events }
 {
@@ -108,15 +108,15 @@ pub fn is_keeping_inside()
     ensures before { (a : Ahead) (input : Input) → IsAsBefore a input }
 {}
 
-/// The list of what it delivered has one entry for each client frame that comes out from a receive SA, and no other
-/// output adds to it.
+/// The list of what such an endpoint delivered has one entry for each client frame that comes out from a receive SA, and no
+/// other output adds to it.
 pub fn lists_each_delivery_ahead()
     ensures { (a : Ahead) (input : KeepingInput) → DeliversEachListedWith a input }
 {}
 
 /// With the option, a run accepts only packet numbers above what its journal reserved when it began, and at most what was
-/// reported durable to it, whatever comes in, and whatever the modes, the replay protection and the windows are
-/// (`reserved`). So what a later run accepts from an SA has a higher packet number than all that an earlier run accepted
+/// reported durable to it (`reserved`). This holds whatever comes in, and whatever the modes, the replay protection and the
+/// windows are. So what a later run accepts from an SA has a higher packet number than all that an earlier run accepted
 /// from it (`later`). Premises of `later`: every later run reads the same salt of the journal, and what was reported
 /// durable; and every run has the option.
 pub fn accepts_above()
@@ -144,9 +144,9 @@ pub fn begins_above_its_end()
 {}
 
 /// Order, and each frame at most once, of an end whose endpoint can reserve ahead of receiving. No premise is about the
-/// commands that create SAs. Premises: those of origin, of the keeping endpoints inside; where the end delivers from the
-/// SA, it validates strictly and drops late frames at a window of 0; and without the option, whenever one of its runs
-/// begins, its journal has saved all packet numbers that were delivered so far.
+/// commands that create SAs. Premises: the premises of origin hold for the keeping endpoints inside; whenever the end
+/// delivers from the SA, it validates strictly and drops late frames at a window of 0; and without the option, whenever one
+/// of its runs begins, its journal has saved all packet numbers that were delivered so far.
 pub fn comes_in_order_once_ahead()
     ensures { (ahead : End → Bool) (events : List Happening) → ComesInOrderOnceWith ahead events }
 {
@@ -183,8 +183,8 @@ pub fn accepts_above_forgetting()
 {}
 
 /// `comes_in_order_once_ahead` for ends whose endpoints forget retired keys. Premises: these endpoints are sound at each
-/// moment; and those of `comes_in_order_once_ahead`, of endpoints that forget none and are not given the octets of retired
-/// keys again.
+/// moment; and the premises of `comes_in_order_once_ahead` hold for endpoints that forget none and are not given the octets
+/// of retired keys again.
 pub fn comes_in_order_once_forgetting()
     ensures { (ahead : End → Bool) (events : List Happening) → ComesInOrderOnceForgetting ahead events }
 {

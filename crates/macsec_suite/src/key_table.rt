@@ -72,7 +72,8 @@ impl Model for KeyTable {
     ghost view = { λ t. map stored_row t.rows.items };
 
     // There is space for every key that an endpoint can have. Key numbers are distinct, each key is prepared from its
-    // own bytes, the index finds each key by its number, and the count is that of the rows.
+    // own bytes, the index finds each key by its number, and `extended` counts the keys that have extended
+    // packet numbers and are not retired.
     ghost invariant = { λ t. (max_key_count ≤ vec_capacity t.rows) × AreKeyRows (map stored_row t.rows.items)
         × All (λ s. HasOwnKey s.row) t.rows.items × IsIndex t.places.items (map stored_row t.rows.items)
         × (t.extended ≡ extended_count (map stored_row t.rows.items)) };
@@ -91,8 +92,8 @@ impl KeyTable {
         })
     }
 
-    /// Says whether key streams are to be made 16 blocks at once, for processors with vectors of 256 bits: those of these
-    /// keys, and of the ones that are installed later. This changes no result.
+    /// Says whether the key streams of these keys, and of keys that are installed later, are to be made 16 blocks at once,
+    /// for processors with vectors of 256 bits. This changes no result.
     pub fn prefer_wide(&mut self, wide: bool)
         ensures { self.new ≡ self.old }
     {

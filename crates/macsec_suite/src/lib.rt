@@ -11,8 +11,8 @@
 //! ICV after them. `validate_in_place` returns true exactly if opening gives a plaintext, which then replaces the
 //! ciphertext; otherwise it changes nothing. Both require a SecTAG of 8 or 16 octets, a slice that holds the parts, and
 //! data of at most 68,719,476,704 octets. `seal_in_place` protects a frame with any octets before its data. No contract
-//! prevents a caller from using an IV twice under a key. Laws (`laws`): the parts of a frame in place are those of the
-//! frame; what two frames with equal IVs have in common.
+//! prevents a caller from using an IV twice under a key. Laws (`laws`): the parts of a frame in place are the frame's
+//! parts; what two frames with equal IVs have in common.
 //!
 //! Proved: a `KeyTable` is the list of its keys in the order of their installation. `install` and `retire` refuse with
 //! the first refusal that applies, and then change nothing. Otherwise they change the one key and no other, as does

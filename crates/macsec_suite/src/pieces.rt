@@ -26,7 +26,7 @@ pub fn seal(key: &GcmKey, iv: &[u8; 12], aad: &[u8], text: &mut [u8]) -> [u8; 16
 
 /// Checks the tag of the ciphertext `text` and the additional authenticated data, piece by piece. If the tag is valid,
 /// decrypts the ciphertext in place and returns true; otherwise returns false and changes nothing. The limits on
-/// lengths are those of `GcmKey::open`.
+/// lengths are the same as for `GcmKey::open`.
 pub fn open(key: &GcmKey, iv: &[u8; 12], aad: &[u8], text: &mut [u8], tag: &[u8; 16]) -> bool
     requires text_length { length text.old ≤ max_plaintext_len }
     requires aad_length { length aad.now ≤ max_aad_len }

@@ -75,8 +75,8 @@ pub enum TxPlan {
     TooLong,
 }
 
-/// The protection of one client frame: all that the cipher needs besides the prepared key and the frame. `seal` takes
-/// the job, and it cannot be copied, so that its IV is used at most once.
+/// The protection of one client frame: all that the cipher needs in addition to the prepared key and the frame. `seal`
+/// takes the job, and it cannot be copied, so that its IV is used at most once.
 #[derive(Drop)]
 pub struct SealJob {
     /// The place of the key.

@@ -147,8 +147,8 @@ fn plain(options: &TxOptions, frame: &[u8]) -> TxPlan
     }
 }
 
-/// How the enabled SA sends the frame. `place` is that of its key. `pn` is its next packet number and not past the last
-/// one.
+/// How the enabled SA sends the frame. `place` says where its key is. `pn` is its next packet number and not past the
+/// last one.
 fn plan_under(
     keys: &KeyTable,
     place: &KeyPlace,
