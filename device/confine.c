@@ -106,7 +106,7 @@ static int restrict_files(int state, bool unconfined) {
 
 /* ---- System calls ---- */
 
-/* Those of the thread that has the endpoint. It opens no file and writes to none. */
+/* The calls of the thread that has the endpoint. It opens no file and writes to none. */
 static const unsigned of_frames[] = {
     /* frames, control, reports, signals, the clock and the thread of the journal */
     SYS_read,
@@ -134,7 +134,7 @@ static const unsigned of_frames[] = {
     SYS_exit_group,
 };
 
-/* Those of the thread of the journal. It has no memory to allocate, and uses no socket. */
+/* The calls of the thread of the journal. It allocates no memory, and uses no socket. */
 static const unsigned of_journal[] = {
     SYS_write, /* that an order was carried out */
     SYS_pwrite64,
@@ -158,7 +158,7 @@ static const unsigned of_journal[] = {
     SYS_exit,
 };
 
-/* Those of a worker. It uses no file but the eventfd by which it says that a frame is there. */
+/* The calls of a worker. The only file that it uses is the eventfd by which it says that a frame is there. */
 static const unsigned of_workers[] = {
     SYS_write,
     SYS_futex,

@@ -1,5 +1,5 @@
 /* The parts of macsecd, a MACsec device for Linux over include/macsec.h. Each section is the interface of one file.
- * workers.h has those of frames on several cores. */
+ * workers.h has the parts that spread frames over several cores. */
 #ifndef DEVICE_H
 #define DEVICE_H
 
@@ -33,8 +33,7 @@ void text_add(struct text *t, const char *form, ...) __attribute__((format(print
 
 /* Names the device in the messages that follow. */
 void messages_name(const char *name);
-/* Prints a line. No frame makes one. One that comes again and again is printed once a minute, with how often it came.
- */
+/* Prints a line. No frame causes one. A line that comes again and again is printed once a minute, with its count. */
 void message(const char *form, ...) __attribute__((format(printf, 1, 2)));
 /* The same, with the text of errno after it. */
 void message_of_errno(const char *form, ...) __attribute__((format(printf, 1, 2)));
@@ -58,9 +57,9 @@ bool words_is(const struct words *w, unsigned index, const char *text);
 bool words_are(const struct words *w, unsigned count, const char *first, const char *second);
 /* Copies a word, with zeros after it. Returns false if there is none, or if it is too long. */
 bool words_copy(const struct words *w, unsigned index, char *to, size_t room);
-/* Reads a word that is a decimal number; a greater one than fits is UINT64_MAX. Returns false if it is none. */
+/* Reads a decimal number; one that does not fit is UINT64_MAX. Returns false if the word is no decimal number. */
 bool words_number(const struct words *w, unsigned index, uint64_t *number);
-/* Reads a word that is an SCI. Returns false if it is none. */
+/* Reads an SCI. Returns false if the word is none. */
 bool words_sci(const struct words *w, unsigned index, uint8_t sci[8]);
 /* Takes the next line of a text, without its line feed. Returns NULL if there is none. */
 const char *words_line(const char **text, size_t *left, size_t *length);
@@ -75,7 +74,7 @@ struct limits {
 
 /* Takes the words of a line `device allow ..`. Returns what is wrong with it, or NULL. */
 const char *limits_take(struct limits *l, const struct words *w);
-/* Takes the line that creates the endpoint: requests may not install shorter keys than those of its suite. */
+/* Takes the line that creates the endpoint: requests may not install keys that are shorter than its suite's. */
 void limits_take_end(struct limits *l, const char *line, size_t length);
 /* Do the limits allow a line for the endpoint? */
 bool limits_allow(const struct limits *l, const struct words *w);
@@ -115,13 +114,13 @@ bool config_path(char *path, size_t room, const char *variable, const char *othe
 int config_read(struct config *c, const char *name);
 /* Wipes and frees its text, which has keys. */
 void config_wipe(struct config *c);
-/* The parts of config_read, for a look at a configuration that has faults. The first reads the text alone, also that of
- * a file which macsecd does not take: `fault` is why, or NULL. A name with a slash is a path. Returns 0, or the exit
+/* The parts of config_read, for a look at a configuration that has faults. The first reads only the text, even of a
+ * file that macsecd does not take: `fault` is why, or NULL. A name with a slash is a path. Returns 0, or the exit
  * status after a message. */
 int config_look(struct config *c, const char *name, const char **fault);
 /* Takes a line of the device. Returns what is wrong with it, or NULL. */
 const char *config_take(struct config *c, const struct words *w);
-/* What is wrong with the lines of the device together? Or NULL. */
+/* Says what is wrong with the lines of the device together, or NULL. */
 const char *config_disagreement(const struct config *c);
 /* Reads the `end` line, the first one that is not skipped: MAX, for the MTU of TAP, and the suite, for the limits. The
  * library judges that line. The text ends with a zero, and lines of the device are comments. */
@@ -198,7 +197,7 @@ enum outcome { DONE, BUSY, GONE };
 int link_open(struct link *l, const char *name);
 /* Reads at most BATCH frames. A VLAN tag that the system took out of a frame is in it again. */
 enum outcome link_read(struct link *l, struct unfinished frames[BATCH], unsigned *count);
-/* Adds a copy of a frame to those that wait. If BATCH frames wait, it is counted as refused. */
+/* Adds a copy of a frame to the waiting ones. If BATCH frames wait, it is counted as refused. */
 void link_append(const uint8_t *octets, size_t length, struct counts *c);
 /* How many frames wait. */
 unsigned link_waiting(void);
@@ -225,7 +224,7 @@ void floods_end(struct device *d);
 
 /* ---- drops.c: frames of LINK that are dropped for their packet numbers alone ---- */
 
-/* Two kinds: those that are not reserved yet, and those that an earlier run had reserved. */
+/* Two kinds: packet numbers that are not reserved yet, and numbers that an earlier run had reserved. */
 enum { DROPS = 2 };
 struct drops {
     uint64_t count;
@@ -249,12 +248,12 @@ struct held {
 
 /* Keeps a copy of a frame. Returns false if there is no space. */
 bool held_keep(struct device *d, const uint8_t *octets, size_t length);
-/* Gives them to the endpoint if a reservation was reported: to be called before a later frame is, and when one may have
- * been. Returns GONE if TAP is. */
+/* Gives the frames to the endpoint if a reservation was reported. To be called before a later frame is given to it, and
+ * when a reservation may have been reported. Returns GONE if TAP is. */
 enum outcome held_give(struct device *d);
 /* How many wait. */
 unsigned held_count(const struct device *d);
-/* Drops those that have waited too long: each second. */
+/* To be called each second: drops frames that have waited too long. */
 void held_tick(struct device *d);
 
 /* ---- segments.c: frames of LINK that the system has not completed ---- */
@@ -344,7 +343,7 @@ struct names {
 
 /* Reads the octets of a journal. Returns the library's status. */
 uint32_t names_read(struct names *n, const uint8_t *octets, size_t length);
-/* The name in a record, or NULL if it is new. It is there until the next call that adds or takes out names. */
+/* The name in a record, or NULL if it is new. It is valid until the next call that adds or removes names. */
 struct name *names_find(const struct names *n, const uint8_t *record);
 /* The greatest packet number of its records. */
 uint64_t names_last(const struct name *name);
@@ -355,7 +354,7 @@ bool names_cover(const struct name *name, const macsec_record *record);
 struct name *names_note(struct names *n, const macsec_record *record, uint32_t key, bool reserves);
 /* Notes what a receive association has accepted, where more is reserved. */
 void names_accept(struct names *n, const macsec_record *record);
-/* Gives up the names of a key, which will not be installed again. One that came again before stays. */
+/* Gives up the names of a key, which will not be installed again. A name that has come again before stays. */
 void names_give_up(struct names *n, uint32_t key);
 /* The number of this key, or of all keys if it is NO_KEY, will be given to another key: names forget it. */
 void names_detach(struct names *n, uint32_t key);
@@ -367,11 +366,13 @@ size_t names_all(struct names *n, uint8_t *out);
 size_t names_room(const struct names *n);
 /* How many names stay in it. */
 size_t names_count(const struct names *n);
-/* Writes the header and the greatest record of each name, for another endpoint of this run. A name that one of these
- * records has gets this record instead, and a name of a receive association up to where it has accepted. */
+/* Writes the header and the greatest record of each name, for another endpoint of this run. A name that one of
+ * these records has gets that record instead. A name of a receive association gets the number up to which the
+ * association has accepted. */
 size_t names_copy(const struct names *n, const macsec_record *instead, size_t count, uint8_t *out);
 size_t names_copy_room(const struct names *n);
-/* Octets are durable that one of these two calls has written. Those records that reserve something new are reported. */
+/* Notes that octets which one of these two calls has written are durable. Reports the records that reserve something
+ * new. */
 void names_written(struct names *n, const uint8_t *records, size_t length,
                    void (*report)(void *context, const macsec_record *record), void *context);
 void names_free(struct names *n);
@@ -398,8 +399,8 @@ struct pace *paces_of(struct paces *p, const uint8_t sci[8]);
 uint64_t paces_amount(struct pace *p, double slow);
 /* Notes that a frame was accepted. Returns true if it is time to look whether a reservation is wanted. */
 bool paces_accepted(struct pace *p);
-/* Notes that a frame lacks a reservation, while this order of the saver is under way or the next one, and how many
- * frames wait for one. Returns true if one is to be asked for: once for an order. */
+/* Notes that a frame lacks a reservation while this order of the saver is under way or the next one, and how many
+ * frames wait for a reservation. Returns true, once for an order, if one is to be asked for. */
 bool paces_lacked(struct pace *p, uint64_t order, unsigned waiting);
 /* To be called each second. */
 void paces_tick(struct paces *p);
@@ -466,10 +467,10 @@ void numbers_note_key(struct numbers *n, uint64_t key, bool passes);
 void numbers_note_retired(struct numbers *n, uint64_t key, bool passes);
 /* Makes the reservations that transmit associations want. */
 void numbers_reserve(struct numbers *n, macsec_endpoint *e);
-/* Makes those that receive associations want, where it is reserved what is received. */
+/* Makes the reservations that receive associations want, if what is received is reserved. */
 void numbers_accept(struct numbers *n, macsec_endpoint *e);
-/* Both, for an endpoint that is to take over: it waits so long for the disk if an enabled association has nothing
- * reserved. Returns false if it has nothing then, and the journal can't be written. */
+/* Both, for an endpoint that is to take over. If an enabled association has nothing reserved, it waits for the disk, at
+ * most so long. Returns false if the association still has nothing then, and the journal can't be written. */
 bool numbers_reserve_soon(struct numbers *n, macsec_endpoint *e, int milliseconds);
 /* Notes that frames were sent, and whether one lacked a reservation; reserves in time. */
 void numbers_used(struct numbers *n, macsec_endpoint *e, unsigned frames, bool lacked);
@@ -479,8 +480,8 @@ uint64_t numbers_grants(const struct numbers *n);
 void numbers_received(struct numbers *n, macsec_endpoint *e, const macsec_received *got, unsigned waiting);
 /* To be called each second: fits the reservations to the rate, or saves the received packet numbers. */
 void numbers_tick(struct numbers *n, macsec_endpoint *e);
-/* Saves or notes what the receive associations of a channel have accepted, or all if `sci` is NULL: before one ends, or
- * the endpoint does. One of another endpoint of this run begins above that. */
+/* Saves or notes what the receive associations of a channel have accepted, or all if `sci` is NULL. To be called
+ * before an association or the endpoint ends. In another endpoint of this run the association begins above that. */
 void numbers_save(struct numbers *n, macsec_endpoint *e, const uint8_t *sci);
 /* To be called when an endpoint has ended: the numbers of its keys will be given to other keys. */
 void numbers_forget(struct numbers *n);
@@ -553,7 +554,7 @@ struct result {
  * that fails, and its number. */
 uint32_t endpoint_configure(struct device *d, const char *text, size_t length, uint32_t *line);
 bool endpoint_is_open(const struct device *d);
-/* Creates one without keys by `open SCI SUITE FORM`; the one before it ends. */
+/* Creates an endpoint without keys by `open SCI SUITE FORM`; the present one ends. */
 struct result endpoint_open(struct device *d, const struct words *w);
 void endpoint_close(struct device *d);
 /* Carries out a line of a request. */
@@ -563,7 +564,7 @@ void endpoint_load(struct device *d, struct text *t, const char *lines, size_t l
 
 /* ---- handover.c: a second endpoint ---- */
 
-/* How many milliseconds it is waited for the reservations of new transmit associations, while no frame is read. */
+/* How many milliseconds to wait for the reservations of new transmit associations, while no frame is read. */
 enum { HANDOVER_WAITS = 50 };
 
 /* Makes a second endpoint in the free handle: a copy with the keys that are not retired, the channels and the
@@ -572,7 +573,7 @@ macsec_endpoint *handover_begin(struct device *d);
 /* Reserves for it, and lets it take over from the first. Returns false, after a message, if no record can be written:
  * then it is freed. */
 bool handover_finish(struct device *d, macsec_endpoint *e);
-/* Lets it take over, if need be without a reservation: frames are dropped until one is made. */
+/* Lets it take over, even without a reservation: then frames are dropped until one is made. */
 void handover_take(struct device *d, macsec_endpoint *e);
 
 /* ---- answers.c: the text of answers ---- */

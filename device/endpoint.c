@@ -206,8 +206,8 @@ static struct result do_only_line(struct device *d, macsec_endpoint *copy, const
     return endpoint_command(d, line, length);
 }
 
-/* Does this with each line, and adds the answers. Returns false if one was refused: then the answer is that of this
- * line alone. */
+/* Does this with each line, and adds the answers. Returns false if one was refused: then the answer is for this line
+ * alone. */
 static bool load_lines(struct device *d, macsec_endpoint *copy, line_action action, struct text *t, const char *lines,
                        size_t left) {
     const char *line;

@@ -1,13 +1,14 @@
-/* A second endpoint. The first one has taken all the keys that an endpoint can take, or a key number of lines that are
- * carried out all or none is that of a retired key: then a copy of it takes over between two frames, so that none is
- * lost.
+/* A second endpoint. It is needed when the first one has taken all the keys that an endpoint can take, or when lines
+ * that are carried out all or none give the number of a retired key again. Then a copy of the first takes over between
+ * two frames, so that none is lost.
  *
- * The copy is made beside the journal, as after a restart, with one difference: of each key that the first endpoint
- * sends under, it reads up to where that has sent, and not what it has reserved, and of each receive association up to
- * where that has accepted. So a transmit association goes on one packet number later, and a receive association at the
- * same one, with the reservations that are there. No number is used or accepted twice: the first endpoint sends and
- * receives nothing more once the copy has taken over, and the copy does neither before. The copy does not know the
- * retired keys. An association that has no packet number left is not in it either: it can send and receive nothing. */
+ * The copy is made with the journal, as after a restart, with one difference. For each key that the first endpoint
+ * sends under, it reads the number up to which the first has sent, and not the reserved one; for each receive
+ * association, the number up to which the first has accepted. So a transmit association goes on one packet number
+ * later, and a receive association at the same one, with the reservations that are there. No number is used or accepted
+ * twice: the first endpoint sends and receives nothing more once the copy has taken over, and the copy does neither
+ * before. The copy does not know the retired keys. An association that has no packet number left is not in it either:
+ * it can send and receive nothing. */
 #include "device.h"
 #include "workers.h"
 #include <inttypes.h>

@@ -175,7 +175,7 @@ static int on_listener(struct device *d) {
                                                                                                       : ENDS_FAILED;
 }
 
-/* GONE can mean LINK or TAP, of which rtnetlink or the next event says so. */
+/* GONE can mean LINK or TAP. rtnetlink or the next event says which. */
 static int end_of(struct device *d, enum outcome outcome) {
     return outcome == GONE && !life_read(d) ? ENDS_FAILED : GOES_ON;
 }

@@ -18,7 +18,7 @@
 #include <sys/un.h>
 #include <unistd.h>
 
-/* The longest request is that of `load` with its lines. */
+/* The longest request is `load` with its lines. */
 enum { REQUEST = 128 * 1024, ANSWER = 512 * 1024 };
 
 static char request[REQUEST], answer[ANSWER], earlier[ANSWER];

@@ -3,7 +3,7 @@
  * stack are made as large before that as they have to be later: a part that comes later would not be locked, and a
  * locked stack can't grow above the limit of locked memory.
  *
- * Pages that are never used take no memory. Core files are in confine.c, and macsecd starts no process. */
+ * Pages that are never used need no memory. Core files are in confine.c, and macsecd starts no process. */
 #define _GNU_SOURCE
 #include "device.h"
 #include <limits.h>

@@ -1,5 +1,5 @@
-/* The host's network namespace, which has TAP, and LINK's own. The host has no addresses in LINK's, so none of its
- * programs gets a frame of LINK except through MACsec. The program `macsec-link` makes it. */
+/* The host's network namespace, which has TAP, and LINK's own. The host has no addresses in LINK's namespace, so its
+ * programs get frames of LINK only through MACsec. The program `macsec-link` makes the namespace. */
 #define _GNU_SOURCE
 #include "device.h"
 #include <errno.h>

@@ -17,8 +17,8 @@
 enum { LASTS = 32, SLOW = 16, SLOWEST = 30 };
 #define USUAL 0.25
 
-/* After so many seconds a run reserves so many times JOURNAL_AMOUNT_MIN at least, so that frames may also begin while
- * the disk stalls: it is unlikely then that runs end one after another, each of which skips what it has reserved. */
+/* After so many seconds a run reserves at least so many times JOURNAL_AMOUNT_MIN, so that frames may also begin while
+ * the disk stalls. By then it is unlikely that runs end one after another, each skipping what it has reserved. */
 enum { STEADY_AFTER = 10, STEADY = 16 };
 
 /* The rate and the seconds that a synchronization takes are forgotten by one of so many parts at a time. */

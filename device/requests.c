@@ -1,4 +1,4 @@
-/* Requests at the control socket: those that only read, those of the device, and lines for the endpoint. */
+/* Requests at the control socket: requests that only read, requests to the device, and lines for the endpoint. */
 #include "device.h"
 #include <string.h>
 

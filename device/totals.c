@@ -87,7 +87,7 @@ void totals_note(const struct words *w) {
     if (words_is(w, 1, "rxscdel"))
         *c = earlier.channels[--earlier.count];
     else if (words_number(w, 3, &an) && an < MACSEC_AN_COUNT)
-        memset(c->of_sa[an], 0, sizeof c->of_sa[an]); /* those of the channel still have them */
+        memset(c->of_sa[an], 0, sizeof c->of_sa[an]); /* the channel's counters still include them */
 }
 
 void totals_clear(void) {

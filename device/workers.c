@@ -3,7 +3,7 @@
  *
  * A worker that finds no job looks for a moment more and then sleeps, by a futex. One is woken for each WAKES jobs that
  * no thread has taken, so a few frames wake none. The endpoint's thread does jobs too, when it has nothing else to do
- * and when a ring is too full. It leaves no job behind when it waits, so each job is done although no worker may have
+ * and when a ring is too full. It leaves no job undone when it waits, so each job is done although no worker may have
  * been woken for it. While it waits in its loop, an eventfd reports that the first frame is finished. */
 #define _GNU_SOURCE
 #include "workers.h"

@@ -49,7 +49,7 @@ bool ring_is_finished(const struct ring_place *p);
 /* The first place if it is finished, else NULL; removes it. */
 struct ring_place *ring_first(struct ring *r);
 void ring_remove(struct ring *r);
-/* In any thread: takes any job, or that of a place, so that no other thread has it. NULL and false: there is none. */
+/* In any thread: takes any job, or a place's job, so that no other thread has it. NULL and false: there is none. */
 struct ring_place *ring_take(struct ring *r);
 bool ring_take_place(struct ring_place *p);
 /* The job is done. */

@@ -61,7 +61,7 @@ ConfigureWithoutCarrier=yes
 
 
 def accelerators() -> list[str]:
-    """KVM, if the processor can run guests by itself. Where the system emulates that, the BIOS takes minutes."""
+    """KVM, if the processor itself can run guests. If the system emulates that, the BIOS takes minutes."""
     flags = pathlib.Path("/proc/cpuinfo").read_text().split()
     return ["kvm", "tcg"] if {"vmx", "svm"} & set(flags) else ["tcg"]
 
@@ -282,7 +282,7 @@ class Guest:
         self.insert(name)
 
     def reboot(self) -> None:
-        """Lets it reboot by itself. qemu ends then, and is started again."""
+        """Lets it reboot without help. qemu ends then, and is started again."""
         with contextlib.suppress(Failed):
             self.attempt("systemctl reboot", 60)
         assert self.machine is not None

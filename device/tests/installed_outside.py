@@ -98,7 +98,7 @@ class Peer(Namespace):
             )
 
     def start(self, text: str) -> None:
-        """Starts it with a configuration: that of the machine's instance, with both ends exchanged."""
+        """Starts it with the configuration of the machine's instance, with both ends exchanged."""
         tap, program = f"macsec-{self.name}", str(self.outside.programs / "macsecd")
         device = f"device link {self.link}\ndevice tap {tap}\ndevice shared\ndevice transient\n"
         config = self.folder / "conf/macsec0.conf"

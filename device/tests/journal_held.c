@@ -4,7 +4,7 @@
  *     journal_held SEED
  *
  * Each frame has its packet number in its first octets, and a length and octets that follow from it. No frame may be
- * overtaken, altered or lost, but for those that come while there is no space and those that wait for two ticks. */
+ * overtaken, altered or lost, except a frame that comes while there is no space or that waits for two ticks. */
 #include "device.h"
 #include <inttypes.h>
 #include <stdio.h>

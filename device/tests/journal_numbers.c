@@ -5,10 +5,10 @@
  *     journal_numbers send JOURNAL LIMIT SUITE AMOUNT FRAMES CAPTURE
  *     journal_numbers paces
  *
- * The arguments and the output are those of journal.c, but LIMIT, SUITE and AMOUNT are not used, and CAPTURE also gets
- * the frames that are delivered. The clock ticks a few frames after a failure: each tick makes reservations longer,
- * since no time passes. If nothing fails, each new frame has to be delivered. paces prints how many packet numbers are
- * reserved for a channel that is quiet, busy, quiet again, and whose frames lack a reservation. */
+ * The arguments and the output are as in journal.c, except that LIMIT, SUITE and AMOUNT are not used, and CAPTURE also
+ * gets the frames that are delivered. The clock ticks a few frames after a failure: each tick makes reservations
+ * longer, since no time passes. If nothing fails, each new frame has to be delivered. paces prints how many packet
+ * numbers are reserved for a channel that is quiet, busy, quiet again, and whose frames lack a reservation. */
 #define _GNU_SOURCE
 #include "device.h"
 #include "journal.h"

@@ -147,7 +147,7 @@ def frames_of(capture: pathlib.Path) -> list[Frame]:
 
 
 def add_new(seen: set[Frame], frames: list[Frame], what: str) -> None:
-    """Notes frames, of which none may be there already."""
+    """Notes frames. None of them may be there already."""
     for frame in frames:
         if frame in seen:
             report(False, f"{what}: packet number {frame[2]} of association {frame[1]} occurs again")

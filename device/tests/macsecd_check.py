@@ -153,7 +153,7 @@ def check_surroundings(end: End) -> None:
 
 
 def check_isolated(end: End) -> None:
-    """An isolated LINK is in another namespace: its address is that of TAP. Here TAP is an end of another link."""
+    """An isolated LINK is in another namespace, and has TAP's address. Here TAP is an end of another link."""
     end.write_config()
     end.config.write_text(end.config.read_text().replace("device shared\ndevice transient\n", ""))
     end.ip("link", "set", "link0", "name", "other0")

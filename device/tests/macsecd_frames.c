@@ -6,8 +6,8 @@
  *     macsecd_frames forged DEVICE SCI LENGTH COUNT RATE      frames of so many octets with this SCI, association 0, a
  *                                                             high packet number, and an ICV of zeros
  *
- * The SCI of channel C is 0200000001 C 0001. The same arguments give the same frames, so that they can stand for ones
- * that were recorded. It prints how many frames were sent, and how many the device did not take. */
+ * The SCI of channel C is 0200000001 C 0001. The same arguments give the same frames, so that they can serve as
+ * recorded ones. It prints how many frames were sent, and how many the device did not take. */
 #define _GNU_SOURCE
 #include "macsec.h"
 #include <net/if.h>

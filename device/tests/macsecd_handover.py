@@ -335,7 +335,7 @@ def check_number_again(a: End, load: Callable[..., str], key: str) -> None:
         "a second endpoint goes on after `load`" in a.log() and state_of(a) != state,
         "no second endpoint has taken over",
     )
-    # The copy was told all lines: the keys of the device are those of the endpoint, so that it can take over again.
+    # The copy was given all lines. The device has the keys of the endpoint, so that a copy can take over again.
     a.hand_over()
     report(load("A retire 0", "A protect on") == "1 ok\n2 ok\n", "a key of a second endpoint")
 

@@ -64,7 +64,7 @@ def try_start(end: End, what: str, journal: pathlib.Path, peer: End) -> None:
 
 
 def check_keys(a: End, b: End) -> None:
-    """A key of which another journal of the host has packet numbers."""
+    """A key for which another journal of the host has packet numbers."""
     own, other = arrange(a)
     try_start(a, "an empty folder beside", other, b)
     used = own.read_bytes()

@@ -153,7 +153,7 @@ def unfinished(version: int, is_udp: bool, data: bytes) -> tuple[bytes, bytes]:
 
 
 def segments(frames: list[bytes], version: int, is_udp: bool) -> list[bytes]:
-    """The data of the segments, each of which has to have right lengths and checksums."""
+    """The data of the segments. The lengths and the checksums of each segment have to be right."""
     got = []
     for number, frame in enumerate(frames):
         report(frame[12:16] == bytes.fromhex("81000005"), f"plain: a segment without its tag: {frame[:20].hex()}")

@@ -384,7 +384,7 @@ def check_many_keys(world: World, sender: pathlib.Path, keys: int, longest: floa
         pause < longest + polls.machine,
         f"keys: a pause of {1000 * pause:.0f} ms, the machine {1000 * polls.machine:.0f}",
     )
-    # Those of the last 256 keys that were given up stay, and of the keys in use.
+    # The names of the last 256 keys that were given up stay, and the names of the keys in use.
     names = shown["journal_names"]
     report(256 <= names < 300, f"keys: the journal has {names} names after {keys} keys")
     report(size <= 1 << 17, f"keys: the journal has {size} octets after {keys} keys")

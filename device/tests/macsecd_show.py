@@ -43,7 +43,7 @@ def send_in_clear(end: End) -> None:
 
 
 def check_rows(end: End) -> None:
-    """The tables are those of `json`, with one association in each."""
+    """The tables have the rows of `json`, with one association in each."""
     report(until(lambda: rows_of_text(end.ask("show")) == rows_of_json(end)), f"show has other rows: {end.ask('show')}")
     text = end.ask("show")
     report(len(rows_of_text(text)[0]) == 1 == len(rows_of_text(text)[1]), f"show has not one row each: {text}")

@@ -25,8 +25,8 @@ def workers_of(end: End) -> int:
 
 
 def workers_at(end: End) -> list[pathlib.Path]:
-    """The folders of its workers in /proc. Threads are listed in the order in which they began: that of the endpoint,
-    that of the journal, and workers."""
+    """The folders of its workers in /proc. Threads are listed in the order in which they began: the endpoint's thread,
+    the journal's, and the workers'."""
     assert end.process is not None
     tasks = pathlib.Path(f"/proc/{end.process.pid}/task")
     return [tasks / it for it in os.listdir(tasks)[2:]]

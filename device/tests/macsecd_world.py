@@ -21,8 +21,8 @@ from house.reporting import Failed, call, report, until
 
 LIBC = ctypes.CDLL(None, use_errno=True)
 SANITIZED = [*compiling.SANITIZED, "-O1", "-DMACSECD_UNFILTERED"]
-# As the Makefile links it. Else the first call of a function stores the vector registers on the stack of its thread, and
-# a new thread has those of the thread that has made it, in which parts of a key can be.
+# As the Makefile links it. Else the first call of a function stores the vector registers on the stack of its thread. A
+# new thread has the registers of the thread that has made it, and they can have parts of a key.
 BOUND = ["-Wl,-z,relro", "-Wl,-z,now"]
 ALL_FRAMES = socket.htons(3)
 SOL_PACKET, PACKET_AUXDATA, VLAN_VALID = 263, 8, 1 << 4
@@ -327,7 +327,7 @@ A rxon 02000000000{peer}0001 0
         return (self.folder / "log").read_text(errors="replace")
 
     def carry_out(self, *lines: str) -> None:
-        """Carries out lines, each of which has to be done."""
+        """Carries out lines. Each of them has to be done."""
         for line in lines:
             answer = self.ask(line)
             if not answer.startswith("ok"):

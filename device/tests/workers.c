@@ -253,8 +253,8 @@ static void change_key(void) {
     keys++;
 }
 
-/* Waits as the loop of a device does: it does jobs first. Then those that are left are in workers, one of which wakes
- * it. */
+/* Waits as the loop of a device does: it does jobs first. Then workers have the jobs that are left, and one of them
+ * wakes it. */
 static void wait_for(struct device *d) {
     bool sleeps;
     while (workers_help(d->workers))

@@ -42,7 +42,7 @@ int LLVMFuzzerInitialize(int *count, char ***arguments) {
     return 0;
 }
 
-/* No request has changed what the next input finds, but for the journal. */
+/* No request has changed what the next input finds, except the journal. */
 static void clear(struct device *d) {
     endpoint_close(d);
     port_open(d);
