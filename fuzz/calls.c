@@ -281,7 +281,7 @@ static uint32_t free_slot(macsec_slot *slot) {
     return MACSEC_OK;
 }
 
-/* A buffer of 7, of which a call writes the first octets alone. */
+/* A buffer of octets 7. A call writes only its first octets. */
 static void check_rest(const uint8_t *out, size_t written, size_t room) {
     for (size_t i = written; i < room; i++) {
         if (out[i] != 7)

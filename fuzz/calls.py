@@ -76,14 +76,14 @@ class Calls(Rarely):
         return self.random.choice((0, 0, 0, 1, 1, 2, 3, 4, 255))
 
     def place(self):
-        """That of a key or of a slot."""
+        """The place of a key or of a slot."""
         return self.random.choice((0, 0, 1, 1, 2))
 
     def sci(self):
         return self.random.choice(self.SCIS)
 
     def receiving(self):
-        """A handle, most often that of the receiver, an SCI and an association number."""
+        """A handle, most often the receiver's, an SCI and an association number."""
         return self.random.choice((0, 1, 1, 1, 2)), self.sci(), self.an()
 
     def pick(self, pool):

@@ -173,7 +173,7 @@ def interface_of(interfaces, number):
 
 
 def other_packet(link, has_ethernet):
-    """The record of a packet of another link type, of which nothing else is read."""
+    """The record of a packet of another link type. Nothing else of the packet is read."""
     if not has_ethernet:
         raise PcapFault("LinkType")
     return 0, 0, link

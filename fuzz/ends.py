@@ -14,7 +14,7 @@ MOST = 1024
 
 class Ends:
     """The highest packet number that each deleted association may have accepted. While there is space each has an
-    entry. The next ones share a number for each key, and those of further keys one number for all."""
+    entry. The next ones share a number for each key, and associations of further keys share one number for all."""
 
     # How many ends all tables noted in each of the three ways.
     noted: collections.Counter[str] = collections.Counter({"END_OF_SA": 0, "END_OF_KEY": 0, "END_OF_OTHERS": 0})

@@ -19,7 +19,7 @@ HEADER = (ROOT / "include/macsec.h").read_text()
 # The constants of the header, by their names without MACSEC_.
 CONSTANTS = {name: int(value) for name, value in re.findall(r"\bMACSEC_(\w+) = (\d+)", HEADER)}
 CONSTANTS |= {name: int(value) for name, value in re.findall(r"#define MACSEC_(\w+) (\d+)\n", HEADER)}
-# Its calls, by their names without macsec_; that of the version is made once.
+# Its calls, by their names without macsec_. The call of the version is made once.
 CALLS = set(re.findall(r"^(?:uint32_t|void) macsec_(\w+?)(?:_raw)?\(", HEADER, re.M)) - {"version"}
 FRAME_MIN, FRAME_MAX = CONSTANTS["FRAME_MIN"], CONSTANTS["FRAME_MAX"]
 

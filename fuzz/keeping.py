@@ -23,7 +23,7 @@ class Dropped(Exception):
 
 
 def raised(entries: list[journals.Reservation], by: journals.Reservation) -> list[journals.Reservation]:
-    """These entries; those of the reservation's name are raised to its number."""
+    """These entries. The entries of the reservation's name are raised to its number."""
     its, to = by
     return [(name, max(last, to) if name == its else last) for name, last in entries]
 
@@ -80,7 +80,7 @@ class Endpoint(expected.Endpoint):
             self.ends.forget(values[0])
 
     def rows(self) -> dict[tuple[bytes, int], expected.Sa]:
-        """The receive associations. Those of a channel are in the order of their creation."""
+        """The receive associations, for each channel in the order of their creation."""
         return {(channel.sci, an): sa for channel in self.channels for an, sa in channel.sas.items()}
 
     def note_ends(self, before: dict[tuple[bytes, int], expected.Sa]) -> None:

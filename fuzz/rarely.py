@@ -29,7 +29,7 @@ class Rarely:
         return self.keys[suite], self.SALT, ssci, suite, suite, 32 if suite in (2, 4) else 16, 0
 
     def configuration(self, sci, suite, *lines):
-        """The text of a configuration: of these commands after the line of the end."""
+        """The text of a configuration: the line of the end, and then these commands."""
         return "\n".join([f"end A {SUITES[suite]} {sci.hex()} 1518 sci", *("A " + it for it in lines), ""]).encode()
 
     def key_line(self, suite, ssci):
@@ -72,8 +72,8 @@ class Rarely:
         yield "journal_compacted", (2, self.JOURNAL + 3 * journals.record(saved) + bytes(64))
 
     def rarely_forgotten(self):
-        """Retired keys, of which fingerprints stay: their floors are gone, and their octets are refused. A job that was
-        planned before is done. A key that is the fingerprint of another one lets that one stay."""
+        """Retired keys. Their fingerprints stay, their floors are gone, and their octets are refused. A job that was
+        planned before is done. If a key is the fingerprint of another one, the other one's octets stay."""
         octets = self.keys[0][:16]
         name = journals.sending_name(self.JOURNAL_SALT, octets)
         saved = (name, 9), (journals.receiving_name(name, self.SCIS[0], 1), 7)
@@ -105,7 +105,7 @@ class Rarely:
         yield "enable_tx_sa", (2, 0)
 
     def retired(self, octets, reserves):
-        """Key 0, of these octets, is retired while its job is planned; what names it then, before and after that."""
+        """Key 0, which has these octets, is retired while its job is planned. Calls name it before and after that."""
         other = self.SCIS[0]
         for number, its in ((0, octets), (1, self.keys[1][:16])):
             yield self.short_key(number, its)
@@ -147,8 +147,8 @@ class Rarely:
             yield self.short_key(number, its)
 
     def rarely_ahead(self):
-        """A receiver beside a journal, without `ahead` and with it: packet numbers that are reserved, that are not yet,
-        and that an earlier run had reserved."""
+        """A receiver with a journal, without `ahead` and with it: packet numbers that are reserved, that are not
+        reserved yet, and that an earlier run had reserved."""
         for suite, ahead in ((1, 0), (1, 1), (3, 1)):
             sent = self.sender(suite)
             name = journals.sending_name(self.JOURNAL_SALT, self.key_octets(suite))
@@ -165,7 +165,7 @@ class Rarely:
         return self.keys[suite][: expected.SUITES[SUITES[suite]][0]]
 
     def sender(self, suite):
-        """What protects a frame of SCI 0 and association 1 with a given packet number, and what alters its ICV too."""
+        """A function that protects a frame of SCI 0 and association 1 with a packet number, and can alter its ICV."""
         end = expected.Endpoint(SUITES[suite], self.SCIS[0], 1518, "sci")
         end.command("key", (suite, self.key_octets(suite), 0, SUITES[suite], struct.pack(">I", 1), self.SALT))
         end.command("txsa", (1, suite, 1, "int"))
@@ -179,7 +179,7 @@ class Rarely:
         return frame
 
     def reserved(self, amount, pn):
-        """A record to accept frames, which is on the disk then, and that no other one is needed."""
+        """A record to accept frames is written to the disk, and then no further one is needed."""
         for _ in range(2):
             wanted = self.model.ends[2].to_accept(self.SCIS[0], 1, amount, pn)
             yield "reserve_to_accept", (2, self.SCIS[0], 1, amount, pn)
@@ -193,7 +193,7 @@ class Rarely:
         yield "enable_rx_sa", (2, self.SCIS[0], 1)
 
     def accepted(self, suite, sent):
-        """Numbers up to 7 are those of an earlier run, and those from 8 to 20 are reserved after the first frames."""
+        """Numbers up to 7 were used by an earlier run, and numbers from 8 to 20 are reserved after the first frames."""
         other = self.SCIS[0]
         for an in (1, 4):
             yield "reserve_to_accept", (2, other, an, 4, 0)
@@ -211,7 +211,7 @@ class Rarely:
         yield "get_counters", (2,)
 
     def accepted_in_each_mode(self, sent):
-        """Late frames are not dropped, and then one that is invalid is delivered too."""
+        """Late frames are not dropped, and then an invalid frame is delivered too."""
         yield "set_replay", (2, 0, 0)
         for pn in (9, 7, 1):
             yield "receive", (2, sent(pn))
@@ -233,8 +233,8 @@ class Rarely:
         yield "set_replay", (2, 1, 0)
 
     def accepted_again(self, suite, sent):
-        """The association is deleted, and its channel, and both are created again. What was reserved for it is
-        forgotten at the next report."""
+        """The association is deleted, then its channel, and both are created again. What was reserved for the
+        association is forgotten at the next report."""
         other, end = self.SCIS[0], self.model.ends[2]
         lowest = end.rx_sa(other, 1).lowest
         yield "delete_rx_sa", (2, other, 1)
@@ -269,7 +269,7 @@ class Rarely:
         yield "reserve_rx_floor", (2, self.SCIS[0], 1, 1)
 
     # Where deleted associations ended: 1,024 have an entry, the next ones share a number for each of 1,024 keys, and
-    # those of further keys one number. Place n is that of key n / 256, channel n % 256 / 4 and association n % 4.
+    # associations of further keys share one number. Place n is for key n / 256, channel n % 256 / 4, association n % 4.
 
     @staticmethod
     def channel(number):
@@ -287,12 +287,12 @@ class Rarely:
         return self.configuration(self.SCIS[2], 1, *lines)
 
     def floors(self, *places):
-        """The floors of these, each a key, a channel and an association number."""
+        """The floors of these places. A place is a key, a channel and an association number."""
         for key, channel, an in places:
             yield "reserve_rx_floor", (2, self.channel(channel), an, key)
 
     def ends_at(self, key, channel, an, last, *others):
-        """An association ends at this number, deleted alone or with its channel. Then its floor and those of others."""
+        """An association ends at this number, deleted alone or with its channel. Then its floor, and others' floors."""
         sci = self.channel(channel)
         yield "add_rx_sc", (2, sci)
         yield "add_rx_sa", (2, sci, an, key, last + 1, 0)
@@ -320,7 +320,7 @@ class Rarely:
         yield from self.ended_for_all()
 
     def ended_for_all(self):
-        """So many keys have a number that one more gets one. Those of further keys share a number with all."""
+        """So many keys have a number that only one more gets one. Associations of further keys share one number."""
         yield "free", (2,)
         yield "reserve_configure", (2, self.ended(1_024, 1_023), self.JOURNAL, 1)
         yield self.short_key(2_000, bytes(range(16)))

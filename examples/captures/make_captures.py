@@ -71,7 +71,7 @@ def config(sci: str, key: str, an: int, pn: str, suite: str = "gcm128", extended
 
 
 def protect(program: str, text: str, records: list[Record]) -> list[Record]:
-    """What the program sends for some client frames, each of which has to be protected."""
+    """What the program sends for some client frames. Each of them has to be protected."""
     with tempfile.TemporaryDirectory() as folder:
         sender, clients, link = (f"{folder}/{it}" for it in ("sender.config", "client.pcap", "link.pcap"))
         with open(sender, "w", encoding="ascii") as file:

@@ -313,7 +313,7 @@ class PcapngFile(PcapngWriter):
         except BaseException as why:
             self._remove()
             if isinstance(why, OSError):
-                # The name that was asked for, not that of the temporary file.
+                # The name that was asked for, not the temporary file's.
                 raise OSError(why.errno, why.strerror, path) from None
             raise
 

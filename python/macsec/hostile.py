@@ -231,7 +231,7 @@ def hostile_frames(source: Source, is_marked: bool = False) -> Iterator[Hostile]
 
 
 def unused_number(source: Source) -> Source:
-    """The source with a packet number from which no IV of the list has a lower one, but for number 0."""
+    """The source with a packet number for which no IV of the list has a lower one, except number 0."""
     while any(0 < it.shape.pn < source.pn for it in hostile_frames(source)):
         source = source._replace(pn=source.pn + 1)
     return source

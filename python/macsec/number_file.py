@@ -16,7 +16,7 @@ _LONGEST = 4096
 
 
 def name_of_key(source: Source) -> str:
-    """A name of a key and of what else is in its IVs but for the packet number. The key can't be read from it."""
+    """A name of a key and of what else is in its IVs, except the packet number. The key can't be read from it."""
     parts = (source.suite.name.encode(), source.key, source.sci, source.ssci.to_bytes(4, "big"), source.salt)
     made = hashlib.sha256()
     for it in (_FORM.encode(), *parts):

@@ -88,7 +88,7 @@ def _shown_sci(sci: bytes, is_guess: bool) -> str:
 
 
 class Opener:
-    """Opens frames under keys, and notes their IVs. `ivs` has those of an earlier run over the same capture. Keys of
+    """Opens frames under keys, and notes their IVs. `ivs` has the IVs of an earlier run over the same capture. Keys of
     `caks` come with the frames of MKA that distribute them."""
 
     def __init__(

@@ -39,7 +39,7 @@ class Association:
         self.sci, self.an, self.frames, self.repeats = sci, an, 0, 0
         # Records that have a packet number of an earlier one, and other octets; each with that one.
         self.reused: dict[int, int] = {}
-        # Those of them that are known to be under another key than the earlier one.
+        # The reused ones that are known to be under another key than the earlier one.
         self.rekeyed: list[int] = []
         self.flags: Counter[str] = collections.Counter()
         self.verdicts: Counter[str] = collections.Counter()

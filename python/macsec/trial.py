@@ -59,7 +59,7 @@ class Trial:
         self._lowest: int | None = None
 
     def begin(self, upper: int = 0, ssci: int | None = None) -> None:
-        """Begins the association anew, with this upper half of extended packet numbers, and another SSCI if one is
+        """Begins the association again, with this upper half of extended packet numbers, and another SSCI if one is
         given."""
         lowest, is_other = upper << 32 | 1, ssci is not None and ssci != self.ssci
         if self._lowest is not None and not is_other and lowest >= self._lowest:
@@ -193,7 +193,7 @@ class KeyArgument(NamedTuple):
 
 
 def _hex(text: str, what: str, *lengths: int) -> bytes:
-    """Octets in hex. A message never has the digits, which can be those of a key."""
+    """Octets in hex. A message never has the digits: they can be a key."""
     if not all(it in "0123456789abcdefABCDEF" for it in text):
         raise UsageError(f"--key: {what} is not hex: digits alone expected, without 0x, colons and spaces")
     if len(text) not in [2 * it for it in lengths]:

@@ -62,7 +62,7 @@ def main_of(main: Callable[[Sequence[str]], int], *words: object) -> tuple[int, 
 
 
 class InFolder(unittest.TestCase):
-    """A test with a folder of its own."""
+    """A test with its own folder."""
 
     def setUp(self) -> None:
         room = tempfile.TemporaryDirectory()

@@ -133,7 +133,7 @@ class Completions(unittest.TestCase):
 
     @staticmethod
     def read_until(terminal: int, text: str, before: str = "") -> str:
-        """What a terminal shows until a text comes on a line of its own."""
+        """What a terminal shows until a text comes on a separate line."""
         shown, until = "", time.monotonic() + 60
         while time.monotonic() < until:
             if select.select([terminal], [], [], 0.1)[0]:

@@ -262,7 +262,7 @@ class Lint(Made):
         self.assertEqual((shown["name"], shown["line"], shown["word"]), ("Hex", 2, 4))
 
     def test_the_first_fault_is_the_library_s(self) -> None:
-        """Random texts: the first line and the name of its fault are those of the library."""
+        """Random texts: the first line and the name of its fault are the library's."""
         sys.path.insert(0, str(ROOT / "fuzz"))
         try:
             import calls

@@ -50,7 +50,7 @@ class Help(InFolder):
                 self.assertEqual(main_of(main, "--version"), (0, f"macsec-{name} {(ROOT / 'VERSION').read_text()}", ""))
 
     def test_examples(self) -> None:
-        """The examples of the help run, but for those with other programs or with interfaces."""
+        """The examples of the help run, except examples with other programs or with interfaces."""
         ran = 0
         for name in NAMES:
             module = importlib.import_module(f"macsec.cli.{name}")

@@ -73,7 +73,7 @@ class Case(InFolder):
         return status, out
 
     def decrypt(self, frames: Sequence[bytes], *words: str) -> tuple[int, str]:
-        """The status and the text of macsec-decrypt. `comments` are those of OUT."""
+        """The status and the text of macsec-decrypt. `comments` are the comments of OUT."""
         out = self.folder / "OUT"
         out.unlink(missing_ok=True)
         status, text, error = main_of(decrypt.main, self.put("IN", frames), out, *words)
@@ -87,8 +87,8 @@ class Case(InFolder):
     def named(
         self, link: Link, frames: Sequence[bytes], expected: dict[int, list[int]], replay: str = "off", status: int = 0
     ) -> None:
-        """Expects that these packet numbers are used by these records, of both commands. `status` is that of macsec-why
-        for other reasons."""
+        """Expects that these packet numbers are used by these records, of both commands. `status` is the status of
+        macsec-why for other reasons."""
         both = {"key 0": self.why(link.receives(replay), frames, "--json")}
         both["key 1"] = self.decrypt(frames, "--json", *link.words())
         for key, (ended, out) in both.items():

@@ -1,4 +1,4 @@
-"""The names, structures and calls of the package are those of include/macsec.h."""
+"""The names, structures and calls of the package are as in include/macsec.h."""
 
 from __future__ import annotations
 

@@ -43,7 +43,7 @@ class Pair(InFolder):
                     self.assertNotIn(frame[14:], sent)
                     received = other.secy.receive(sent)
                     self.assertEqual((received.verdict.name, received.frame), ("OK", frame))
-            # Each direction has a key of its own, which neither the other one nor another pair has.
+            # Each direction has its own key, which neither the other direction nor another pair has.
             keys = [it.octets for it in (*alice.keys.values(), *bob.keys.values())]
             self.assertEqual(len(set(keys)), 2)
             for it in paths:

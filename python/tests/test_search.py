@@ -68,7 +68,7 @@ class Decrypted(InFolder):
         return "\n".join(it["hint"] for it in shown if "hint" in it)
 
     def opens(self, frames: Sequence[bytes], *keys: str, clients: int = 3) -> list[dict]:
-        """The records, all of which open and are those of the clients."""
+        """The records. All of them open and are the clients'."""
         status, shown = self.shown(frames, *keys)
         self.assertEqual((status, [it for it in shown if "hint" in it]), (0, []))
         opened = [it.frame for it in capture.read(str(self.folder / "OUT"))]

@@ -159,7 +159,7 @@ class Untouched(InFolder):
 
 class Search(InFolder):
     def test_library_is_asked(self) -> None:
-        """What is named is what opens: the setting that is found opens the frame by itself."""
+        """What is named is what opens: the setting that is found opens the frame, and needs no other."""
         link = protected(client_frames(1), suite=Suite.xpn128, pn=0x2_0000_0007, ssci=3)
         with SecY(RECEIVER, Suite.xpn128) as b:
             b.install_key(0, KEYS[0], ssci=9, salt=SALT)

@@ -108,7 +108,7 @@ def hash_of(path: str) -> str:
 
 def record(path: str, crate: str, run: str) -> str:
     """What tools/prove writes beside a program or a library when it is built: which run proved its crates, its own
-    hash, and those of what its crates are made from. It is the same for a copy."""
+    hash, and the hashes of what its crates are made from. It is the same for a copy."""
     lines = [run, f"{hash_of(path)} built of {crate}"]
     return "\n".join([*lines, *(f"{sum_of(it)} {it}" for it in (*below(crate), crate))]) + "\n"
 

@@ -12,7 +12,7 @@ from typing import IO
 
 from house.reporting import Failed, call, until
 
-# The machine's first program: it loads the modules and runs the script /job. `ip` is that of iproute2, not of busybox.
+# The machine's first program: it loads the modules and runs the script /job. `ip` is iproute2's, not busybox's.
 INIT = """#!/bin/busybox sh
 /bin/busybox mkdir -p /proc /sys /dev /run /tmp /etc
 /bin/busybox mount -t proc none /proc

@@ -68,7 +68,7 @@ def signalled(numbers: Iterable[int], number: int) -> None:
 
 
 class Running:
-    """A job that has begun, in a session of its own."""
+    """A job that has begun, in its own session."""
 
     def __init__(self, job: Job, logs: pathlib.Path) -> None:
         self.job, self.began = job, time.monotonic()

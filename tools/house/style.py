@@ -16,7 +16,7 @@ import tempfile
 sys.path.insert(0, str(pathlib.Path(__file__).resolve().parents[1]))
 from house import ROOT
 
-# The commands that compare, and those that write; the first set of which all are installed is used.
+# The commands that compare, and the commands that write. The first set whose commands are all installed is used.
 PYTHON = (
     (["ruff"], ["ruff format --check", "ruff check"], ["ruff format", "ruff check --fix"]),
     (["black", "isort", "pyflakes3"], ["black -q --check", "isort -q --check", "pyflakes3"], ["isort -q", "black -q"]),

@@ -34,7 +34,7 @@ def installed(path: str) -> bytes:
 
 
 def files(programs: list[str]) -> dict[str, tuple[bytes, int]]:
-    """The files of the package, but for PROVENANCE."""
+    """The files of the package, except PROVENANCE."""
     doc = f"{DOC[1:]}/{NAME}"
     found = {f"usr/sbin/{os.path.basename(it)}": (read(it), 0o755) for it in programs}
     found["usr/sbin/macsec-link"] = (installed("device/macsec-link"), 0o755)
@@ -91,7 +91,7 @@ def accounts(root: str) -> dict[str, list[str]]:
 
 
 def left(root: str) -> dict[str, str]:
-    """What is below a root but for accounts."""
+    """What is below a root, except accounts."""
     hidden = (*BESIDE, *(f"etc/{it}" for it in ACCOUNTS))
     return {path: it for path, it in found_in(root).items() if path not in hidden}
 

@@ -16,7 +16,7 @@ from typing import BinaryIO, Callable, TextIO
 from ..errors import CaptureError, MacsecError, UsageError
 from ..secy import version
 
-# Everything that a terminal could take for a command: control characters, but for tab and line feed.
+# Everything that a terminal could take for a command: control characters, except tab and line feed.
 _CONTROL = re.compile("[\x00-\x08\x0b-\x1f\x7f-\x9f]")
 _SIGNALS = (signal.SIGTERM, signal.SIGHUP)
 

@@ -109,7 +109,7 @@ class Ivs:
 
     @property
     def twice(self) -> list[UsedTwice]:
-        """The IVs that are used twice: all, or that of the record that was asked for."""
+        """The IVs that are used twice: all, or only the IV of the record that was asked for."""
         return self._used.twice if self._only is None else self._of_only
 
 

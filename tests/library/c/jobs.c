@@ -148,7 +148,7 @@ static void change_key(uint16_t number) {
         must(macsec_key_take(&keys[w][number], w % 2 ? &receives : &sends, number));
 }
 
-/* Retires the key before, of which frames can still be planned but not sealed. */
+/* Retires the key before. Frames under it can still be planned, but not sealed. */
 static void retire_key(uint16_t number) {
     macsec_endpoint *both[] = { &sends, &sends_alone };
     for (int i = 0; i < 2; i++) {
@@ -175,7 +175,7 @@ static void command_receivers(void) {
 static uint8_t links[SLOTS][LONGEST];
 static size_t link_lengths[SLOTS];
 
-/* Plans frames, has them sealed in any order, and compares them with those of the other sender. */
+/* Plans frames, has them sealed in any order, and compares them with the other sender's frames. */
 static unsigned send_frames(uint16_t key, bool changes) {
     unsigned count = 1 + below(SLOTS);
     for (unsigned i = 0; i < count; i++) {

@@ -69,7 +69,7 @@ static void *finish(void *unused) {
     return unused;
 }
 
-/* Makes a call in a thread of its own, and says how many octets of stack the thread took; 0 if it can't be made. */
+/* Makes a call in a new thread, and says how many octets of stack the thread took; 0 if it can't be made. */
 static size_t run(void *(*call)(void *)) {
     static uint8_t area[STACK] __attribute__((aligned(4096)));
     pthread_attr_t attributes;
