@@ -23,7 +23,7 @@ IsSoundRun run = StaysSound (opening run) run.inputs
 pub of_run : Laws → (run : Run) → IsSoundRun run → Runs (opening run) run.inputs
 of_run laws run sound = runs laws run.inputs (opening run) refl sound
 
--- the earlier run reserved its number, which the later one read: so the later number is above it
+-- the earlier run reserved its number, and the later run read that, so the later run's number is above it
 differs : Laws → (run later : Run) → IsSoundRun run → IsSoundRun later → AgreeOnKeys run later → SameSalt run later → KeepsDurable run later →
     (x : CipherUse) → IsUse (opening run) (closing run) x → (y : CipherUse) → IsUse (opening later) (closing later) y → HasOtherIv x y
 differs laws run later sound sound' agree salt durable x first y second bytes iv =

@@ -1,4 +1,4 @@
--- What is reserved for the key at hand: then every client frame uses only what is reserved.
+-- If the enabled SA's next number is within what is at hand for its key, every client frame uses only what is reserved.
 use Rattle.std.proofs.Common.{◌≡◌, ◌⊎◌, inl, inr, ℕ, ◌+◌, Bool, true, false, List, length, refl, ap, sym, subst, ◌∙◌}
 use Rattle.std.specs.Prelude.{◌==◌, ◌&&◌, ◌||◌, not, nat_lt, nat_le, if◌then◌else◌, Option, Some, None}
 use Rattle.std.specs.List.{list_any}
@@ -19,7 +19,7 @@ use Rattle.macsec_reserve.specs.Keeping.{Keeping, key_name, may_use, uses_reserv
 use Rattle.macsec_reserve.specs.Names.{HasNames, IsAtHand, name_or_none, name_row}
 use Rattle.macsec_reserve.proofs.KeptNames.{found_name}
 
--- only the enabled association sends
+-- only the enabled SA sends
 by_tests : (row : TxRow) (b c : Bool) (p q s : Sending) → p.by ≡ None → q.by ≡ None → s.by ≡ Some row →
     ((if b then p else if c then q else s).by ≡ None) ⊎ ((if b then p else if c then q else s).by ≡ Some row)
 by_tests row true c p q s first second third = inl first

@@ -1,5 +1,5 @@
--- The lowest acceptable packet number of each receive association stays above what the journal had saved for it. No
--- more is known of the endpoint than that the rows of its tables agree.
+-- The lowest acceptable packet number of each receive SA stays above what the journal had saved for it. The proof uses only
+-- that the rows of the endpoint's tables agree.
 use Rattle.std.proofs.Common.{◌≡◌, ◌⊎◌, inl, inr, ℕ, ◌<◌, ◌≤◌, Bool, true, false, List, [], ◌∷◌, ◌++◌, map, get_or, refl, ap, sym, subst, ◌∙◌, arith, All}
 use Rattle.std.specs.Prelude.{◌-◌, ◌^◌, ◌==◌, ◌&&◌, nat_lt, nat_le, not, if◌then◌else◌, Option, Some, None, IsSome, unwrap_or}
 use Rattle.std.proofs.lemmas.Bool.{and_cases, eqb-false, leb-false, ltb-false, or_parts}
@@ -33,21 +33,21 @@ use Rattle.macsec_reserve.specs.Journal.{highest, receiving_name, sending_name}
 use Rattle.macsec_reserve.specs.Keeping.{Keeping, KeepingInput, endpoint_input, now_durable, begins_at, is_below_floor, keeping_after, keeping_step, key_name, may_go, was_reserved}
 use Rattle.macsec_reserve.proofs.Steps.{before_stays, by_tests, keeps_stays, salt_stays}
 
--- what was saved under a name is below a packet number, and below the last one of 64 bits
+-- what was saved under a name is below a packet number, and below 2^64 - 1
 pub record IsSavedBelow (before : List Reservation) (name : List ℕ) (n : ℕ) : Type 0 where
   pub below : highest before name < n
   pub most : highest before name < 2 ^ 64 - 1
 
--- the association's lowest acceptable packet number is above what was saved
+-- the SA's lowest acceptable packet number is above what was saved
 abbrev pub IsAbove : List ℕ → List Reservation → List InstalledKey → RxRow → Type 0
 IsAbove salt before keys row = IsSavedBelow before (receiving_name (key_name salt keys row.key) row.sci row.an) row.lowest
 
 abbrev pub AreAbove : List ℕ → List Reservation → State → Type 0
 AreAbove salt before s = All (IsAbove salt before s.keys) s.rx.rows
 
--- ---- an association that changes
+-- ---- an SA that changes
 
--- it keeps its place and its key, and its lowest acceptable number does not fall
+-- the SA keeps its place and its key, and its lowest acceptable number does not fall
 record IsRaised (row after : RxRow) : Type 0 where
   sci : after.sci ≡ row.sci
   an : after.an ≡ row.an
@@ -70,7 +70,7 @@ all_after : (salt : List ℕ) (before : List Reservation) (keys : List Installed
 all_after salt before keys f rows raised above =
     All-map (IsAbove salt before keys) f rows (λ k d within. above_after salt before keys _ _ (raised k d within) (above k d within))
 
--- each of them
+-- the same for each SA
 each : (f : RxRow → RxRow) → ((row : RxRow) → IsRaised row (f row)) → (rows : List RxRow) → All (λ row. IsRaised row (f row)) rows
 each f raises rows k d within = raises _
 
@@ -231,7 +231,7 @@ nothing_above salt before s o (Some f) above = above
 
 -- ---- every input
 
--- it begins at no number that was reserved before
+-- the input creates no SA at a number that was reserved before
 abbrev IsNew : List ℕ → List Reservation → State → Input → Type 0
 IsNew salt before s (operator_command c) = was_reserved before (begins_at salt s c) ≡ false
 IsNew salt before s input = Unit {0}

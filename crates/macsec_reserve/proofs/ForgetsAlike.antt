@@ -215,7 +215,7 @@ true_or_false : (b : Bool) → (b ≡ true → ⊥) → b ≡ false
 true_or_false true not_true = absurd (not_true refl)
 true_or_false false not_true = refl
 
--- the octets of a forgotten key are no others than those whose fingerprint is in its row
+-- a forgotten key that has another fingerprint in its row did not have these octets
 none_holds : (salt : List ℕ) (keys : List InstalledKey) (bytes : List ℕ) (r : Replacement) → KeysAreApart keys → IsOfKey salt keys r → HasOther (fingerprint salt bytes) r → IsNotHeld bytes keys r
 none_holds salt keys bytes r apart it differs = not_held bytes r.0 keys none
   where

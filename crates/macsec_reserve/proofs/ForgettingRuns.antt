@@ -85,7 +85,7 @@ abbrev Later : List KeepingInput → Type 0
 Later inputs =
     (k : Keeping) (rs : List Replacement) (entries : List Reservation) → Fits k rs entries → StaysSoundForgetting (beside k rs entries) inputs → RunsAlike k (beside k rs entries) inputs
 
--- as the endpoint that forgets is sound, so is the other one
+-- if the endpoint that forgets is sound, so is the other one
 pub sound_too : (k : Keeping) (rs : List Replacement) (entries : List Reservation) → Fits k rs entries → IsSound (replaced rs k.secy) → IsSound k.secy
 sound_too k rs entries fits sound = sound_beside rs k.secy sound fits.lengths fits.agrees
 

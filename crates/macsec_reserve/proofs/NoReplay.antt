@@ -1,5 +1,5 @@
--- What is delivered is above all that the journal had saved. No more is known of an endpoint than that the rows of its
--- tables agree at each moment, whatever the inputs are.
+-- What is delivered is above all that the journal had saved. The proof uses only that the rows of the endpoint's tables
+-- agree at each moment, whatever the inputs are.
 use Rattle.std.proofs.Common.{◌≡◌, ℕ, ◌+◌, ◌≤◌, Bool, true, false, List, [], ◌∷◌, refl, ap, sym, ◌∙◌, subst, arith, All}
 use Rattle.std.specs.Prelude.{◌^◌, max, if◌then◌else◌, unwrap_or, Option, Some}
 use Rattle.macsec_gcm.specs.Octets.{same_octets}
@@ -36,7 +36,7 @@ RowsStay = (s : State) (input : Input) (sci : Sci) (an n : ℕ) → RxRowStays s
 abbrev pub StartAgrees : Type 0
 StartAgrees = (config : EndConfig) → Agrees (start config)
 
--- what the journal had saved for the association is below the frame's packet number, and below the last one of 64 bits
+-- what the journal had saved for the SA is below the frame's packet number, and below 2^64 - 1
 delivered_above : StartAgrees → StaysAgreed → (run : Run) (inputs : List KeepingInput) (frame : List ℕ) (row : RxRow) (delivered : List ℕ) →
     let s = (keeping_after (opening run) inputs).secy in
     s.options.replay ≡ true → (judgement_of s frame).row ≡ Some row → (judgement_of s frame).delivered ≡ Some delivered →

@@ -1,4 +1,4 @@
--- The octets of several retired keys replaced: each input has the same output, and so has what it seals.
+-- If the octets of several retired keys are replaced, each input has the same output, and seals the same.
 use Rattle.std.proofs.Common.{◌≡◌, ℕ, Bool, true, false, List, [], ◌∷◌, get_or, refl, ap, sym, subst, ◌∙◌, All}
 use Rattle.std.specs.Prelude.{◌==◌, ◌||◌, ◌&&◌, if◌then◌else◌, option_map, Option, Some, None}
 use Rattle.std.proofs.lemmas.Bool.{or_parts}
@@ -70,7 +70,7 @@ sending_replaced options (r ∷ rs) keys rows frame unused =
 
 -- ---- a step
 
--- it holds of each state and the one with one replacement fewer
+-- P holds of each state and the state with one replacement fewer
 abbrev pub AtEach : (State → State → Type 0) → List Replacement → State → Type 0
 AtEach P [] s = Unit {0}
 AtEach P (r ∷ rs) s = P (replaced (r ∷ rs) s) (replaced rs s) × AtEach P rs s

@@ -27,7 +27,7 @@ pub record Runs (k : Keeping) (inputs : List KeepingInput) : Type 0 where
   pub from : All (IsUse k (keeping_after k inputs)) (sealed_from k inputs)
   pub apart : AllPairs HasOtherIv (sealed_from k inputs)
 
--- keys of the same octets of one endpoint are one key
+-- two keys of one endpoint with the same octets are the same key
 agrees_with_itself : Laws → (k : Keeping) → IsSound k.secy → (x y : InstalledKey) → Contains k.secy.keys x → Contains k.secy.keys y → x.bytes ≡ y.bytes → AgreeOnKey x y
 agrees_with_itself laws k sound x y here there bytes =
     let one : x ≡ y = (laws.keys_apart k.secy sound).by_bytes x y here there bytes in

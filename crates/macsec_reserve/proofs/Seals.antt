@@ -1,5 +1,5 @@
--- Where each use of the cipher comes from: a key of the run's end, and a packet number that no earlier run may have
--- used, which is reserved.
+-- Where each use of the cipher comes from: a key that the endpoint has at the end of the run, and a reserved packet number
+-- that no earlier run may have used.
 use Rattle.std.proofs.Common.{◌≡◌, ℕ, ◌<◌, ◌≤◌, Bool, true, false, List, [], ◌∷◌, refl, ap, sym, subst, ◌∙◌, arith, All, Contains}
 use Rattle.std.specs.Prelude.{◌||◌, not, nat_lt, nat_le, if◌then◌else◌, Option, Some, None}
 use Rattle.std.specs.List.{list_any}
@@ -25,7 +25,7 @@ use Rattle.macsec_reserve.specs.Histories.{newly_sealed, sealed_by, sealed_if}
 use Rattle.macsec_reserve.proofs.EndpointLaws.{Laws}
 use Rattle.macsec_reserve.proofs.Steps.{before_stays, salt_stays}
 
--- from a moment of a run to a later one: a use of the cipher between them, by a key as it is at the later one
+-- a use of the cipher between two moments of a run, by a key as it is at the later moment
 pub record IsUse (k later : Keeping) (x : CipherUse) : Type 0 where
   pub number : ℕ
   pub key : InstalledKey

@@ -1,4 +1,4 @@
--- A keeping endpoint takes the machine's step: without floors, where what it uses is reserved, and without a journal.
+-- A keeping endpoint takes the machine's step if it has no floors and what it uses is reserved, and if it has no journal.
 use Rattle.std.proofs.Common.{◌≡◌, ℕ, zero, suc, ◌<◌, ◌≤◌, Bool, true, false, List, [], refl, ap, sym, subst, ◌∙◌, arith, All}
 use Rattle.std.specs.Prelude.{◌||◌, ◌&&◌, not, nat_lt, nat_le, if◌then◌else◌, Option, Some, None}
 use Rattle.std.specs.List.{list_any}

@@ -1,4 +1,5 @@
--- Where deleted SAs ended is remembered: what may have been accepted from an SA does not fall, whether the SA is there or not.
+-- Where deleted SAs ended is remembered: the PN up to which frames may have been accepted from an SA does not fall, whether
+-- the SA exists or not.
 use Rattle.std.proofs.Common.{◌≡◌, ◌⊎◌, ℕ, ◌<◌, ◌≤◌, Bool, true, false, filter, inl, inr, refl, ap, sym, subst, ◌∙◌, arith}
 use Rattle.std.specs.Prelude.{List, [], ◌∷◌, ◌==◌, ◌&&◌, not, nat_le, nat_lt, max, if◌then◌else◌, is_some, Option, Some, None}
 use Rattle.std.proofs.lemmas.Bool.{and_cases, and_from, eqb-true, le-leb, leb-false, lt-ltb, ltb-false}
@@ -26,7 +27,7 @@ use Rattle.macsec_restarts.proofs.EndTables.{ends_cover, ends_more, without_othe
 use Rattle.macsec_restarts.proofs.NextNumbers.{same_place}
 use Rattle.macsec_restarts.proofs.RowSteps.{IsCreatedBy, RowStep, found_at, found_row, row_step, still}
 
--- an SA that was there, and is not there any more, is in the table
+-- an SA that existed and no longer exists is in the table
 gone : (s after : State) (t : Ends) (row : RxRow) → rx_row s.rx.rows row.sci row.an ≡ Some row → rx_row after.rx.rows row.sci row.an ≡ None →
     end_of_row row ≤ end_of (with_ends (ended_by s after) t) row.key row.sci row.an
 gone s after t row there none =
@@ -65,7 +66,7 @@ keeps_given_up k (endpoint_input input) n up = by_both (is_below_floor k input) 
     by_both false true = stays_given_up k.secy n input up
     by_both false false = up
 
--- it stays so
+-- a key that is given up stays given up
 pub given_up_stays : (a : Ahead) (input : KeepingInput) (n : ℕ) → IsGivenUp a.k.secy n → IsGivenUp (ahead_step a input).1.k.secy n
 given_up_stays a (now_durable r) n up = up
 given_up_stays a (endpoint_input input) n up = by_standing (begins_again a input) (standing a input)
@@ -231,7 +232,7 @@ remembers_by c false passes a row keeps there none =
     let all : ended_after a (operator_command c) answer ≡ more = ap (λ (b : Bool). if b then more else a.ended) keeps in
     subst (λ (t : Ends). end_of_row row ≤ end_of t row.key row.sci row.an) (sym all) (remembers_command a row there c none)
 
--- a step that is no command deletes none
+-- a step that is no command deletes no SA
 remembers_frame : (again : Bool) (it : Standing) (a : Ahead) (input : Input) (row : RxRow) → KeepsAssociation row.sci row.an (endpoint_input input) → rx_row a.k.secy.rx.rows row.sci row.an ≡ Some row →
     rx_row (ahead_by again it a input (keeping_step a.k (endpoint_input input))).1.k.secy.rx.rows row.sci row.an ≡ None → ⊥
 remembers_frame true it a input row stays there none = let no = sym there ∙ none in cc
@@ -295,7 +296,7 @@ past_by input (Some row) (Some later) key old new stepped grows ended =
     by_key false = omega (arith, grows)
     by_key true = omega (arith, grows, stepped.lowest)
 
--- it does not fall, unless the key is given up
+-- this PN does not fall, unless the key is given up
 pub past_step : (a : Ahead) (input : KeepingInput) (key : ℕ) (sci : Sci) (an : ℕ) → a.k.keeps ≡ true →
     IsGivenUp (ahead_step a input).1.k.secy key ⊎ (past_of a key sci an ≤ past_of (ahead_step a input).1 key sci an)
 past_step a (now_durable r) key sci an keeps = inr (omega arith)

@@ -1,5 +1,5 @@
--- A run that forgets keys beside the same run that forgets none, by the law of the keeping endpoints inside: the outputs are
--- alike, and what is sent, delivered, accepted, reserved ahead and remembered of deleted SAs is the same.
+-- A run that forgets keys, compared with the same run that forgets none, by the law of the keeping endpoints inside. The
+-- outputs are alike, and what is sent, delivered, accepted, reserved ahead and remembered of deleted SAs is the same.
 use Rattle.std.proofs.Common.{◌≡◌, ℕ, zero, suc, Bool, true, false, cond, List, [], ◌∷◌, ◌++◌, map, filter, take, inl, inr, refl, ap, sym, subst, ◌∙◌}
 use Rattle.std.specs.Prelude.{◌==◌, ◌&&◌, not, nat_le, nat_lt, is_some, if◌then◌else◌, Option, Some, None}
 use Rattle.std.proofs.lemmas.Bool.{and_from, eq-eqb}

@@ -132,7 +132,7 @@ keys_cover by (e ∷ es) there = by_own (is_under by.key e) refl there (keys_cov
 
 -- ---- one more end
 
--- it says no less of any SA, and of this one at least its end
+-- the table says no less of any SA, and of this SA at least its end
 record IsMore (by : EndedSa) (t after : Ends) : Type 0 where
   more : (key : ℕ) (sci : Sci) (an : ℕ) → end_of t key sci an ≤ end_of after key sci an
   covers : by.last ≤ end_of after by.key by.sci by.an

@@ -1,4 +1,4 @@
--- With the option, an endpoint that forgets keys too accepts only what is reserved. No premise is about soundness: no
+-- With the option, an endpoint that forgets keys also accepts only what is reserved. No premise is about soundness: no
 -- command changes what is reserved, nor the journal's salt and records.
 use Rattle.std.proofs.Common.{◌≡◌, ℕ, ◌≤◌, true, List, [], ◌∷◌, get_or, refl, ap, subst, ◌∙◌, arith, All}
 use Rattle.std.specs.Prelude.{max}

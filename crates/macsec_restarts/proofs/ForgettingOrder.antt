@@ -1,5 +1,5 @@
--- Order, and each frame at most once, of endpoints that forget keys: what they send and deliver is what endpoints send and
--- deliver that forget none and are not given the octets of retired keys again.
+-- Order, and each frame at most once, of endpoints that forget keys: they send and deliver the same as endpoints that forget
+-- none and are not given the octets of retired keys again.
 use Rattle.std.proofs.Common.{◌≡◌, Bool, true, false, List, [], ◌∷◌, ◌++◌, map, take, refl, ap, ap₂, sym, subst, ◌∙◌, All, append-nil, append_assoc}
 use Rattle.std.specs.Prelude.{not, if◌then◌else◌, Option, Some, None}
 use Rattle.std.proofs.lemmas.List.Elements.{All-cons, All-head, All-nil, All-tail}

@@ -1,4 +1,5 @@
--- The next packet number of a receive SA does not fall while it is there; where one is created, it begins above.
+-- The next packet number of a receive SA does not fall while the SA exists. So a number below it stays below it, if each SA
+-- that is created begins above the number.
 use Rattle.std.proofs.Common.{◌≡◌, ℕ, ◌+◌, ◌<◌, ◌≤◌, Bool, true, false, cond, List, [], ◌∷◌, filter, refl, ap, sym, subst, ◌∙◌, arith}
 use Rattle.std.specs.Prelude.{◌&&◌, ◌==◌, not, if◌then◌else◌, unwrap_or, Option, Some, None}
 use Rattle.std.proofs.lemmas.Bool.{and_parts, eqb-true}

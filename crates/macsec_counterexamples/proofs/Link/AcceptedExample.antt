@@ -1,5 +1,5 @@
--- A run that meets the premises of the law of acceptance, for a frame as sent and for the padded frame. So the premises
--- can be met.
+-- A run that meets the premises of the law of acceptance, for a frame as sent and for the padded frame, which shows that
+-- the premises can be met.
 use Rattle.macsec_counterexamples.proofs.Link.Names.{◌≡◌, inl, inr, ℕ, Bool, List, [], ◌∷◌, refl, true, false, arith, replicate, Some, None}
 use Rattle.macsec_counterexamples.proofs.Link.Names.{MpduParts, Suite, Gcm128, Xpn128, the_key, TxRow, parts_sent, RxRow, Key, RxOn, RxSa, RxSc, TxOn}
 use Rattle.macsec_counterexamples.proofs.Link.Names.{TxSa, CanAccept, State, tx_options, frame_fault, sending_of, A, B, Event, Command, Send, Pad}

@@ -1,5 +1,5 @@
--- Acceptance needs the same key bytes and, for encrypted frames, the same confidentiality offset. With others at B
--- another tag is valid, and the tag of A's frame is not. The first octets of both tags are computed, by AES and GHASH.
+-- Acceptance needs the same key bytes and, for encrypted frames, the same confidentiality offset. If B has others, another
+-- tag is valid, and the tag of A's frame is not. The first octets of both tags are computed, by AES and GHASH.
 use Rattle.macsec_counterexamples.proofs.Link.Names.{◌≡◌, ℕ, Bool, true, false, List, [], ◌∷◌, ◌++◌, length, refl, ap, sym, ◌∙◌, arith, ◌==◌, ◌&&◌}
 use Rattle.macsec_counterexamples.proofs.Link.Names.{bit_xor, drop, replicate, slice_index, slice_range, take, if◌then◌else◌, Some, None, w128}
 use Rattle.macsec_counterexamples.proofs.Link.Names.{to_be_bytes, K128, add_round_key, added_word, aes, after_rounds, key_expansion, key_words}

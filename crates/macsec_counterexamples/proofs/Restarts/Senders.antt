@@ -16,9 +16,9 @@ use Rattle.macsec_tx.specs.Rows.{AreTxRows}
 use Rattle.macsec_counterexamples.proofs.Link.WorkedEnds.{client}
 use Rattle.macsec_counterexamples.proofs.Restarts.Goes.{Goes, command, command_seals, command_step, ended, frame_seals, frame_step, is_new, next_goes}
 
--- with 32-bit packet numbers, and with extended ones: with a salt of zeros; with another salt; with the salt under
--- which its IV reads as one of 32-bit packet numbers. The last three are at the other end: with the same own SSCI; with
--- another one and the salt under which its IV reads so; with another one and the salt under which it has the same IV
+-- in this order: with 32-bit packet numbers; with extended ones and a salt of zeros; with another salt; with the salt under
+-- which the IV reads as one of 32-bit packet numbers. The last three are at the other end: with the same own SSCI; with
+-- another SSCI and the salt under which the IV reads so; with another SSCI and the salt under which the IV is the same
 pub data Sender : Type 0 where
   Short : Sender
   Extended : Sender

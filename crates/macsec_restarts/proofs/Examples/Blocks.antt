@@ -1,5 +1,5 @@
--- How a run goes, input by input, in a list of happenings: what it sends and delivers, and that it meets the premises of
--- order and once but one. So a worked run continues from a state that is written out.
+-- How a run goes, input by input, in a list of happenings: what it sends and delivers, and that it meets all premises of
+-- order and once except one. So a worked run continues from a state that is written out.
 use Rattle.std.proofs.Common.{◌≡◌, ◌≢◌, ◌⊎◌, inl, inr, ◌<◌, ℕ, zero, suc, Bool, true, false, List, [], ◌∷◌, ◌++◌, map, take, refl, ap, sym, subst, ◌∙◌, Contains, append-nil, append_assoc}
 use Rattle.std.specs.Prelude.{if◌then◌else◌, option_map, Option, Some, None, IfSome}
 use Rattle.std.proofs.lemmas.List.{map-append}
@@ -207,7 +207,7 @@ module _ (left_out : Premise) (bytes : List ℕ) (sci : Sci) (an : ℕ) where
             (subst (λ (hs' : List Happening). AtEach IsMet hs' more) (sym (append_assoc before (comes_in B input ∷ []) (map (comes_in B) inputs))) rest),
       )
 
--- ---- a list of runs, each of which ends before the next one begins, at either end
+-- ---- a list of runs of either end; each run ends before the next one begins
 
 abbrev pub EndRun : Type 0
 EndRun = End × Run

@@ -1,5 +1,5 @@
 -- A run in which a key is installed and retired, with the option of reserving ahead: the endpoint that forgets keys is sound
--- at each moment. In the end the key has its fingerprint in place of its octets.
+-- at each moment. In the end the key has its fingerprint instead of its octets.
 use Rattle.std.proofs.Common.{◌≡◌, ℕ, zero, suc, Bool, true, false, List, [], ◌∷◌, length, refl, ap, sym, subst, arith}
 use Rattle.std.specs.Prelude.{if◌then◌else◌}
 use Rattle.sha2.specs.Sha256.{compress, digest_bytes, first_words, hash_after, rounds, schedule, sha256}

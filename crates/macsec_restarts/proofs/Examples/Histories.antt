@@ -25,7 +25,7 @@ use Rattle.macsec_restarts.proofs.SoundRuns.{IsSoundRun}
 
 -- ---- a run of an end
 
--- its endpoint has this SCI, and no key but this one, under this own SSCI
+-- its endpoint has this SCI, and only this key, under this own SSCI
 pub record IsRunOf (ssci : ℕ) (sci : Sci) (run : Run) : Type 0 where
   pub sound : IsSoundRun run
   pub of_sci : run.config.sci ≡ sci
@@ -134,7 +134,7 @@ nothing_saved journal = All-nil (λ (d : Delivery). d.number ≤ highest (reserv
 
 -- ---- what a history shows
 
--- it meets all premises; and what A sent and B delivered, each client frame after its packet number
+-- the history meets all premises; and what A sent and B delivered, each client frame after its packet number
 pub record MeetsAll (its : List EndRun) (sent delivered : List (List ℕ)) : Type 0 where
   pub orderly : AtEach (IsOrderly B bytes sci_a 0) [] (blocks its)
   pub are_peers : ArePeers (blocks its)
@@ -152,7 +152,7 @@ meets_all its sends ds are peers' sent delivered = record {
       ∙ ap (λ xs. map numbered_delivery (delivered_at bytes sci_a 0 xs)) delivered;
 }
 
--- it meets all premises but one, and what B delivered is no subsequence of what A sent
+-- the history meets all premises except one, and what B delivered is no subsequence of what A sent
 pub refuted : (left_out : Premise) (its : List EndRun) (sends : List SentIn) (ds : List Delivery) → AreMet left_out bytes sci_a 0 [] its → ArePeersBut left_out (blocks its) →
     sent_in_all (of_end A its) ≡ sends → delivered_in_all (of_end B its) ≡ ds →
     (IsSubsequence (map numbered_delivery (delivered_at bytes sci_a 0 ds)) (map numbered_sent (sent_under bytes sends)) → ⊥) → LawWithout left_out (blocks its) → ⊥

@@ -1,5 +1,5 @@
--- Runs that meet all premises of order and once but one, and in which B delivers a client frame twice: its journal has not
--- saved the packet number; the SA is created again at it; the replay window is 1; late frames are not dropped.
+-- Runs that meet all premises of order and once except one, and in which B delivers a client frame twice: its journal has
+-- not saved the packet number; the SA is created again at it; the replay window is 1; late frames are not dropped.
 use Rattle.std.proofs.Common.{◌≡◌, ℕ, ◌<◌, zero, suc, true, false, List, [], ◌∷◌, ◌++◌, map, refl, ap, sym, subst, ◌∙◌, arith, Contains}
 use Rattle.std.specs.Prelude.{slice_get, Some, None, IfSome}
 use Rattle.std.proofs.lemmas.List.Elements.{All-cons, All-nil}

@@ -1,6 +1,6 @@
--- Runs that meet all premises of order and once but one about the journal. A's first run uses packet number 3. Its second
+-- Runs that meet all premises of order and once except one about the journal. A's first run uses packet number 3. Its second
 -- run does not read what was reported to the first, or reads another salt, and uses packet numbers 1 and 2. B delivers
--- the frames by packet number, and so not in the order of sending.
+-- the frames in the order of packet numbers, and so not in the order of sending.
 use Rattle.std.proofs.Common.{◌≡◌, ◌≢◌, ℕ, ◌<◌, zero, suc, true, false, List, [], ◌∷◌, ◌++◌, map, refl, ap, sym, subst, ◌∙◌, arith, All, Contains}
 use Rattle.std.specs.Prelude.{slice_get, Some}
 use Rattle.std.proofs.lemmas.List.Elements.{All-cons, All-nil}

@@ -2,6 +2,6 @@ use Rattle.std.proofs.Common.{◌≡◌, ◌++◌, map, take, drop}
 use Rattle.macsec_reserve.specs.Names.{renamed}
 use Rattle.macsec_reserve.proofs.forgetting.rename.Given as goal
 
--- the names before the index are those afterwards, and the others are unchanged
+-- the names before the index are as afterwards, and the others are unchanged
 abbrev pub invariant-loop-named : goal.invariant-loop-named
 invariant-loop-named l = l.names ≡ map (renamed l.number l.name) (take l.named-index l.initial.names) ++ drop l.named-index l.initial.names

@@ -1,4 +1,4 @@
--- A run with forgetting beside the same run without, by the laws of an endpoint about its keys.
+-- A run with forgetting, compared with the same run without, by the laws of an endpoint about its keys.
 use Rattle.macsec_reserve.proofs.ForgettingRuns.{forgets_alike, forgets_alike_alone}
 use Rattle.macsec_reserve.proofs.KnownKeys.{is_as_before}
 use Rattle.macsec_reserve.proofs.Replaced.{KeyLaws}

@@ -1,4 +1,4 @@
--- A run with forgetting beside the same run without, by the law of the keeping endpoint.
+-- A run with forgetting, compared with the same run without, by the law of the keeping endpoint.
 use Rattle.macsec_restarts.proofs.AheadForgets.{ahead_forgets_alike, stays_sound_inside, steps_forgetting}
 use Rattle.macsec_restarts.proofs.laws.forgets_alike_ahead.Goals as goal
 

@@ -1,4 +1,4 @@
--- Of a line whose text could not be composed nothing was written, and of any other what was written of its text. The
+-- If the text of a line could not be composed, nothing was written; otherwise its text was written, or a prefix of it. The
 -- write does not change the world.
 use Rattle.std.proofs.Common.{rules, sym, ◌∙◌}
 use Rattle.macsec_script.proofs.Runs.{carried_out, line_written, none_written}

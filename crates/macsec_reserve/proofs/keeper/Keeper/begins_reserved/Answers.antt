@@ -1,4 +1,4 @@
--- The first packet number of an association, by the name of its key.
+-- The first packet number of an SA, by the name of its key.
 use Rattle.std.proofs.Common.{ap, sym, ◌∙◌}
 use Rattle.std.specs.Prelude.{◌&&◌, nat_lt, nat_le}
 use Rattle.macsec_reserve.specs.contracts.keeper.Keeper.{the_view}

@@ -1,4 +1,4 @@
--- The name under which an association's packet numbers are reserved, by the name of its key.
+-- The name under which an SA's packet numbers are reserved, by the name of its key.
 use Rattle.std.proofs.Common.{ap, ◌∙◌}
 use Rattle.macsec_reserve.specs.contracts.keeper.Keeper.{the_view}
 use Rattle.macsec_reserve.specs.Journal.{receiving_name}

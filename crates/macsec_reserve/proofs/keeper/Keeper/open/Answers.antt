@@ -1,4 +1,4 @@
--- The endpoint as it is opened beside its journal.
+-- The endpoint as it is opened with its journal.
 use Rattle.std.proofs.Common.{sym, ◌∙◌, rules}
 use Rattle.macsec_reserve.proofs.keeper.Keeper.open.Goals as goal
 

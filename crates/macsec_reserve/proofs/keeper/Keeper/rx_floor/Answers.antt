@@ -1,4 +1,4 @@
--- The floor of an association, by the name of its key.
+-- The floor of an SA, by the name of its key.
 use Rattle.std.proofs.Common.{List, ℕ, ap, ◌∙◌}
 use Rattle.std.specs.Prelude.{Some, option_map}
 use Rattle.macsec_reserve.specs.declared.keeper.NamedKey.{NamedKey}

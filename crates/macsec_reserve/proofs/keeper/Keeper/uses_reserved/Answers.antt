@@ -1,4 +1,4 @@
--- An association would protect the frame: the test of its number, by the name of its key.
+-- If an SA would protect the frame, its number is tested, by the name of its key.
 use Rattle.std.proofs.Common.{◌∙◌, ap}
 use Rattle.std.specs.Prelude.{◌&&◌, nat_lt, nat_le}
 use Rattle.macsec_secy.specs.State.{State}

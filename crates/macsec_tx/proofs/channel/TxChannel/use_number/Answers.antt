@@ -15,7 +15,7 @@ set_row-requires c =
     let at = subst (λ (rows : List TxRow). slice_get rows c.args.enabled.now.index ≡ Some c.args.enabled.now.row) (sym c.self.view_is) c.requires.at in
     rw c.as_mut_slice.ensures.value (slice_get_within c.self.inside.rows.items c.args.enabled.now.index c.args.enabled.now.row at)
 
--- the rows after the call are those in which the enabled SA has used its number
+-- in the rows after the call, the enabled SA has used its number
 changed : (c : goal.After-self-1) → c.set_row.new.rows ≡ map (used_at c.args.enabled.now.row.an) c.self.inside.rows.items
 changed c =
     let rows = c.self.inside.rows.items in
