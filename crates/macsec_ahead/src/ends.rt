@@ -1,4 +1,4 @@
-//! Where the receive SAs (secure associations) ended that a run deleted.
+//! Where the receive SAs (secure associations) that a run deleted have ended.
 
 ghost use Rattle.std.specs.Prelude.{◌≡◌, ◌≤◌, ◌∷◌, [], map, max, filter, not, if◌then◌else◌, vec_capacity, IfOk};
 ghost use Rattle.macsec_ahead.specs.Ends.{end_of, end_of_row, ended_of, has_end, has_key_end, is_of, is_under, key_raised, last_end, last_under, max_end_count, no_ends, sa_raised, with_end, with_key_end, with_ends, without_key};
@@ -7,7 +7,7 @@ use macsec_secy::{An, KeyNumber, RxRow, Sci};
 use std::alloc::{AllocError, Global};
 use std::marker::Model;
 
-/// How many SAs have an entry at most, and how many keys have a number.
+/// The most SAs that have an entry, and the most keys that have a number.
 const MAX_END_COUNT: usize = 1024;
 
 /// A receive SA under the key of this number, and the packet number before its lowest acceptable one when it was deleted.
@@ -23,7 +23,7 @@ pub struct EndedSa {
     pub last: u64,
 }
 
-/// A key, and the highest end of the SAs under it that have no entry of their own.
+/// A key, and the highest end of the SAs under it that have no entry.
 #[derive(Clone, Copy, PartialEq, Eq, Debug)]
 pub struct EndedKey {
     /// Its number.

@@ -25,7 +25,7 @@ pub enum ConfigFault {
     Text(ScriptFault),
     /// No endpoint can be created.
     New(NewFault),
-    /// The octets beside it are not a journal.
+    /// The octets given as its journal are not a journal.
     NotJournal,
     /// The command of this line is refused.
     Refused(u32, Refusal),
@@ -139,7 +139,7 @@ fn endpoint_of(
     Ok(endpoint)
 }
 
-/// Creates an endpoint beside a journal, and carries out these commands.
+/// Creates an endpoint with a journal, and carries out these commands.
 fn endpoint_of_beside(
     alloc: Global,
     end: EndConfig,
@@ -163,7 +163,7 @@ pub fn configured(alloc: Global, text: &[u8]) -> Result<Box<AheadKeeper, Global>
     endpoint_of(alloc, parsed.end.config(), parsed.commands.as_slice())
 }
 
-/// Creates the endpoint of a configuration beside a journal, and carries out the configuration's commands. With `ahead` it
+/// Creates the endpoint of a configuration with a journal, and carries out the configuration's commands. With `ahead` it
 /// reserves ahead of receiving.
 pub fn configured_beside(
     alloc: Global,

@@ -34,7 +34,7 @@ pub fn config_of(config: &Config) -> Result<EndConfig, ArgumentFault>
     })
 }
 
-/// Creates an endpoint of this configuration without a journal on the heap.
+/// Creates an endpoint of this configuration on the heap, without a journal.
 pub fn endpoint_alone(
     alloc: Global,
     config: EndConfig,
@@ -52,7 +52,7 @@ pub fn endpoint_alone(
     Ok(endpoint)
 }
 
-/// Creates an endpoint of this configuration beside a journal on the heap. With `ahead` it reserves ahead of receiving.
+/// Creates an endpoint of this configuration on the heap, with a journal. With `ahead` it reserves ahead of receiving.
 pub fn endpoint_beside(
     alloc: Global,
     config: EndConfig,
@@ -71,7 +71,7 @@ pub fn endpoint_beside(
     Ok(endpoint)
 }
 
-/// The status of a fault of an endpoint beside a journal.
+/// The status of a fault of an endpoint with a journal.
 pub fn status_of_open_fault(fault: OpenFault) -> u32
     ensures { result ≡ status_of_open_fault fault }
 {

@@ -89,7 +89,7 @@ pub fn show_tx_floor(keeper: &Keeper, key: u16, out: &mut u64) -> u32
 }
 
 /// Shows the record of the reservation that the receive SA with this SCI and AN needs next to accept up to `amount` packet
-/// numbers after its next one, or after `pn` if that is later, if fewer than half of them are reserved.
+/// numbers after its next one, or after `pn` if that is higher. It needs one if fewer than half of them are reserved.
 pub fn show_to_accept(
     endpoint: &AheadKeeper,
     sci: &[u8; 8],
@@ -123,7 +123,7 @@ fn later_of(a: u128, b: u128) -> u128
     if a < b { b } else { a }
 }
 
-/// Shows the highest packet number that an earlier run may have accepted, or this run before it deleted the SA, from the
+/// Shows the highest packet number that an earlier run, or this run before it deleted the SA, may have accepted from the
 /// receive SA with this SCI and AN under the key of this number.
 pub fn show_rx_floor(endpoint: &AheadKeeper, sci: &[u8; 8], an: u8, key: u16, out: &mut u64) -> u32
     ensures status { result ≡ status_at (key_after (an_of an) (key_number_of key)) (floor_of (sci_of sci.now) an endpoint.now) }

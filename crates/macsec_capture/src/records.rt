@@ -30,8 +30,7 @@ use std::io::{Read, Write};
 ///
 /// Returns the first fault. If a read fails, the text and the output have what all records before it write. A write
 /// fails in the last record that was read. If the write of its line fails, the output has what the records before it
-/// write; if the write of its frame fails, the output also has at most a prefix of what this record
-/// writes.
+/// write; if the write of its frame fails, the output also has at most a prefix of what this record writes.
 pub fn run_records<R: Read, W: Write, T: Write>(
     direction: Direction,
     endpoint: &mut Secy,

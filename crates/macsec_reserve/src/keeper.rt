@@ -144,7 +144,7 @@ impl Keeper {
         })
     }
 
-    /// An endpoint of this configuration, beside a journal with these octets.
+    /// An endpoint of this configuration, with a journal of these octets.
     pub fn open(alloc: Global, config: EndConfig, journal: &[u8]) -> Result<Keeper, OpenFault>
         ensures result { MakesKeeper config journal.now result }
         ensures sound { IfOk result (λ k. IsSound k.secy) }
@@ -206,7 +206,7 @@ impl Keeper {
         }
     }
 
-    /// What is to be saved of the receive association of this channel and of this number, if there is one: once its
+    /// What is to be saved of the receive association of this channel and of this number, if there is one. Once its
     /// record is durable, no later run creates the association at a packet number that is too low.
     pub fn to_save(&self, sci: Sci, an: An) -> Option<Reservation>
         ensures { result ≡ option_map (saved_for self.now.salt self.now.secy) (rx_row self.now.secy.rx.rows sci an) }
@@ -249,8 +249,8 @@ impl Keeper {
         self.keeps
     }
 
-    /// The highest packet number that an earlier run may have used to send under the key of this number, if there is
-    /// such a key: 0 if none. A transmit association begins above it.
+    /// The highest packet number that an earlier run may have used to send under the key of this number. It is 0 if there
+    /// is none, and `None` if there is no such key. A transmit association begins above it.
     pub fn tx_floor(&self, key: KeyNumber) -> Option<u64>
         ensures { result ≡ tx_floor self.now key }
     {
@@ -261,7 +261,8 @@ impl Keeper {
     }
 
     /// The highest packet number that was saved of the receive association of this channel and of this number under
-    /// the key of this number, if there is such a key: 0 if none was. The receive association begins above it.
+    /// the key of this number. It is 0 if none was saved, and `None` if there is no such key. The receive association
+    /// begins above it.
     pub fn rx_floor(&self, sci: Sci, an: An, key: KeyNumber) -> Option<u64>
         ensures { result ≡ rx_floor sci an self.now key }
     {
@@ -274,7 +275,7 @@ impl Keeper {
         }
     }
 
-    /// Transmits a client frame, as `Secy::send`, if it uses no packet number that is not reserved.
+    /// Transmits a client frame, as `Secy::send`, unless that uses a packet number that is not reserved.
     pub fn send<'a>(&'a mut self, frame: &'a [u8]) -> Result<KeptSent<'a>, FrameFault>
         ensures* after { sem 𝓛 (RestsAs self.entry (keeping_step self.old (endpoint_input (client_frame frame.now))).1) }
         ensures output { output_of_kept result ≡ (keeping_step self.old (endpoint_input (client_frame frame.now))).0 }
@@ -290,7 +291,7 @@ impl Keeper {
         }
     }
 
-    /// Plans a client frame, as `Secy::plan_send`, if it uses no packet number that is not reserved.
+    /// Plans a client frame, as `Secy::plan_send`, unless that uses a packet number that is not reserved.
     pub fn plan_send<'a>(&mut self, frame: &'a [u8]) -> Result<KeptPlan<'a>, FrameFault>
         ensures after { self.new ≡ (keeping_step self.old (endpoint_input (client_frame frame.now))).1 }
         ensures output { PlansKept result self.new.secy.keys frame.now (keeping_step self.old (endpoint_input (client_frame frame.now))).0 }
@@ -306,7 +307,7 @@ impl Keeper {
         }
     }
 
-    /// Receives a link frame that was opened before, or not, as `Secy::finish_receive`.
+    /// Receives a link frame, as `Secy::finish_receive`, whether it was opened before or not.
     pub fn finish_receive<'a>(
         &mut self,
         frame: &'a [u8],
@@ -357,8 +358,8 @@ impl Keeper {
         self.secy.receive_into(limits, frame, opened, out)
     }
 
-    /// Notes that a reservation is durable: its record is on stable storage, where every later run will read it. One
-    /// for a name of no key reserves nothing in this run.
+    /// Notes that a reservation is durable: its record is on stable storage, where every later run will read it. A
+    /// reservation whose name belongs to no key reserves nothing in this run.
     pub fn now_durable(&mut self, reservation: &Reservation)
         ensures after { self.new ≡ (keeping_step self.old (now_durable reservation.now)).1 }
         ensures sound { IsSound self.new.secy }
@@ -369,8 +370,8 @@ impl Keeper {
         self.take_at_hand();
     }
 
-    /// Carries out a management command, as `Secy::command`, if no association is to begin at a packet number that an
-    /// earlier run may have used; else it is refused with `PnFloor`, before any other refusal.
+    /// Carries out a management command, as `Secy::command`. If an association would begin at a packet number that an
+    /// earlier run may have used, the command is refused with `PnFloor`, before any other refusal.
     pub fn command(&mut self, command: &Command) -> Result<(), Refusal>
         ensures output { endpoint_output (output_of_command result) ≡ (keeping_step self.old (endpoint_input (operator_command command.now))).0 }
         ensures after { self.new ≡ (keeping_step self.old (endpoint_input (operator_command command.now))).1 }
@@ -429,7 +430,7 @@ impl Keeper {
         }
     }
 
-    /// Puts the fingerprint of a retired key into the place of its octets, if no key has it.
+    /// Replaces the octets of a retired key by its fingerprint, if no key has that.
     fn forget(&mut self, number: KeyNumber)
         ensures after { self.new ≡ (if can_forget self.old number then forgetting self.old number else self.old) }
         ensures sound { IsSound self.new.secy }
@@ -633,7 +634,7 @@ fn was_reserved(before: &[Reservation], name: &[u8; 32], number: u64) -> bool
     0 < number && number <= highest(before, name)
 }
 
-/// Notes the name of the key that a command has installed, if it is such a command.
+/// Notes the name of the key that a command has installed, if it has installed one.
 fn note_key(salt: &[u8; 24], names: &mut Vec<NamedKey>, command: &Command)
     requires { length (names_after salt.now names.old.items command.now) ≤ vec_capacity names.old }
     ensures items { names.new.items ≡ names_after salt.now names.old.items command.now }

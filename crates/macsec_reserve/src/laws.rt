@@ -76,8 +76,8 @@ pub fn saves_accepted()
 {}
 
 /// What a run accepted before it saved the association's number, at replay window 0, is not delivered again by a later
-/// run that drops late frames: on an association of that name, or where the journal keeps its salt, of those key
-/// octets.
+/// run that drops late frames. This holds for an association of that name or, if the journal keeps its salt, of those
+/// key octets.
 pub fn never_delivers_again()
     ensures named { (run later : Run) (name : List ℕ) (n : ℕ) → NeverDeliversAgain run later name n }
     ensures keyed { (run later : Run) (bytes : List ℕ) (sci : Sci) (an n : ℕ) → NeverDeliversAgainUnder run later bytes sci an n }
@@ -87,8 +87,8 @@ pub fn never_delivers_again()
     rx_rows_stay();
 }
 
-/// A keeping endpoint is the machine with an empty journal, where the packet numbers that an input uses are reserved;
-/// and always without a journal.
+/// A keeping endpoint with an empty journal is the machine, if the packet numbers that an input uses are reserved.
+/// Without a journal it always is.
 pub fn is_the_machine()
     ensures reserved { (k : Keeping) (input : Input) → IsTheMachine k input }
     ensures alone { (k : Keeping) (input : Input) → IsTheMachineAlone k input }
@@ -99,9 +99,9 @@ pub fn is_the_machine()
     protects_frames();
 }
 
-/// An endpoint that forgets retired keys takes every other step as before: all but the retirement of a key and the
+/// An endpoint that forgets retired keys takes each step as before, except the retirement of a key and the
 /// installation of octets that a retired key has or whose fingerprint it has (`before`). Over a whole run it seals the
-/// same frames and gives the same answers as the endpoint that forgets none and is not given those installations, beside
+/// same frames and gives the same answers as the endpoint that forgets none and is not given those installations, with
 /// a journal (`alike`) or without one (`alone`). A new SA under a retired key is refused by both, with `KeyRetired` or
 /// with `PnFloor`.
 pub fn forgets_alike()
@@ -115,8 +115,8 @@ pub fn forgets_alike()
     rows_agree();
 }
 
-/// The octets of a key that was installed are known from then on, also once the key is forgotten, and are refused with
-/// `KeyRepeated` if no refusal comes before that one.
+/// The octets of a key that was installed are known from then on, even once the key is forgotten. They are refused with
+/// `KeyRepeated`, unless an earlier refusal applies.
 pub fn refuses_forgotten_keys()
     ensures begins { (k : Keeping) (key : NewKey) → BecomesKnown k key }
     ensures stays { (k : Keeping) (input : KeepingInput) (bytes : List ℕ) → StaysKnown k input bytes }

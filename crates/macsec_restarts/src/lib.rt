@@ -7,18 +7,18 @@
 //! - `numbers_rise`: the packet numbers that an end uses under a key rise.
 //! - `comes_from_other`: what a strictly validating end delivers from an SA was sent before by the other end.
 //! - `comes_in_order_once`: it is delivered in the order of sending, each frame at most once, if each run of the receiver
-//!   begins beside a journal that has saved what was delivered before.
+//!   begins with a journal that has saved what was delivered before.
 //! - `accepts_in_time`: a frame of one run is accepted by a run of the other end.
 //!
-//! Proved of an endpoint that remembers where the SAs ended that it deleted, and that can reserve packet numbers ahead of
-//! receiving (`macsec_ahead`):
+//! Proved of an endpoint that remembers where the SAs that it deleted have ended, and that can reserve packet numbers ahead
+//! of receiving (`macsec_ahead`):
 //! - `is_keeping_inside`, `lists_each_delivery_ahead`: it takes the steps of the keeping endpoint inside, or nothing changes;
 //!   what is delivered is listed once.
-//! - `accepts_above`: a run accepts only packet numbers that are reserved, and a later run only such above those that an
-//!   earlier run accepted.
+//! - `accepts_above`: a run accepts only packet numbers that are reserved, and a later run only higher ones than an earlier
+//!   run accepted.
 //! - `accepts_once_reserved`: a frame that was dropped asks for a record, and passes once the record is durable.
 //! - `begins_above_its_end`: an SA that was deleted begins above its end, unless its key is retired.
-//! - `comes_in_order_once_ahead`: order and once, without a premise about commands, and with the option without one about
+//! - `comes_in_order_once_ahead`: order and once, without a premise about commands; with the option also without one about
 //!   saving.
 //!
 //! Proved of such an endpoint that also forgets the octets of the keys that it retires, as the library for C makes it:

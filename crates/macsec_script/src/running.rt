@@ -1,4 +1,4 @@
-//! Runs a script, from a reader or that was read, and prints to a writer.
+//! Runs a script, from a reader or already read, and prints to a writer.
 
 ghost use Rattle.std.specs.Prelude.{◌≡◌, IfSome, IfErr, OnOk, option_copied};
 ghost use Rattle.macsec_link.specs.Sound.{IsSound};
