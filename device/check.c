@@ -142,8 +142,8 @@ static void say_status(struct check *c, unsigned line, uint32_t status, const st
     fault(c, line, "%s%s", kind, macsec_status_name(status));
 }
 
-/* Carries a line out, or begins with it. If it is not what the endpoint begins with, the others are carried out at an
- * endpoint of another line, and only faults of their text are known. */
+/* Carries out a line; the first one creates the endpoint. If it does not, the others are carried out at the endpoint of
+ * another line, and only faults of their text are known. */
 static bool carry_out(struct check *c, unsigned line, const char *text, size_t length, const struct words *w) {
     static const char other[] = "end A gcm128 0200000000000001 1514 sci";
     uint32_t number, status;
@@ -236,7 +236,7 @@ static void look_at_mode(struct check *c, unsigned line, const struct words *w) 
         hint(c, line, "frames that were recorded within this window can be delivered again: write 0%s", refused);
 }
 
-/* The SCI and MAX of the `end` line, beside LINK's address and MTU. */
+/* Compares the SCI and MAX of the `end` line with LINK's address and MTU. */
 static void look_at_end(struct check *c, unsigned line, const struct words *w) {
     uint32_t fitting = c->mtu + 14 < MACSEC_FRAME_MAX ? c->mtu + 14 : MACSEC_FRAME_MAX;
     const uint8_t *a = c->address;

@@ -39,8 +39,8 @@ bool config_path(char *path, size_t room, const char *variable, const char *othe
 
 /* ---- The file ---- */
 
-/* Keys are in the file: nobody but its owner may read it. A credential is guarded by the service manager. Returns what
- * is wrong with the file, or NULL. */
+/* Keys are in the file, so only its owner may read it. A credential is guarded by the service manager. Returns what is
+ * wrong with the file, or NULL. */
 static const char *fault_of_file(const struct stat *status, bool is_credential) {
     if (!S_ISREG(status->st_mode))
         return "it is not a regular file";

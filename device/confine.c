@@ -44,7 +44,7 @@ int confine_namespace(void) {
     return ENDS_FAILED;
 }
 
-/* Without CAP_SETPCAP the bounding set stays. No new privileges can be had all the same. */
+/* Without CAP_SETPCAP the bounding set stays. Even so, no new privileges can be gained. */
 static void drop_bounding_set(void) {
     for (unsigned long capability = 0; prctl(PR_CAPBSET_READ, capability, 0, 0, 0) >= 0; capability++)
         if (prctl(PR_CAPBSET_DROP, capability, 0, 0, 0) != 0)

@@ -25,8 +25,8 @@ static bool is_granted(const struct device *d) {
     return d->held.count > 0 && d->held.grants != numbers_grants(d->numbers);
 }
 
-/* Gives all frames to the endpoint. Those that still lack a reservation are kept again. If one is reported meanwhile,
- * those after them are too: else they would overtake them. */
+/* Gives all frames to the endpoint. Frames that still lack a reservation are kept again. If a reservation is reported
+ * meanwhile, the frames after them are kept too: else these would overtake them. */
 static enum outcome give_all(struct device *d) {
     struct held *h = &d->held;
     unsigned count = h->count, ticks = h->ticks;

@@ -23,7 +23,7 @@ void history_sent(struct history *h, const macsec_sent *sent) {
         drop(h, false, sent->fate);
 }
 
-/* The place of a channel. One that is gone leaves its place to a new one when there is no other. */
+/* The place of a channel. If no place is free, a new channel gets the place of one that is gone. */
 static struct heard *place_of(struct history *h, const uint8_t sci[8]) {
     struct heard *oldest = &h->heard[0];
     for (size_t i = 0; i < MACSEC_RX_CHANNEL_COUNT; i++) {

@@ -28,8 +28,8 @@
  *            F_SETLK would end when any code of the process closes another descriptor of the file. A child made by fork
  *            shares the lock, and a program started by exec does not. After a fork, only one process may use the
  *            journal and its endpoint. Use a local file system.
- * ENDPOINT   One endpoint at a time sends beside a journal: two that are made of the same octets would use the same
- *            packet numbers under a key, in one process too. So journal_make_endpoint and journal_configure make no
+ * ENDPOINT   One endpoint at a time sends with a journal: two that are made of the same octets would use the same
+ *            packet numbers under a key, even in one process. So journal_make_endpoint and journal_configure make no
  *            second one, and journal_reserve, journal_accept and journal_save do nothing for another one
  *            (JOURNAL_ENDPOINT), until journal_hand_over says that the first one sends and receives nothing more. An
  *            endpoint of macsec_reserve_open is another one.
@@ -50,12 +50,12 @@
  * RECORDS    A record is a name of 32 octets, a packet number of 8 with the most significant octet first, and a check
  *            of 24. The last record of a name need not be the greatest. Other octets of 64 are skipped.
  * TIME       The library compares each record with each name when it opens or rewrites a journal, and the endpoint
- *            waits for it. Of 1,024 records this took 3 ms of a processor with 2 names, and 24 ms with 512; of 4,096
- *            records with 2,048 names 350 ms (x86-64, an unproved build). So keep the limit low.
+ *            waits for it. For 1,024 records this took 3 ms of a processor with 2 names, and 24 ms with 512; for 4,096
+ *            records with 2,048 names it took 350 ms (x86-64, an unproved build). So keep the limit low.
  * LEFTOVERS  A new file has the name of the journal with the suffix .new until it is complete. A crash can leave one.
  *            The next rewriting removes it, but journal_create does not (EEXIST): remove it manually.
- * SECRETS    The journal contains no key. Its file is readable and writable by its owner only. Who can write it can
- *            make the endpoint repeat packet numbers.
+ * SECRETS    The journal contains no key. Its file is readable and writable by its owner only. Anyone who can write it
+ *            can make the endpoint repeat packet numbers.
  * DISK       Not covered: a disk that loses or alters what it reported as written, a restored backup or snapshot, and a
  *            second copy of the file in use. Then install new keys.
  * ERRORS     A call returns 0, or -1 and fills in `fault`: the step that failed, its errno, and the library's status if

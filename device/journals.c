@@ -73,7 +73,7 @@ int journals_check_disk(const char *name, bool creates) {
 struct keys {
     const struct config *config;
     bool sends[MACSEC_KEY_COUNT];
-    const char *own; /* the folder of the own journal, and its name there */
+    const char *own; /* the folder of this NAME's journal, and its name there */
     const char *name;
 };
 

@@ -47,7 +47,7 @@ static bool may_print(const char *form, unsigned *left_out) {
     return false;
 }
 
-/* One line is one call of write, so that lines of several processes do not mix. If it fails, nobody can be told. */
+/* One line is one call of write, so that lines of several processes do not mix. A failure can't be reported. */
 static void print_line(char line[LONGEST], size_t end) {
     if (end > LONGEST - 1)
         end = LONGEST - 1;

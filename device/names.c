@@ -2,8 +2,8 @@
  * association, or to a receive association under a key. The library makes the names and the records: a record has the
  * name, its packet number and a check.
  *
- * A mark says that a key agreement has given a key up. The library skips it, since its check is none. The names of the
- * keys that were given up last stay, so that a key which comes again soon goes on above its packet numbers. Older ones
+ * A mark says that a key agreement has given a key up. The library skips it, since its check is wrong. The names of the
+ * keys that were given up last stay, so that a key which comes again soon goes on above its packet numbers. Older names
  * leave the journal when it is written again. */
 #include "device.h"
 #include <stdlib.h>

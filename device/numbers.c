@@ -313,7 +313,7 @@ static bool accept_for(struct numbers *n, macsec_endpoint *e, const uint8_t sci[
     return names_note(&n->names, &record, sa.key, true) != NULL || fails_for_memory(n);
 }
 
-/* Reserves for all receive associations, from when frames may come. */
+/* Reserves for all receive associations, as soon as frames may come. */
 static void accept_all(struct numbers *n, macsec_endpoint *e) {
     uint8_t sci[8];
     if (!n->ahead || !n->begun)
@@ -356,7 +356,7 @@ int numbers_start(struct numbers *n, macsec_endpoint *e) {
     return saver_start(n->saver);
 }
 
-/* Has each transmit association that is enabled a packet number reserved? */
+/* Has each enabled transmit association a packet number reserved? */
 static bool may_send_all(const macsec_endpoint *e) {
     macsec_tx_sa sa;
     macsec_record record;
@@ -367,7 +367,7 @@ static bool may_send_all(const macsec_endpoint *e) {
     return all;
 }
 
-/* Has each receive association that is enabled one, if it needs that? */
+/* Has each enabled receive association a packet number reserved, if it needs one? */
 static bool may_accept_all(const struct numbers *n, const macsec_endpoint *e) {
     macsec_rx_sa sa;
     uint8_t sci[8];

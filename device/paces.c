@@ -16,8 +16,8 @@ enum { SYNCHRONIZATIONS = 4 };
 #endif
 enum { LEAST = PACES_LEAST, MOST = 1 << 20 };
 
-/* The rate is forgotten by one of so many parts in a second, and after so many parts of a reservation it is looked at
- * whether the next one is needed. */
+/* In each second the rate is forgotten by one of so many parts. After each of so many parts of a reservation the device
+ * looks whether the next one is needed. */
 enum { FORGETS = 8, LOOKS = 16 };
 
 static bool is_of(const struct pace *p, const uint8_t sci[8]) {

@@ -1,5 +1,5 @@
-/* The controlled port, as a key agreement uses it: frames pass while it is on. A client that owns the device alone may
- * change something, and the port goes off when it has gone, since then nobody installs new keys. */
+/* The controlled port, as a key agreement uses it: frames pass while it is on. If a client owns the device, only this
+ * client may change something. The port goes off when it has gone, since then nobody installs new keys. */
 #include "device.h"
 
 /* How many ticks the port is off before TAP loses carrier. A port that is off for some milliseconds, as when a key

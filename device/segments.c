@@ -2,7 +2,7 @@
  * segments are one frame of up to 64 KiB, since the sender leaves both to a network card that is not there. The system
  * also joins segments that a card has received. The endpoint and TAP want frames as they are on a link.
  *
- * Protected frames are complete: this is for those that pass unprotected. */
+ * Protected frames are complete: this is for frames that pass unprotected. */
 #include "device.h"
 #include <string.h>
 
