@@ -86,10 +86,11 @@
  * functions, which a script compares with the library's source; C's side of what it says; malloc; the compilers.
  *
  * In the calls for keys, frames and jobs no branch and no address depends on a key or on data, except the verdict, the
- * refusal KeyRepeated (is the key one of the endpoint's, or its fingerprint that of a retired one?) and MACSEC_E_OTHER_KEY
- * (is it the key of the job?). The digits of a key in a line or a text decide two branches more, in the same way for every
- * key: does an octet end the word or the line, and are all of them hex digits? Beside a journal, names of keys decide
- * branches too: the journal shows them. This is measured on the libraries by tests/library/constant-time, and not proved.
+ * refusal KeyRepeated (is the key one of the endpoint's, or its fingerprint a retired key's?) and MACSEC_E_OTHER_KEY
+ * (is it the key of the job?). The digits of a key in a line or a text decide two branches more, in the same way for
+ * every key: does an octet end the word or the line, and are all of them hex digits? With a journal, names of keys
+ * decide branches too: the journal shows them. This is measured on the libraries by tests/library/constant-time, and
+ * not proved.
  */
 #ifndef MACSEC_H
 #define MACSEC_H
@@ -193,8 +194,8 @@ enum {
 /* Modes: how received frames are validated (10.6). */
 enum {
     MACSEC_MODE_DISABLED = 0, /* no frame is validated */
-    MACSEC_MODE_CHECK = 1,    /* those that are not valid are delivered too, unless their C bit is set */
-    MACSEC_MODE_STRICT = 2    /* the valid ones alone are delivered */
+    MACSEC_MODE_CHECK = 1,    /* invalid frames are delivered too, unless their C bit is set */
+    MACSEC_MODE_STRICT = 2    /* only valid frames are delivered */
 };
 
 /* Fates of client frames. */
@@ -274,8 +275,8 @@ typedef struct macsec_sent {
     uint64_t reserved[4];
 } macsec_sent;
 
-/* What becomes of a link frame. Of the uncontrolled port nothing is shown: there the frame is delivered as it came, but
- * with the last two verdicts only where it is given again. */
+/* What becomes of a link frame. The uncontrolled port is not shown: it delivers the frame as it came, but with the last
+ * two verdicts only when the frame is given again. */
 typedef struct macsec_received {
     const uint8_t *frame; /* what the controlled port delivers, if `delivered` is true */
     size_t length;        /* 0 if it delivers nothing */
@@ -403,12 +404,12 @@ static inline const uint8_t *macsec_octets(const uint8_t *octets, size_t length)
 
 uint32_t macsec_configure_raw(macsec_endpoint *e, const uint8_t *text, size_t length, uint32_t *line);
 /* Creates the endpoint of a configuration's text in a handle that holds none, and carries out the text's commands. The
- * lines are those of docs/SCRIPT.md for one end: `end A SUITE SCI MAX FORM`, and then commands at A, each as its line
- * says and the lines in their order; blank lines and those whose first word begins with # are skipped. All of it is
- * done, or nothing has changed: MACSEC_E_TAKEN; the first fault of the text, MACSEC_E_LINE_.. or MACSEC_E_CONFIG_LONG;
- * of a text without a fault, the refusal of the first command that is refused. Or MACSEC_E_MEMORY. `line` is always
- * written: the number of the line that is at fault or refused, from 1; else, and if every line is skipped, 0. Each
- * endpoint begins at the packet number of its `txsa`: the same text given twice protects two frames with one IV. */
+ * lines are as docs/SCRIPT.md says for one end: `end A SUITE SCI MAX FORM`, and then commands at A, in their order.
+ * Blank lines, and lines whose first word begins with #, are skipped. All of it is done, or nothing has changed:
+ * MACSEC_E_TAKEN; the first fault of the text, MACSEC_E_LINE_.. or MACSEC_E_CONFIG_LONG; if the text has no fault, the
+ * refusal of the first command that is refused; or MACSEC_E_MEMORY. `line` is always written: the number of the line
+ * that is at fault or refused, from 1; else, and if every line is skipped, 0. Each endpoint begins at the packet number
+ * of its `txsa`: the same text given twice protects two frames with one IV. */
 static inline uint32_t macsec_configure(macsec_endpoint *e, const uint8_t *text, size_t length, uint32_t *line) {
     return macsec_configure_raw(e, macsec_octets(text, length), length, line);
 }
@@ -535,8 +536,8 @@ static inline uint32_t macsec_plan_receive(const macsec_endpoint *e, macsec_slot
     return macsec_plan_receive_raw(e, slot, macsec_octets(frame, length), length, out);
 }
 
-/* Opens the link frame of a slot. MACSEC_OK says nothing of the frame: whether its ICV is valid, macsec_finish_receive
- * says. MACSEC_E_JOB, MACSEC_E_OTHER_KEY. */
+/* Opens the link frame of a slot. MACSEC_OK says nothing of the frame: macsec_finish_receive says whether its ICV is
+ * valid. MACSEC_E_JOB, MACSEC_E_OTHER_KEY. */
 uint32_t macsec_open_job(macsec_slot *slot, macsec_key *key);
 
 uint32_t macsec_finish_receive_raw(macsec_endpoint *e, macsec_slot *slot, uint8_t *out, size_t length,
@@ -557,12 +558,12 @@ uint32_t macsec_set_protect(macsec_endpoint *e, bool on);
 /* Validate received frames in this mode. */
 uint32_t macsec_set_validation(macsec_endpoint *e, uint32_t mode);
 /* Drop late frames or not, and set the replay window, in packet numbers. MACSEC_E_WINDOW if it is above 2^32 - 1, or,
- * beside a key of extended packet numbers that is not retired, above 2^30 - 1. */
+ * while a key of extended packet numbers is not retired, above 2^30 - 1. */
 uint32_t macsec_set_replay(macsec_endpoint *e, bool protect, uint64_t window);
 /* Set the tag form. */
 uint32_t macsec_set_tag_form(macsec_endpoint *e, uint32_t form);
 
-/* Install a key. Its number and its octets can never be used again by this endpoint, also when the key is retired: it
+/* Install a key. This endpoint never takes the key's number or its octets again, even after the key is retired: it
  * takes 4,096 keys in its life (macsec_keys_left), and then another endpoint has to take over (docs/C.md). Another
  * endpoint, or the next run of the program, knows nothing of the key: see macsec_add_tx_sa. */
 uint32_t macsec_install_key(macsec_endpoint *e, const macsec_sak *key);
@@ -594,10 +595,10 @@ uint32_t macsec_set_lowest_pn(macsec_endpoint *e, const uint8_t sci[8], uint8_t 
 uint32_t macsec_delete_rx_sa(macsec_endpoint *e, const uint8_t sci[8], uint8_t an);
 
 uint32_t macsec_command_line_raw(macsec_endpoint *e, const uint8_t *text, size_t length);
-/* Any of these, as a line says it: `A txon 0` is macsec_enable_tx_sa(e, 0). The line is text without its line feed; a
- * blank one and one whose first word begins with # do nothing. The first that applies: MACSEC_E_LINE_LONG,
- * MACSEC_E_LINE_WORD, MACSEC_E_LINE_COUNT, what is wrong with a word, from left to right, MACSEC_E_LINE_ENDS for a line
- * that is no command at A, or the refusal of the command. Or MACSEC_E_MEMORY. */
+/* Any of these commands, as a line says it: `A txon 0` is macsec_enable_tx_sa(e, 0). The line is text without its line
+ * feed. A blank line, and a line whose first word begins with #, do nothing. The first status that applies:
+ * MACSEC_E_LINE_LONG, MACSEC_E_LINE_WORD, MACSEC_E_LINE_COUNT, what is wrong with a word, from left to right,
+ * MACSEC_E_LINE_ENDS for a line that is no command at A, or the refusal of the command. Or MACSEC_E_MEMORY. */
 static inline uint32_t macsec_command_line(macsec_endpoint *e, const uint8_t *text, size_t length) {
     return macsec_command_line_raw(e, macsec_octets(text, length), length);
 }
@@ -632,7 +633,7 @@ uint32_t macsec_get_tx_counters(const macsec_endpoint *e, macsec_tx_counters *ou
 uint32_t macsec_keys_left(const macsec_endpoint *e, uint32_t *out);
 /* A receive channel's counters. Each is, modulo 2^64, the sum of its SAs' and of its deleted SAs' counters. */
 uint32_t macsec_get_rx_counters(const macsec_endpoint *e, const uint8_t sci[8], macsec_rx_counters *out);
-/* Of one of its associations, since the creation of that. */
+/* The counters of one of its associations, since it was created. */
 uint32_t macsec_get_rx_sa_counters(const macsec_endpoint *e, const uint8_t sci[8], uint8_t an, macsec_rx_counters *out);
 /* What its deleted associations had counted, together. */
 uint32_t macsec_get_removed_counters(const macsec_endpoint *e, const uint8_t sci[8], macsec_rx_counters *out);
@@ -643,32 +644,33 @@ uint32_t macsec_get_rx_sa(const macsec_endpoint *e, const uint8_t sci[8], uint8_
 
 /* ---- Reservations: packet numbers that outlive the endpoint ----
  *
- * An endpoint that was made beside a journal uses a packet number only if a record that is already on the disk reserves
- * it, and begins no association at a number that a record of an earlier run reserves (MACSEC_E_PN_FLOOR, before every
- * other refusal). So no frames of all runs over one journal have the same key and IV, whatever the moment at which each
- * run ended. With `ahead` it also accepts a packet number only if a record that is already on the disk reserves that,
- * and none that a record of an earlier run reserves. docs/THEOREM.md says what follows for two ends that crash: with
- * `ahead`, strict validation, replay protection and a window of 0, no frame is delivered twice in all runs.
- * With and without `ahead`, an endpoint beside a journal creates a receive association that it deleted not again, under
- * the same key, below what was its lowest acceptable packet number (MACSEC_E_PN_FLOOR too). It remembers that of 1,024
- * associations, until their key is retired; of more it remembers the highest number for each key, and of more than
- * 1,024 keys the highest of all, and can refuse more than it must.
+ * An endpoint that was made with a journal uses a packet number only if a record that is already on the disk reserves
+ * it. It begins no association at a number that a record of an earlier run reserves (MACSEC_E_PN_FLOOR, before every
+ * other refusal). So no two frames of all runs over one journal have the same key and IV, whatever the moment at which
+ * each run ended. With `ahead` it also accepts a packet number only if a record that is already on the disk reserves
+ * it, and if no record of an earlier run does. docs/THEOREM.md says what follows for two ends that crash: with `ahead`,
+ * strict validation, replay protection and a window of 0, no frame is delivered twice in all runs.
+ * With and without `ahead`, an endpoint with a journal remembers the lowest acceptable packet number of a receive
+ * association that it deletes. Under the same key it does not create the association again below that number
+ * (MACSEC_E_PN_FLOOR too). It remembers the numbers of 1,024 associations, until their key is retired. For further ones
+ * it remembers the highest number for each key, and for more than 1,024 keys the highest of all. Then it can refuse
+ * more than it must.
  *
  * The caller keeps the file and does the following in this order; the library opens none.
  *
- * 1. Create the file on the operator's word alone: beside a new journal every number counts as unused. Write a header
+ * 1. Create the file only if the operator asks for it: with a new journal every number counts as unused. Write a header
  *    (macsec_journal_header), then sync the file and its folder. A missing, empty or shorter file is no journal.
- * 2. One endpoint at a time sends beside it, in one process too: make the next one of the file as it is when the one
- *    before sends nothing more, and with `ahead` also receives nothing more. Lock the file as long as an endpoint
- *    lives. Never restore or copy an older one.
+ * 2. One endpoint at a time sends with it, even in one process. Make the next endpoint of the file as it is when the
+ *    one before sends nothing more, and with `ahead` also receives nothing more. Lock the file as long as an endpoint
+ *    lives. Never restore or copy an older file.
  * 3. Read the whole file, and make the endpoint with macsec_reserve_open or macsec_reserve_configure.
  * 4. After macsec_add_tx_sa, before macsec_enable_tx_sa, and then from time to time ask macsec_reserve_wanted for a
  *    record. With `ahead` ask macsec_reserve_to_accept in the same way after macsec_add_rx_sa, and then from time to
  *    time with the `pn` 0. After a frame with MACSEC_VERDICT_NO_RESERVATION ask with its `pn`: the frame can be given
  *    again after step 6 for that record. After MACSEC_VERDICT_EARLIER_RUN there is nothing to ask for.
  *    Without `ahead` take the record of each receive association from macsec_reserve_to_save, before an orderly end and
- *    from time to time: a later run then delivers none of the frames that were accepted up to that record again, with a
- *    replay window of 0. Those after the last record it can deliver again.
+ *    from time to time. With a replay window of 0, a later run then does not deliver again what was accepted before
+ *    that record. What was accepted after the last record can be delivered again.
  * 5. Write each record with pwrite at the greatest multiple of 64 that is not above the file's length. A crash may
  *    have left a part of a record there: write over it. After such a part no record would be read.
  * 6. When fdatasync has returned 0, call macsec_reserve_granted. If it fails, a later one may return 0 although the
@@ -697,7 +699,7 @@ static inline uint32_t macsec_journal_compacted(const uint8_t *journal, size_t l
 
 uint32_t macsec_reserve_open_raw(macsec_endpoint *e, const macsec_config *config, const uint8_t *journal,
                                  size_t length, bool ahead);
-/* As macsec_new, beside a journal: all octets of its file. With `ahead` the endpoint reserves packet numbers ahead of
+/* As macsec_new, with a journal: all octets of its file. With `ahead` the endpoint reserves packet numbers ahead of
  * receiving. MACSEC_E_NOT_JOURNAL comes after MACSEC_E_NO_SUCH_FORM. */
 static inline uint32_t macsec_reserve_open(macsec_endpoint *e, const macsec_config *config, const uint8_t *journal,
                                            size_t length, bool ahead) {
@@ -706,9 +708,9 @@ static inline uint32_t macsec_reserve_open(macsec_endpoint *e, const macsec_conf
 
 uint32_t macsec_reserve_configure_raw(macsec_endpoint *e, const uint8_t *text, size_t text_length,
                                       const uint8_t *journal, size_t journal_length, bool ahead, uint32_t *line);
-/* As macsec_configure, beside a journal, with `ahead` as for macsec_reserve_open: a faulty text first, then
- * MACSEC_E_NOT_JOURNAL with `line` 0. A `txsa` or `rxsa` at a number that an earlier run may have used is refused, and
- * then there is no endpoint. */
+/* As macsec_configure, with a journal, and with `ahead` as for macsec_reserve_open. A fault of the text comes first,
+ * then MACSEC_E_NOT_JOURNAL with `line` 0. A `txsa` or `rxsa` at a number that an earlier run may have used is refused,
+ * and then there is no endpoint. */
 static inline uint32_t macsec_reserve_configure(macsec_endpoint *e, const uint8_t *text, size_t text_length,
                                                 const uint8_t *journal, size_t length, bool ahead, uint32_t *line) {
     return macsec_reserve_configure_raw(e, macsec_octets(text, text_length), text_length,
@@ -742,7 +744,7 @@ uint32_t macsec_reserve_granted(macsec_endpoint *e, const macsec_record *record)
 uint32_t macsec_seal_raw(const macsec_sak *key, const uint8_t sci[8], uint64_t pn, bool conf, size_t head,
                          uint8_t *frame, size_t length);
 /* For testers alone: seals a frame in place, whatever its SecTAG is, so that a receiver that drops it has judged the
- * tag and not the ICV. It knows no packet numbers: told the same key, SCI (or SSCI) and `pn` twice, it repeats an IV,
+ * tag and not the ICV. It knows no packet numbers: given the same key, SCI (or SSCI) and `pn` twice, it repeats an IV,
  * which breaks GCM. Never give it a key that an endpoint uses outside a test.
  *
  * `frame` has `head` octets (destination, source and SecTAG, of any content and number), the data, and 16 octets into
