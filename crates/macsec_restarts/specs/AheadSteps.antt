@@ -32,7 +32,7 @@ pub record StepsInside (a : Ahead) (input : KeepingInput) : Type 0 where
   pub reports : (r : Reservation) → lets_through a (now_durable r) ≡ true
   pub frames : (frame : List ℕ) → lets_through a (endpoint_input (client_frame frame)) ≡ true
 
--- so a run leaves the keeping endpoint inside as `run_inside` does, to which the same was reported
+-- so after a run the keeping endpoint inside is as after `run_inside`, and the same was reported to both runs
 pub record IsKeepingInside (ahead : Bool) (run : Run) : Type 0 where
   pub inside : (closing_with ahead run).k ≡ closing (run_inside ahead run)
   pub reports : reported (run_inside ahead run) ≡ reported run
