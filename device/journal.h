@@ -132,7 +132,7 @@ int journal_create(const char *path, struct journal_fault *fault);
  * the octets (MACSEC_E_NOT_JOURNAL). */
 int journal_open(struct journal *journal, const char *path, size_t limit, struct journal_fault *fault);
 
-/* Makes an endpoint beside the journal, as macsec_reserve_open and macsec_reserve_configure do, unless another one has
+/* Makes an endpoint with the journal, as macsec_reserve_open and macsec_reserve_configure do, unless another one has
  * it. If the library refuses it, none has. With `ahead` it accepts a packet number only if a durable record reserves
  * it. */
 int journal_make_endpoint(struct journal *journal, macsec_endpoint *e, const macsec_config *config, bool ahead,

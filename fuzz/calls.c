@@ -168,7 +168,7 @@ void __wrap_free(void *block) {
     __real_free(block);
 }
 
-/* An endpoint has 14 blocks, and one more beside a journal with records; a key has one, and a slot three. Only the
+/* An endpoint has 14 blocks, and one more with a journal that has records; a key has one, and a slot three. Only the
  * calls that make one, a line and a journal ask for blocks; one that answers MACSEC_E_TAKEN or MACSEC_E_EMPTY does not.
  */
 enum { BLOCKS = 14 };
@@ -346,7 +346,7 @@ static const macsec_config *sealed_config(char **w) {
     return config;
 }
 
-/* Makes an endpoint of a text, and beside a journal if there is one. */
+/* Makes an endpoint of a text, and with a journal if there is one. */
 static uint32_t configure(macsec_endpoint *e, const char *text, const char *journal, bool ahead) {
     uint32_t *at = room_of(sizeof *at), status;
     const uint8_t *lines = sealed(text);

@@ -273,7 +273,7 @@ class Calls(Rarely):
 
     def paired(self, ahead=None):
         """Calls that let endpoint 0 send to endpoint 1 under a key of one suite, as they are mostly seen in use. With
-        `ahead`, on or off, endpoint 1 is beside a journal, in which an earlier run has reserved numbers or none."""
+        `ahead`, on or off, endpoint 1 has a journal, in which an earlier run has reserved numbers or none."""
         suite = self.pick((1, 1, 2, 3, 4))
         an, pn = self.random.randrange(4), self.pick((1, 1, 7, 2**32 - 3, 2**32 - 3 if suite < 3 else 2**64 - 3))
         sender = self.model.ends[0].sci if self.model.ends[0] else self.SCIS[0]
@@ -317,7 +317,7 @@ class Calls(Rarely):
                 yield "reserve_granted", (end, journals.record(wanted))
 
     def received_beside(self):
-        """Frames to endpoint 1 beside a journal: numbers are reserved before they are accepted, or not. The association
+        """Frames to endpoint 1 with a journal: numbers are reserved before they are accepted, or not. The association
         is deleted, and created again above its end or not."""
         yield from self.paired_beside()
         end = self.model.ends[1]
@@ -386,7 +386,7 @@ class Calls(Rarely):
         yield "configure", (2, self.text())
 
     def kept(self):
-        """Endpoint 0 beside a journal, which it sends from: numbers are reserved before they are used, or not."""
+        """Endpoint 0 with a journal, which it sends from: numbers are reserved before they are used, or not."""
         suite, sender, an = self.pick((1, 1, 2, 3, 4)), self.sci(), self.random.randrange(4)
         yield "free", (0,)
         yield "reserve_open", (0, sender, suite, 1, 1518, self.JOURNAL + b"".join(self.records[-8:]), self.pick((0, 1)))

@@ -1,4 +1,4 @@
-/* An endpoint beside a journal on a disk. device/tests/journal kills it, starts it again, and reads what it captured.
+/* An endpoint with a journal on a disk. device/tests/journal kills it, starts it again, and reads what it captured.
  *
  *     journal create JOURNAL
  *     journal send JOURNAL LIMIT SUITE AMOUNT FRAMES CAPTURE
@@ -125,7 +125,7 @@ static void open_journal(struct journal *journal, const char *name, size_t limit
     }
 }
 
-/* Creates an endpoint with its keys beside a journal. Key and association have the same number. */
+/* Creates an endpoint with its keys and a journal. Key and association have the same number. */
 static uint32_t make_endpoint(macsec_endpoint *e, const uint8_t *sci, uint32_t suite, struct journal *journal,
                               bool ahead) {
     struct journal_fault fault = { JOURNAL_LIBRARY, 0, MACSEC_OK };

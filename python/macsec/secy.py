@@ -158,7 +158,7 @@ class SecY:
     `with`, or when nothing refers to it any more. Threads may share it: one call at a time is made. After a fork only
     one of the processes may send by it. Never give two endpoints that send the same key and packet number.
 
-    `journal` is all octets of a journal's file. Beside it the endpoint uses only packet numbers that a record reserves,
+    `journal` is all octets of a journal's file. With it the endpoint uses only packet numbers that a record reserves,
     and begins no association at a number that an earlier run reserved. It creates no receive association again at a
     number that it may have accepted from it. include/macsec.h says how to keep the file.
 
@@ -375,7 +375,7 @@ class SecY:
 
     def add_tx_sa(self, an: int, key: int, pn: int, conf: bool) -> None:
         """Creates a transmit association, disabled (10.7.22). It encrypts if `conf`. `pn` must be above all that the
-        key used; beside a journal above `reserve_tx_floor`, else it is refused."""
+        key used; with a journal above `reserve_tx_floor`, else it is refused."""
         self._call("add_tx_sa", number_of(an, 8, "an"), number_of(key, 16, "key"), number_of(pn, 64, "pn"), bool(conf))
 
     def enable_tx_sa(self, an: int) -> None:
@@ -402,7 +402,7 @@ class SecY:
         """Creates a receive association, disabled (10.7.13). `pn` is its lowest acceptable packet number, `ssci` the
         sender's.
 
-        Beside a journal `pn` must be above `reserve_rx_floor`, else it is refused: an association that was deleted does
+        With a journal `pn` must be above `reserve_rx_floor`, else it is refused: an association that was deleted does
         not begin again at a number that it may have accepted.
         """
         numbers = number_of(an, 8, "an"), number_of(key, 16, "key"), number_of(pn, 64, "pn")

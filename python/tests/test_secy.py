@@ -216,7 +216,7 @@ class Journals(unittest.TestCase):
 
 
 class Ahead(unittest.TestCase):
-    """Receivers beside a journal, and frames that come again."""
+    """Receivers with a journal, and frames that come again."""
 
     def setUp(self) -> None:
         self.journal = macsec.journal_header(bytes(range(24)))
@@ -224,7 +224,7 @@ class Ahead(unittest.TestCase):
         self.links = protected(self.frames)
 
     def beside(self, pn: int = 1, ahead: bool = True) -> SecY:
-        """A receiver beside the journal as it is now."""
+        """A receiver with the journal as it is now."""
         lines = f"A key 0 {KEYS[0].hex()} 0\nA rxsc {SENDER}\nA rxsa {SENDER} 0 0 {pn:x}\nA rxon {SENDER} 0\n"
         it = SecY.configure(f"end A gcm128 {RECEIVER} 1546 sci\n{lines}", self.journal, ahead=ahead)
         self.addCleanup(it.close)

@@ -36,7 +36,7 @@ pub extern "C" fn macsec_configure_raw(
     }
 }
 
-/// The same beside a journal. With `ahead` the endpoint reserves packet numbers ahead of receiving.
+/// The same with a journal. With `ahead` the endpoint reserves packet numbers ahead of receiving.
 /// `macsec_reserve_configure` of the header calls this with a text and a journal that are not null.
 #[unsafe(no_mangle)]
 pub extern "C" fn macsec_reserve_configure_raw(

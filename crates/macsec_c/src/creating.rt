@@ -33,7 +33,7 @@ pub extern "C" fn macsec_new(alloc: Global, e: &mut Endpoint, config: &Config) -
     }
 }
 
-/// Creates an endpoint of this configuration beside a journal, in a handle without one. With `ahead` it reserves packet
+/// Creates an endpoint of this configuration with a journal, in a handle without one. With `ahead` it reserves packet
 /// numbers ahead of receiving. `macsec_reserve_open` of the header calls this with a journal that is not null.
 #[unsafe(no_mangle)]
 pub extern "C" fn macsec_reserve_open_raw(

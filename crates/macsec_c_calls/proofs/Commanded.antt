@@ -1,4 +1,4 @@
--- The loop over the commands of a configuration, and the endpoint that is opened beside a journal.
+-- The loop over the commands of a configuration, and the endpoint that is opened with a journal.
 use Rattle.std.proofs.Common.{◌≡◌, ℕ, ◌+◌, ◌<◌, List, ◌∷◌, drop, get_or, length, subst, sym, ap, ◌∙◌}
 use Rattle.std.proofs.lemmas.List.{drop_more}
 use Rattle.std.specs.Prelude.{Bool, Result, Ok, true, None}
@@ -24,7 +24,7 @@ pub one_more : (whole answer : Result Ahead ConfigFault) (e : Ahead) (lines : Li
 one_more whole answer e lines i entry item within way by_command =
     way ∙ ap (carried_out e) (first_left lines i entry item within) ∙ ap (λ r. and_then r (λ after. carried_out after (drop (i + 1) lines))) (sym by_command)
 
--- the endpoint is the one that is opened beside the journal, after the commands
+-- the endpoint is the one that is opened with the journal, after the commands
 pub opened_beside : (config : ConfigParts) (ahead : Bool) (journal : List ℕ) (e : Ahead) (after : Result Ahead ConfigFault) →
     is_journal journal ≡ true → config_fault config.end ≡ None → e ≡ opened_with ahead config.end journal → after ≡ carried_out e config.commands →
     endpoint_of (created_beside ahead journal) config ≡ after

@@ -1,4 +1,4 @@
-/* Gives copies of frames to receivers beside a journal. Between two copies an association is deleted, created again and
+/* Gives copies of frames to receivers with a journal. Between two copies an association is deleted, created again and
  * enabled; or the process ends, and a later run gets them. tests/library/delivered-once builds and runs it.
  *
  * usage: delivered_once [MISTAKE]

@@ -2,8 +2,8 @@
  *
  * usage: constant_time MODE, with some of these letters in MODE:
  *   k  keys are secret        d  the client's data is secret, from octet 12 on
- *   j  beside a journal       t  keys are installed as lines of text, and one in a CONFIG
- *   a  the receiver is beside a journal too, and reserves packet numbers ahead of receiving
+ *   j  with a journal         t  keys are installed as lines of text, and one in a CONFIG
+ *   a  the receiver has a journal too, and reserves packet numbers ahead of receiving
  *   s b c e  a planted mistake each: an S-box read by index, a branch on an octet of a key, a tag compared octet by
  *            octet, a search for a key that ends at the first octet that differs
  *

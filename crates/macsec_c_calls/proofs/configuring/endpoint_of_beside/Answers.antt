@@ -1,4 +1,4 @@
--- The endpoint is opened beside the journal, and the commands are carried out. This proof is here so that a wrong body
+-- The endpoint is opened with the journal, and the commands are carried out. This proof is here so that a wrong body
 -- is refused quickly.
 use Rattle.std.proofs.Common.{ap, ◌∙◌, rules}
 use Rattle.macsec_c_calls.specs.Texts.{carried_out}
