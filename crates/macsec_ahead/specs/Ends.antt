@@ -98,7 +98,7 @@ ends_among s rows = map ended_of (filter (is_gone s) rows)
 abbrev pub ended_by : State → State → List EndedSa
 ended_by s after = ends_among after s.rx.rows
 
--- ---- a key that is retired: no SA is created under it any more
+-- ---- a retired key: no SA is created under it any more
 
 abbrev pub without_key : ℕ → Ends → Ends
 without_key key t = record t { entries = filter (λ e. not (e.key == key)) t.entries; keys = filter (λ e. not (is_under key e)) t.keys }

@@ -49,7 +49,7 @@ RefusesKnown k key =
     has_wrong_offset (suite_of k.secy.config.suite key) key.offset ≡ false → is_number_used k.secy.keys key.number ≡ false →
     forgetting_step k (installing key) ≡ (endpoint_output (refused KeyRepeated), k)
 
--- ---- beside the same run without forgetting
+-- ---- compared with a run without forgetting
 
 -- the inputs, except those that install octets which a retired key has, or whose fingerprint it has
 abbrev pub others : Keeping → List KeepingInput → List KeepingInput

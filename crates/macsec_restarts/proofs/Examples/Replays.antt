@@ -357,7 +357,7 @@ begun_steps uses there =
 pub creation_above_needed : LawWithout IsCreatedAbove (blocks ((A, run_a false) ∷ (B, begun) ∷ [])) → ⊥
 creation_above_needed = twice IsCreatedAbove (run_a false) begun (facts_a false) begun_facts own_a begun_steps
 
--- ---- a crash of B before it saves: its second run begins beside an empty journal, and receives the frame again
+-- ---- a crash of B before it saves: its second run begins with an empty journal, and receives the frame again
 
 module _ (a b : Run) (sends : Facts 1 sci_a a (sender.sent false) []) (receives : Facts 2 sci_b b [] d1) where
   sent_so : sent_in_all (a ∷ []) ≡ sender.sent false
