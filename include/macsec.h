@@ -145,8 +145,8 @@ enum {
     MACSEC_E_WINDOW = 18,             /* the replay window is too wide */
     MACSEC_E_SCI_FORM = 19,           /* the tag form does not fit the endpoint's SCI */
     MACSEC_E_EXHAUSTED = 20,          /* the association has no packet number left */
-    MACSEC_E_EMPTY = 32,              /* the handle holds no endpoint */
-    MACSEC_E_TAKEN = 33,              /* the handle holds an endpoint already */
+    MACSEC_E_EMPTY = 32,              /* the handle is empty */
+    MACSEC_E_TAKEN = 33,              /* the handle holds something already */
     MACSEC_E_NO_SUCH_SUITE = 34,      /* the number names no cipher suite */
     MACSEC_E_NO_SUCH_FORM = 35,       /* the number names no tag form */
     MACSEC_E_NO_SUCH_MODE = 36,       /* the number names no mode of validation */

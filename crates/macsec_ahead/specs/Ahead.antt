@@ -82,8 +82,8 @@ abbrev pub begins_again : Ahead → Input → Bool
 begins_again a (operator_command (RxSa sci an key ssci lowest)) = nat_lt 0 lowest && nat_le lowest (end_of a.ended key sci an)
 begins_again a input = false
 
--- a command adds the ends of the SAs that it deletes, and removes the ends under a key that it retires; without a journal
--- nothing is remembered
+-- a command adds the ends of the SAs that it deletes, and removes the entries of a key that it retires, but leaves the
+-- number for all keys; without a journal nothing is remembered
 abbrev pub ended_after : Ahead → Input → KeepingOutput × Keeping → Ends
 ended_after a (operator_command c) answer =
     if a.k.keeps then after_retiring c (is_done answer.0) (with_ends (ended_by a.k.secy answer.1.secy) a.ended) else a.ended

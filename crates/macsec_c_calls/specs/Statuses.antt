@@ -20,11 +20,11 @@ use Rattle.macsec_c_calls.specs.declared.arguments.ArgumentFault.TheVariants as 
 abbrev pub done_status : ℕ
 done_status = 0
 
--- the handle holds no endpoint
+-- the handle is empty
 abbrev pub empty_status : ℕ
 empty_status = 32
 
--- the handle already holds an endpoint
+-- the handle holds an endpoint, a key or a slot already
 abbrev pub taken_status : ℕ
 taken_status = 33
 

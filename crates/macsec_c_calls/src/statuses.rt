@@ -9,10 +9,10 @@ use macsec_secy::{FrameFault, NewFault, Verdict};
 /// The call succeeded.
 pub const DONE: u32 = 0;
 
-/// The handle holds no endpoint.
+/// The handle is empty.
 pub const EMPTY: u32 = 32;
 
-/// The handle already holds an endpoint.
+/// The handle holds an endpoint, a key or a slot already.
 pub const TAKEN: u32 = 33;
 
 /// There is no such SC or SA.

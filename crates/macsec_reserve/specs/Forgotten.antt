@@ -82,7 +82,7 @@ AreAllAlike [] [] = Unit {0}
 AreAllAlike (x ∷ xs) (y ∷ ys) = AreAlike x y × AreAllAlike xs ys
 AreAllAlike xs ys = ⊥
 
--- two endpoints that differ only in the octets of retired keys
+-- two endpoints that are the same, except that their retired keys may differ
 pub record AreSameBut (s t : State) : Type 0 where
   pub same : t ≡ record s { keys = t.keys }
   pub keys : (n : ℕ) → is_retired s.keys n ≡ false → key_row t.keys n ≡ key_row s.keys n

@@ -1,5 +1,5 @@
--- Two endpoints that differ only in the octets of retired keys judge, deliver and send the same, since no SA uses a retired
--- key.
+-- Two endpoints that are the same except for their retired keys judge, deliver and send the same, since no SA uses a
+-- retired key.
 use Rattle.std.proofs.Common.{◌≡◌, ◌⊎◌, inl, inr, ℕ, Bool, true, false, List, [], ◌∷◌, refl, ap, sym, ◌∙◌}
 use Rattle.std.specs.Prelude.{◌+◌, ◌==◌, ◌&&◌, ◌||◌, not, nat_lt, find, length, if◌then◌else◌, unwrap_or, Option, Some, None}
 use Rattle.std.proofs.lemmas.Bool.{eq-eqb, or_parts}

@@ -80,7 +80,7 @@ AreAllAlikeWith [] [] = Unit {0}
 AreAllAlikeWith (x ∷ xs) (y ∷ ys) = AreAlikeWith x y × AreAllAlikeWith xs ys
 AreAllAlikeWith xs ys = ⊥
 
--- two endpoints that differ only in the octets of retired keys
+-- two endpoints that are the same, except that their retired keys may differ
 pub record AreSameButWith (a f : Ahead) : Type 0 where
   pub secy : AreSameBut a.k.secy f.k.secy
   -- what is reserved ahead, and where deleted SAs ended
