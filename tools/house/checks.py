@@ -116,8 +116,9 @@ CHECKS: list[Check] = [
           "receivers without a journal, a later run without `ahead`, a record that changes",
           test="{library}", gate=f"--mistakes {LIBRARIES}"),
     Check("instructions", "counts the instructions of a frame and of a key through the library for C, against limits",
-          "tests/library/instructions", LIBRARY, 20,
-          "a limit below what is counted, one far above it; libraries without wide planes, or without vectors for them",
+          "tests/library/instructions", LIBRARY, 30,
+          "a limit below what is counted, one far above it; a record that is asked for with each frame; "
+          "libraries without wide planes, or without vectors for them",
           gate=f"{NARROWER}{LIBRARIES}"),
     Check("pages", "runs the examples of the pages, and checks their links", "tools/pages", LIBRARY, 10,
           "another output, links that lead nowhere", test=f"{BUILT} --library {{shared}}", gate=""),
