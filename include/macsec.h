@@ -105,8 +105,8 @@ extern "C" {
 
 /* The version of this header as text, as the pkg-config file has it, and as a number: 1,000,000 times its first
  * number, plus 1,000 times its second, plus its third. macsec_version() returns the number of the library. */
-#define MACSEC_VERSION "0.9.0"
-#define MACSEC_VERSION_NUMBER 9000
+#define MACSEC_VERSION "1.0.0"
+#define MACSEC_VERSION_NUMBER 1000000
 
 /* The fewest and the most octets of a frame that is given to an endpoint. */
 #define MACSEC_FRAME_MIN 14

@@ -5,6 +5,6 @@ use Rattle.std.specs.Prelude.{ℕ, ◌+◌, ◌*◌}
 abbrev pub version_number : ℕ → ℕ → ℕ → ℕ
 version_number a b c = a * 1000000 + b * 1000 + c
 
--- version 0.9.0
+-- this version
 abbrev pub version : ℕ
-version = version_number 0 9 0
+version = version_number 1 0 0

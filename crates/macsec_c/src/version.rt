@@ -3,8 +3,8 @@
 ghost use Rattle.std.specs.Prelude.{◌≡◌};
 ghost use Rattle.macsec_c.specs.Version.{version};
 
-/// Version 0.9.0 as a number.
-const VERSION: u32 = 9_000;
+/// This version as a number.
+const VERSION: u32 = 1_000_000;
 
 /// The version as a number: 1,000,000 times its first number, plus 1,000 times its second, plus its third.
 #[unsafe(no_mangle)]
