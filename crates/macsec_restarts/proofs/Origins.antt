@@ -30,7 +30,6 @@ use Rattle.macsec_link.proofs.Reflections.{not_of_own_end, recovered_most, same_
 use Rattle.macsec_link.proofs.Seals.{IsFrom}
 use Rattle.macsec_reserve.specs.Histories.{IsHistory, AgreeOnKey, AgreeOnKeys, Run, closing, opening, sealed_in_all}
 use Rattle.macsec_reserve.specs.Keeping.{endpoint_input}
-use Rattle.macsec_reserve.specs.TwoEnds.{AreOfTwoEnds}
 use Rattle.macsec_restarts.specs.Happenings.{Happening, comes_in, last_run, runs_of}
 use Rattle.macsec_restarts.specs.Origin.{AlwaysComesFromOther, ComesFromOther, WasSent}
 use Rattle.macsec_restarts.specs.Peers.{ArePeers, IsGenuineAt, IsSameEnd}
@@ -202,10 +201,11 @@ at_a before peers = record {
   other = peers.b;
   one = peers.one_a;
   agree = λ run there q there' x y here here' bytes.
-      let both = All-contains (AreOfTwoEnds run) (runs_of B before) q
-      (All-contains (λ p. All (AreOfTwoEnds p) (runs_of B before)) (runs_of A before) run peers.apart (contained (runs_of A before) run there))
+      let both : AgreeOnKeys run q =
+      All-contains (AgreeOnKeys run) (runs_of B before) q
+      (All-contains (λ p. All (AgreeOnKeys p) (runs_of B before)) (runs_of A before) run peers.agree (contained (runs_of A before) run there))
       (contained (runs_of B before) q there') in
-      turned (both.keys x y here here' bytes).agree;
+      turned (both x y here here' bytes);
 }
 
 at_b : (before : List Happening) → ArePeers before → AreRuns (runs_of B before) (runs_of A before)
@@ -214,10 +214,11 @@ at_b before peers = record {
   other = peers.a;
   one = peers.one_b;
   agree = λ run there q there' x y here here' bytes.
-      let both = All-contains (AreOfTwoEnds q) (runs_of B before) run
-      (All-contains (λ p. All (AreOfTwoEnds p) (runs_of B before)) (runs_of A before) q peers.apart (contained (runs_of A before) q there'))
+      let both : AgreeOnKeys q run =
+      All-contains (AgreeOnKeys q) (runs_of B before) run
+      (All-contains (λ p. All (AgreeOnKeys p) (runs_of B before)) (runs_of A before) q peers.agree (contained (runs_of A before) q there'))
       (contained (runs_of B before) run there) in
-      (both.keys y x here' here (sym bytes)).agree;
+      both y x here' here (sym bytes);
 }
 
 -- what was sealed at either end, in the other order

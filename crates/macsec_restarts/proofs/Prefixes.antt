@@ -11,7 +11,6 @@ use Rattle.macsec_secy.specs.Sound.{IsSound}
 use Rattle.macsec_link.proofs.EndpointLaws.{EndpointLaws}
 use Rattle.macsec_reserve.specs.Histories.{AgreeOnKeys, IsHistory, KeepsDurable, Run, SameSalt, StaysSound, closing, opening}
 use Rattle.macsec_reserve.specs.Keeping.{Keeping, KeepingInput, keeping_after}
-use Rattle.macsec_reserve.specs.TwoEnds.{AreOfTwoEnds}
 use Rattle.macsec_reserve.proofs.Pairs.{no_pairs, one_alone, pairs-head, pairs-tail}
 use Rattle.macsec_restarts.specs.Happenings.{AtEach, Happening, begins, comes_in, runs_of, same_end}
 use Rattle.macsec_restarts.specs.Peers.{ArePeers, IsSameEnd}
@@ -49,32 +48,12 @@ module _ (laws : EndpointLaws) (input : KeepingInput) where
         same.ssci x it.later here it.there (bytes ∙ sym it.is_later.bytes) xpn ∙ it.is_later.ssci;
   }
 
-  apart_before : (run other : Run) → IsSoundRun run → AreOfTwoEnds (with_input input run) other → AreOfTwoEnds run other
-  apart_before run other sound apart = record {
-    sci = apart.sci;
-    keys = λ x y here there bytes.
-        let it = key_stays run sound x here in
-        let both = apart.keys it.later y it.there there (it.is_later.bytes ∙ bytes) in
-        record {
-          agree = record {
-            suite = sym it.is_later.suite ∙ both.agree.suite;
-            salt = λ xpn. sym it.is_later.salt ∙ both.agree.salt (ap is_xpn it.is_later.suite ∙ xpn);
-          };
-          ssci = λ xpn same. both.ssci (ap is_xpn it.is_later.suite ∙ xpn) (it.is_later.ssci ∙ same);
-        };
-  }
-
-  apart_before' : (run other : Run) → IsSoundRun other → AreOfTwoEnds run (with_input input other) → AreOfTwoEnds run other
-  apart_before' run other sound apart = record {
-    sci = apart.sci;
-    keys = λ x y here there bytes.
-        let it = key_stays other sound y there in
-        let both = apart.keys x it.later here it.there (bytes ∙ sym it.is_later.bytes) in
-        record {
-          agree = record { suite = both.agree.suite ∙ it.is_later.suite; salt = λ xpn. both.agree.salt xpn ∙ it.is_later.salt };
-          ssci = λ xpn same. both.ssci xpn (same ∙ sym it.is_later.ssci);
-        };
-  }
+  -- at the other end
+  agree_before' : (run other : Run) → IsSoundRun run → AgreeOnKeys (with_input input run) other → AgreeOnKeys run other
+  agree_before' run other sound agree x y here there bytes =
+      let it = key_stays run sound x here in
+      let both = agree it.later y it.there there (it.is_later.bytes ∙ bytes) in
+      record { suite = sym it.is_later.suite ∙ both.suite; salt = λ xpn. sym it.is_later.salt ∙ both.salt (ap is_xpn it.is_later.suite ∙ xpn) }
 
   -- ---- runs, the last one without its last input
 
@@ -136,22 +115,22 @@ first_history runs more is = record {
 record ArePeersBy (ra rb : List Run) : Type 0 where
   a : IsHistory ra
   b : IsHistory rb
-  apart : All (λ run. All (AreOfTwoEnds run) rb) ra
+  agree : All (λ run. All (AgreeOnKeys run) rb) ra
   one_a : AllPairs IsSameEnd ra
   one_b : AllPairs IsSameEnd rb
 
 by_runs : (events : List Happening) → ArePeers events → ArePeersBy (runs_of A events) (runs_of B events)
-by_runs events is = record { a = is.a; b = is.b; apart = is.apart; one_a = is.one_a; one_b = is.one_b }
+by_runs events is = record { a = is.a; b = is.b; agree = is.agree; one_a = is.one_a; one_b = is.one_b }
 
 of_runs : (events : List Happening) → ArePeersBy (runs_of A events) (runs_of B events) → ArePeers events
-of_runs events is = record { a = is.a; b = is.b; apart = is.apart; one_a = is.one_a; one_b = is.one_b }
+of_runs events is = record { a = is.a; b = is.b; agree = is.agree; one_a = is.one_a; one_b = is.one_b }
 
 first_peers : (ra more rb others : List Run) → ArePeersBy (ra ++ more) (rb ++ others) → ArePeersBy ra rb
 first_peers ra more rb others is = record {
   a = first_history ra more is.a;
   b = first_history rb others is.b;
-  apart = All-weaker (λ run. All (AreOfTwoEnds run) (rb ++ others)) (λ run. All (AreOfTwoEnds run) rb)
-      (λ run all. first_all (AreOfTwoEnds run) rb others all) ra (first_all (λ run. All (AreOfTwoEnds run) (rb ++ others)) ra more is.apart);
+  agree = All-weaker (λ run. All (AgreeOnKeys run) (rb ++ others)) (λ run. All (AgreeOnKeys run) rb)
+      (λ run all. first_all (AgreeOnKeys run) rb others all) ra (first_all (λ run. All (AgreeOnKeys run) (rb ++ others)) ra more is.agree);
   one_a = first_pairs IsSameEnd ra more is.one_a;
   one_b = first_pairs IsSameEnd rb others is.one_b;
 }
@@ -162,8 +141,8 @@ input_a laws input ra rb is =
     record {
       a = history;
       b = is.b;
-      apart = all_before laws input (λ run. All (AreOfTwoEnds run) rb)
-          (λ run sound all. All-weaker (AreOfTwoEnds (with_input input run)) (AreOfTwoEnds run) (λ other apart. apart_before laws input run other sound apart) rb all) ra history.sound is.apart;
+      agree = all_before laws input (λ run. All (AgreeOnKeys run) rb)
+          (λ run sound all. All-weaker (AgreeOnKeys (with_input input run)) (AgreeOnKeys run) (λ other agree. agree_before' laws input run other sound agree) rb all) ra history.sound is.agree;
       one_a = pairs_before laws input IsSameEnd (same_before laws input) ra history.sound is.one_a;
       one_b = is.one_b;
     }
@@ -174,8 +153,8 @@ input_b laws input ra rb is =
     record {
       a = is.a;
       b = history;
-      apart = All-weaker (λ run. All (AreOfTwoEnds run) (with_last input rb)) (λ run. All (AreOfTwoEnds run) rb)
-          (λ run all. all_before laws input (AreOfTwoEnds run) (λ other sound apart. apart_before' laws input run other sound apart) rb history.sound all) ra is.apart;
+      agree = All-weaker (λ run. All (AgreeOnKeys run) (with_last input rb)) (λ run. All (AgreeOnKeys run) rb)
+          (λ run all. all_before laws input (AgreeOnKeys run) (λ other sound agree. agree_before laws input run other sound agree) rb history.sound all) ra is.agree;
       one_a = is.one_a;
       one_b = pairs_before laws input IsSameEnd (same_before laws input) rb history.sound is.one_b;
     }

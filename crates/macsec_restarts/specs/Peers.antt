@@ -12,9 +12,8 @@ use Rattle.macsec_suite.specs.Suites.{is_xpn}
 use Rattle.macsec_commands.specs.declared.event.End.TheVariants.{A, B}
 use Rattle.macsec_secy.specs.Step.{link_frame}
 use Rattle.macsec_link.specs.Genuine.{use_opened}
-use Rattle.macsec_reserve.specs.Histories.{IsHistory, Run, closing, sealed_in_all}
+use Rattle.macsec_reserve.specs.Histories.{AgreeOnKeys, IsHistory, Run, closing, sealed_in_all}
 use Rattle.macsec_reserve.specs.Keeping.{endpoint_input}
-use Rattle.macsec_reserve.specs.TwoEnds.{AreOfTwoEnds}
 use Rattle.macsec_restarts.specs.Happenings.{Happening, comes_in, last_run, runs_of}
 
 -- ---- no ICV is forged
@@ -46,12 +45,12 @@ pub record IsSameEnd (run later : Run) : Type 0 where
 
 -- each end has one history: its endpoint is sound at each moment, keys with the same octets agree, and each run reads in
 -- the journal what was reported durable before. The journal may be shortened to the highest record of each name, and
--- crashes may leave any octets in it. The ends' SCIs differ, their keys with the same octets agree too, and under an XPN
--- suite their own SSCIs differ
+-- crashes may leave any octets in it. Keys with the same octets agree at both ends too. The ends' SCIs and own SSCIs need
+-- not differ: an endpoint has no receive SC of its own SCI and, under an XPN suite, no receive SA of its own SSCI
 pub record ArePeers (events : List Happening) : Type 0 where
   -- in all runs of each end
   pub a : IsHistory (runs_of A events)
   pub b : IsHistory (runs_of B events)
-  pub apart : All (λ run. All (AreOfTwoEnds run) (runs_of B events)) (runs_of A events)
+  pub agree : All (λ run. All (AgreeOnKeys run) (runs_of B events)) (runs_of A events)
   pub one_a : AllPairs IsSameEnd (runs_of A events)
   pub one_b : AllPairs IsSameEnd (runs_of B events)

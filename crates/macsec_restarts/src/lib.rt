@@ -25,8 +25,9 @@
 //! - `forgets_alike_ahead`: it answers alike, and sends, delivers and accepts the same, as one that forgets none.
 //! - `accepts_above_forgetting`, `comes_in_order_once_forgetting`: the laws above, of runs in which keys are retired.
 //!
-//! `proofs/Examples/` has runs that meet all premises, with the lists of what was sent and delivered, and for fourteen
-//! premises of order runs that break it without that one. It uses the worked runs of `macsec_counterexamples`.
+//! `proofs/Examples/` has runs that meet all premises, with the lists of what was sent and delivered. For each premise of
+//! order, except that link frames are octets, it has a run that breaks order without it. It uses the worked runs of
+//! `macsec_counterexamples`.
 //!
 //! Trusted: what was reported durable is read by every later run, and no ICV is forged.
 #![tactic(auto)]

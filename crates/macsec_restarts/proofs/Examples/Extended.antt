@@ -1,8 +1,8 @@
 -- Runs with extended packet numbers that meet all premises of order and once but one, and in which B delivers a client frame
 -- that A never sent with that packet number: B has another own SSCI in its second run, or another salt, and receives the
--- frame that it sent in its first one; the key has another salt at B, under which the frame has the IV of another packet number; or the salt
--- has no octets at both ends, which are not sound, so that all packet numbers have one IV.
-use Rattle.std.proofs.Common.{◌≡◌, ◌≢◌, ℕ, zero, suc, ◌<◌, ◌≤◌, ◌+◌, Bool, true, false, List, [], ◌∷◌, ◌++◌, map, take, refl, ap, sym, subst, ◌∙◌, arith, All, AllPairs, Contains}
+-- frame that it sent in its first one; the key has another salt at B, under which the frame has the IV of another packet
+-- number; or the salt has no octets at both ends, which are not sound, so that all packet numbers have one IV.
+use Rattle.std.proofs.Common.{◌≡◌, ◌≢◌, ℕ, zero, suc, ◌<◌, ◌≤◌, ◌+◌, Bool, true, false, List, [], ◌∷◌, ◌++◌, map, take, refl, ap, sym, subst, ◌∙◌, arith, Contains}
 use Rattle.std.specs.Prelude.{◌^◌, ◌*◌, ◌||◌, ◌&&◌, not, nat_le, max, replicate, slice_get, if◌then◌else◌, Some, None, IfSome}
 use Rattle.std.proofs.lemmas.Bool.{lt-ltb}
 use Rattle.std.proofs.lemmas.List.Elements.{All-append, All-nil}
@@ -40,31 +40,29 @@ use Rattle.macsec_secy.proofs.StaysSound.{after_client_frame, after_effect, at_s
 use Rattle.macsec_link.specs.Genuine.{use_opened}
 use Rattle.macsec_link.specs.Origin.{IsSubsequence}
 use Rattle.macsec_reserve.specs.declared.reservation.Reservation.{Reservation}
-use Rattle.macsec_reserve.specs.Histories.{AgreeOnKey, AgreeOnKeys, KeepsDurable, Run, SameSalt, StaysSound, closing, opening, sealed_in_all}
+use Rattle.macsec_reserve.specs.Histories.{Run, StaysSound, closing, opening, sealed_in_all}
 use Rattle.macsec_reserve.specs.Journal.{highest, sending_name}
 use Rattle.macsec_reserve.specs.Keeping.{Keeping, KeepingInput, endpoint_input, keeping_after, keeping_step, may_go, now_durable}
 use Rattle.macsec_reserve.proofs.HighestOf.{highest_of_one}
-use Rattle.macsec_reserve.proofs.Pairs.{no_pairs}
 use Rattle.macsec_reserve.proofs.Written.{same_octets-refl}
 use Rattle.macsec_counterexamples.proofs.Link.Exchange.{client}
 use Rattle.macsec_counterexamples.proofs.Link.SealedFrames.{Sealed, aad_sent, frame_with, items, opens, parts_with, sealed, tag_of, with_tag}
 use Rattle.macsec_counterexamples.proofs.Link.TracedSteps.{genuine_at}
-use Rattle.macsec_counterexamples.proofs.Link.WorkedEnds.{bytes, installed_key, new_key, no_salt, only, rx_from, sci_a, sci_b, scis_differ, tx_from}
+use Rattle.macsec_counterexamples.proofs.Link.WorkedEnds.{bytes, installed_key, new_key, no_salt, only, rx_from, sci_a, sci_b, tx_from}
 use Rattle.macsec_counterexamples.proofs.Restarts.Goes.{command, command_step, frame_step, is_new, link_step}
 use Rattle.macsec_counterexamples.proofs.Restarts.Journals.{journal, salt}
 use Rattle.macsec_counterexamples.proofs.Restarts.Receivers.{channels_are, name_of}
 use Rattle.macsec_counterexamples.proofs.Restarts.Senders.{kept, none_are, other_sci, own_sci, row_at}
 use Rattle.macsec_restarts.specs.Delivered.{Delivery, delivered_at, delivered_by, delivered_from, delivered_in_all, newly_delivered}
-use Rattle.macsec_restarts.specs.Happenings.{runs_of}
 use Rattle.macsec_restarts.specs.Order.{SavedIn}
 use Rattle.macsec_restarts.specs.Sent.{SentIn, newly_sent, sent_by, sent_from}
-use Rattle.macsec_restarts.proofs.Examples.Blocks.{AreOwn, AreSteps, EndRun, after_own, blocks, no_step, runs_of-blocks, step_next}
+use Rattle.macsec_restarts.proofs.Examples.Blocks.{AreOwn, AreSteps, EndRun, after_own, blocks, no_step, step_next}
 use Rattle.macsec_restarts.proofs.Examples.Histories.{nothing_saved, one_run_each, refuted, seals_are}
-use Rattle.macsec_restarts.proofs.Examples.NotSent.{names_differ, not_of_none}
-use Rattle.macsec_restarts.proofs.Examples.Premises.{AgreeAtBothBut, AreOfTwoEndsBut, ArePeersBut, HasOneSalt, HasStrictOrderBut, IsHistoryBut, IsSameEndBut, KeepsKeys, KeepsSsci, LawWithout, Premise, StaysSoundAlways}
+use Rattle.macsec_restarts.proofs.Examples.NotSent.{names_differ, not_of_none, two_runs_of_b}
+use Rattle.macsec_restarts.proofs.Examples.Premises.{AgreeAtBothBut, AgreeOnKeyBut, ArePeersBut, HasOneSalt, HasOneSuite, HasStrictOrderBut, KeepsSalt, KeepsSsci, KeepsSuite, LawWithout, Premise, StaysSoundAlways}
 use Rattle.macsec_restarts.proofs.Examples.Receivers.{heard_sound, tables}
 use Rattle.macsec_restarts.proofs.Examples.Tags.{are_small, small, small_at, tag_is}
-use Rattle.macsec_restarts.proofs.Examples.TwoRunsEach.{both, is_durable, is_free, none_is, pair, reads, reserved_2, reserved_is}
+use Rattle.macsec_restarts.proofs.Examples.TwoRunsEach.{is_durable, is_free, none_is, reads, reserved_2, reserved_is}
 
 -- a configuration in which no sent frame carries the SCI
 abbrev config_of : Sci → EndConfig
@@ -153,16 +151,16 @@ octets s =
 
 -- ---- the run that sends it, at either end
 
-abbrev frame_in : KeepingInput
+abbrev pub frame_in : KeepingInput
 frame_in = endpoint_input (client_frame (client 1))
 
-abbrev sa_in : KeepingInput
+abbrev pub sa_in : KeepingInput
 sa_in = command (TxSa 0 0 1 false)
 
-abbrev on_in : KeepingInput
+abbrev pub on_in : KeepingInput
 on_in = command (TxOn 0)
 
-abbrev report_in : KeepingInput
+abbrev pub report_in : KeepingInput
 report_in = now_durable reserved_2
 
 abbrev sends : Salt → List KeepingInput
@@ -178,21 +176,21 @@ tx_state s sci unused rows count = record (start (config_of sci)) {
 abbrev sent_1 : Salt → SentIn
 sent_1 s = record { seal = use_of s; number = 1; frame = client 1 }
 
-row_is : (next : ℕ) (on : Bool) → 1 ≤ next → next ≤ 2 ^ 64 → AreTxRows (row_at next on ∷ [])
+pub row_is : (next : ℕ) (on : Bool) → 1 ≤ next → next ≤ 2 ^ 64 → AreTxRows (row_at next on ∷ [])
 row_is next on least most = (record { an = omega arith; key = omega arith; next_least = least; next = most }, refl, tt)
 
-may_from : (x y : Bool) → x ≡ true → y ≡ true → not (not (x && y) || false) ≡ true
+pub may_from : (x y : Bool) → x ≡ true → y ≡ true → not (not (x && y) || false) ≡ true
 may_from true true is is' = refl
 may_from true false is is' = cc
 may_from false y is is' = cc
 
-abbrev tx_name : List ℕ
+abbrev pub tx_name : List ℕ
 tx_name = sending_name (salt false) bytes
 
-name_free : highest (reads []) tx_name < 1
+pub name_free : highest (reads []) tx_name < 1
 name_free = is_free [] tx_name 1 none_is (omega arith)
 
-abbrev tx_at : List Reservation → State → Keeping
+abbrev pub tx_at : List Reservation → State → Keeping
 tx_at granted s = kept (salt false) (reads []) granted s
 
 module _ (sci : Sci) where
@@ -547,15 +545,12 @@ module _ (before : List Reservation) (free : highest (reads before) (name_of (sa
       (sound_next (at (ready r)) (at (heard r)) (link r) [] (ready_sound r is) (hears r) (sound_end (at (heard r)) (heard_is_sound r is))))))
 
 -- what holds of the keys of two runs
-of_last : (R : InstalledKey → InstalledKey → Type 0) (p q : Run) (x y : InstalledKey) → (closing p).secy.keys ≡ x ∷ [] → (closing q).secy.keys ≡ y ∷ [] → R x y →
+pub of_last : (R : InstalledKey → InstalledKey → Type 0) (p q : Run) (x y : InstalledKey) → (closing p).secy.keys ≡ x ∷ [] → (closing q).secy.keys ≡ y ∷ [] → R x y →
     (x' y' : InstalledKey) → Contains (closing p).secy.keys x' → Contains (closing q).secy.keys y' → R x' y'
 of_last R p q x y keys keys' holds x' y' there there' =
     let first = only x x' (subst (λ (ks : List InstalledKey). Contains ks x') keys there) in
     let second = only y y' (subst (λ (ks : List InstalledKey). Contains ks y') keys' there') in
     subst (λ (z : InstalledKey). R z y') first (subst (R x) second holds)
-
-abbrev IsSoundRun : Run → Type 0
-IsSoundRun run = StaysSound (opening run) run.inputs
 
 -- ---- B has another own SSCI or another salt in its second run, and delivers what it sent in the first one
 
@@ -585,29 +580,18 @@ abbrev reflected : Receiver → List EndRun
 reflected r = (B, first_run) ∷ (B, run_r r) ∷ []
 
 module _ (left_out : Premise) (r : Receiver) (salted : has_salt (reserved_2 ∷ []) free_r r ≡ true) (keys : (closing (run_r r)).secy.keys ≡ rx_key r ∷ []) (seals : sender_salt r ≡ Zeros)
-    (agree : KeepsKeys ≢ left_out → AgreeOnKey (key_at no_salt 1 2) (rx_key r)) (ssci : KeepsSsci ≢ left_out → 1 ≡ own_ssci r) where
+    (agree : AgreeOnKeyBut KeepsSuite KeepsSalt left_out (key_at no_salt 1 2) (rx_key r)) (ssci : KeepsSsci ≢ left_out → 1 ≡ own_ssci r) where
   keys_s : (closing first_run).secy.keys ≡ key_at no_salt 1 2 ∷ []
   keys_s = ap (λ (k : Keeping). k.secy.keys) does_s.ends
 
   reflected_peers : ArePeersBut left_out (blocks (reflected r))
-  reflected_peers = record {
-    a = subst (IsHistoryBut left_out) (sym (runs_of-blocks A (reflected r)))
-        (record { sound = λ d. All-nil IsSoundRun; agree = λ d. no_pairs AgreeOnKeys; salt = λ d. no_pairs SameSalt; durable = λ d. no_pairs KeepsDurable });
-    b = subst (IsHistoryBut left_out) (sym (runs_of-blocks B (reflected r))) (record {
-      sound = λ d. both IsSoundRun first_run (run_r r) (sender_sound sci_b other_sci) (receiver_sound (reserved_2 ∷ []) free_r r salted);
-      agree = λ d. pair AgreeOnKeys first_run (run_r r)
-          (of_last (λ x y. x.bytes ≡ y.bytes → AgreeOnKey x y) first_run (run_r r) (key_at no_salt 1 2) (rx_key r) keys_s keys (λ same. agree d));
-      salt = λ d. pair SameSalt first_run (run_r r) refl;
-      durable = λ d. pair KeepsDurable first_run (run_r r) (is_durable reserved_2 reserved_is);
-    });
-    apart = subst (λ (ra : List Run). All (λ run. All (AreOfTwoEndsBut left_out run) (runs_of B (blocks (reflected r)))) ra) (sym (runs_of-blocks A (reflected r)))
-        (All-nil (λ run. All (AreOfTwoEndsBut left_out run) (runs_of B (blocks (reflected r)))));
-    one_a = subst (AllPairs (IsSameEndBut left_out)) (sym (runs_of-blocks A (reflected r))) (no_pairs (IsSameEndBut left_out));
-    one_b = subst (AllPairs (IsSameEndBut left_out)) (sym (runs_of-blocks B (reflected r))) (pair (IsSameEndBut left_out) first_run (run_r r) (record {
-      sci = λ d. refl;
-      ssci = λ d. of_last (λ x y. x.bytes ≡ y.bytes → is_xpn x.suite ≡ true → x.ssci ≡ y.ssci) first_run (run_r r) (key_at no_salt 1 2) (rx_key r) keys_s keys (λ same xpn. ssci d);
-    }));
-  }
+  reflected_peers =
+      two_runs_of_b left_out first_run (run_r r) (sender_sound sci_b other_sci) (receiver_sound (reserved_2 ∷ []) free_r r salted)
+      (of_last (λ x y. x.bytes ≡ y.bytes → AgreeOnKeyBut KeepsSuite KeepsSalt left_out x y) first_run (run_r r) (key_at no_salt 1 2) (rx_key r) keys_s keys (λ same. agree))
+      refl (is_durable reserved_2 reserved_is) (record {
+        sci = λ d. refl;
+        ssci = λ d. of_last (λ x y. x.bytes ≡ y.bytes → is_xpn x.suite ≡ true → x.ssci ≡ y.ssci) first_run (run_r r) (key_at no_salt 1 2) (rx_key r) keys_s keys (λ same xpn. ssci d);
+      })
 
   reflects : LawWithout left_out (blocks (reflected r)) → ⊥
   reflects =
@@ -631,11 +615,11 @@ module _ (left_out : Premise) (r : Receiver) (salted : has_salt (reserved_2 ∷ 
 
 pub same_ssci_needed : LawWithout KeepsSsci (blocks (reflected Same)) → ⊥
 same_ssci_needed =
-    reflects KeepsSsci Same refl (ap (λ (k : Keeping). k.secy.keys) (does_r Same).ends) refl (λ d. record { suite = refl; salt = λ xpn. refl }) (λ d. absurd (d refl))
+    reflects KeepsSsci Same refl (ap (λ (k : Keeping). k.secy.keys) (does_r Same).ends) refl (record { suite = λ d. refl; salt = λ d xpn. refl }) (λ d. absurd (d refl))
 
--- keys with the same octets have the same suite and own SSCI in both runs, and not the same salt
-pub kept_keys_needed : LawWithout KeepsKeys (blocks (reflected Turned)) → ⊥
-kept_keys_needed = reflects KeepsKeys Turned refl (ap (λ (k : Keeping). k.secy.keys) (does_r Turned).ends) refl (λ d. absurd (d refl)) (λ d. refl)
+pub kept_salt_needed : LawWithout KeepsSalt (blocks (reflected Turned)) → ⊥
+kept_salt_needed =
+    reflects KeepsSalt Turned refl (ap (λ (k : Keeping). k.secy.keys) (does_r Turned).ends) refl (record { suite = λ d. refl; salt = λ d. absurd (d refl) }) (λ d. refl)
 
 -- ---- the key has another salt at B, or none at both: B delivers A's frame with another packet number
 
@@ -662,12 +646,10 @@ sealed_a r =
 abbrev shifted : Receiver → List EndRun
 shifted r = (A, run_a r) ∷ (B, run_b r) ∷ []
 
-ends_apart : (left_out : Premise) (r : Receiver) → AgreeAtBothBut left_out (key_at (of_salt (sender_salt r)) 1 2) (rx_key r) → AreOfTwoEndsBut left_out (run_a r) (run_b r)
-ends_apart left_out r agree = record {
-  sci = scis_differ sci_a sci_b (λ differ. omega (arith, differ));
-  keys = of_last (λ x y. x.bytes ≡ y.bytes → AgreeAtBothBut left_out x y) (run_a r) (run_b r) (key_at (of_salt (sender_salt r)) 1 2) (rx_key r)
-      (ap (λ (k : Keeping). k.secy.keys) (does_a r).ends) (keys_at_end r) (λ same. agree);
-}
+ends_agree : (left_out : Premise) (r : Receiver) → AgreeOnKeyBut HasOneSuite HasOneSalt left_out (key_at (of_salt (sender_salt r)) 1 2) (rx_key r) → AgreeAtBothBut left_out (run_a r) (run_b r)
+ends_agree left_out r agree =
+    of_last (λ x y. x.bytes ≡ y.bytes → AgreeOnKeyBut HasOneSuite HasOneSalt left_out x y) (run_a r) (run_b r) (key_at (of_salt (sender_salt r)) 1 2) (rx_key r)
+    (ap (λ (k : Keeping). k.secy.keys) (does_a r).ends) (keys_at_end r) (λ same. agree)
   where
     keys_at_end : (r' : Receiver) → (closing (run_b r')).secy.keys ≡ rx_key r' ∷ []
     keys_at_end Same = ap (λ (k : Keeping). k.secy.keys) (does_b Same).ends
@@ -695,7 +677,7 @@ same_salt_needed =
     refuted HasOneSalt (shifted Salted) (sent_1 Zeros ∷ []) (delivery Salted ∷ [])
     (own_a, (((λ d. nothing_saved (run_b Salted).journal), receiver_steps [] free_b HasOneSalt Salted (run_b Salted) refl (sealed_in_all (run_a Salted ∷ []) ++ sealed_in_all []) (sealed_a Salted)), tt))
     (one_run_each HasOneSalt (run_a Salted) (run_b Salted) (λ d. sender_sound sci_a own_sci) (λ d. receiver_sound [] free_b Salted refl)
-    (ends_apart HasOneSalt Salted (record { suite = λ d. refl; salt = λ d. absurd (d refl); ssci = λ xpn. λ same. omega (arith, same) })))
+    (ends_agree HasOneSalt Salted (record { suite = λ d. refl; salt = λ d. absurd (d refl) })))
     (ap (λ (xs : List SentIn). xs ++ []) (does_a Salted).sends) (ap (λ (xs : List Delivery). xs ++ []) (does_b Salted).delivers)
     (not_of_other (2 ^ 32 + 1) 1 (client 1) (client 1) (λ same. omega (arith, same)))
 
@@ -705,6 +687,6 @@ soundness_needed =
     refuted StaysSoundAlways (shifted Unsalted) (sent_1 Empty ∷ []) (delivery Unsalted ∷ [])
     (own_unsalted, (((λ d. nothing_saved (run_b Unsalted).journal), receiver_steps [] free_b StaysSoundAlways Unsalted (run_b Unsalted) refl (sealed_in_all (run_a Unsalted ∷ []) ++ sealed_in_all []) (sealed_a Unsalted)), tt))
     (one_run_each StaysSoundAlways (run_a Unsalted) (run_b Unsalted) (λ d. absurd (d refl)) (λ d. absurd (d refl))
-    (ends_apart StaysSoundAlways Unsalted (record { suite = λ d. refl; salt = λ d xpn. refl; ssci = λ xpn. λ same. omega (arith, same) })))
+    (ends_agree StaysSoundAlways Unsalted (record { suite = λ d. refl; salt = λ d xpn. refl })))
     (ap (λ (xs : List SentIn). xs ++ []) (does_a Unsalted).sends) (ap (λ (xs : List Delivery). xs ++ []) (does_b Unsalted).delivers)
     (not_of_other (2 ^ 32 + 1) 1 (client 1) (client 1) (λ same. omega (arith, same)))

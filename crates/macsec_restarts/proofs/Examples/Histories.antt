@@ -9,17 +9,16 @@ use Rattle.macsec_link.specs.Origin.{IsSubsequence}
 use Rattle.macsec_reserve.specs.Histories.{AgreeOnKey, AgreeOnKeys, IsHistory, KeepsDurable, Run, SameSalt, closing, opening, sealed_in_all}
 use Rattle.macsec_reserve.specs.Journal.{highest, receiving_name, reservations, salt_of, sending_name}
 use Rattle.macsec_reserve.specs.Keeping.{Keeping}
-use Rattle.macsec_reserve.specs.TwoEnds.{AgreeAtBoth, AreOfTwoEnds}
 use Rattle.macsec_reserve.proofs.Pairs.{one_alone}
 use Rattle.macsec_counterexamples.proofs.Link.Exchange.{key_row}
-use Rattle.macsec_counterexamples.proofs.Link.WorkedEnds.{bytes, only, sci_a, sci_b, scis_differ}
+use Rattle.macsec_counterexamples.proofs.Link.WorkedEnds.{bytes, only, sci_a, sci_b}
 use Rattle.macsec_restarts.specs.Delivered.{Delivery, delivered_at, delivered_in_all}
 use Rattle.macsec_restarts.specs.Happenings.{AtEach, runs_of}
 use Rattle.macsec_restarts.specs.Order.{IsOrderly, SavedIn, delivered_so_far, numbered_delivery, numbered_sent}
 use Rattle.macsec_restarts.specs.Peers.{ArePeers, IsSameEnd}
 use Rattle.macsec_restarts.specs.Sent.{SentIn, sent_in_all, sent_under}
 use Rattle.macsec_restarts.proofs.Examples.Blocks.{AreMet, EndRun, Told, blocks, met, of_end, runs_of-blocks}
-use Rattle.macsec_restarts.proofs.Examples.Premises.{AreOfTwoEndsBut, ArePeersBut, IsHistoryBut, IsSameEndBut, LawWithout, NoPremise, Premise, StaysSoundAlways, each_suffices, history_but, peers_suffice, same_end_but, two_ends_but}
+use Rattle.macsec_restarts.proofs.Examples.Premises.{AgreeAtBothBut, AgreeInRunsBut, ArePeersBut, HasOneSalt, HasOneSuite, IsHistoryBut, IsSameEndBut, LawWithout, NoPremise, Premise, StaysSoundAlways, each_suffices, history_but, keys_but, peers_suffice, same_end_but}
 use Rattle.macsec_restarts.proofs.Sends.{seal_of_sent, seals_of_runs}
 use Rattle.macsec_restarts.proofs.SoundRuns.{IsSoundRun}
 
@@ -56,12 +55,6 @@ same_runs ssci sci p q a b = record {
   ssci = of_keys (λ x y. x.bytes ≡ y.bytes → is_xpn x.suite ≡ true → x.ssci ≡ y.ssci) ssci ssci sci sci p q a b (λ n m same xpn. refl);
 }
 
-apart : (p q : Run) → IsRunOf 1 sci_a p → IsRunOf 2 sci_b q → AreOfTwoEnds p q
-apart p q a b = record {
-  sci = λ same. scis_differ sci_a sci_b (λ octets. omega (arith, octets)) (sym a.of_sci ∙ same ∙ b.of_sci);
-  keys = of_keys (λ x y. x.bytes ≡ y.bytes → AgreeAtBoth x y) 1 2 sci_a sci_b p q a b (λ n m same. record { agree = record { suite = refl; salt = λ xpn. refl }; ssci = λ xpn. cc });
-}
-
 -- ---- all runs
 
 pairs_of_all : {X : Type 0} (P : X → Type 0) (R : X → X → Type 0) → ((x y : X) → P x → P y → R x y) → (xs : List X) → All P xs → AllPairs R xs
@@ -84,10 +77,11 @@ peers_of left_out its ra past_a rb past_b =
     record {
       a = subst (IsHistoryBut left_out) a past_a;
       b = subst (IsHistoryBut left_out) b past_b;
-      apart = subst (λ (rs : List Run). All (λ run. All (AreOfTwoEndsBut left_out run) (runs_of B (blocks its))) rs) a
-          (subst (λ (rs : List Run). All (λ run. All (AreOfTwoEndsBut left_out run) rs) (of_end A its)) b
-          (All-weaker (IsRunOf 1 sci_a) (λ run. All (AreOfTwoEndsBut left_out run) (of_end B its))
-          (λ run it. All-weaker (IsRunOf 2 sci_b) (AreOfTwoEndsBut left_out run) (λ other it'. two_ends_but left_out run other (apart run other it it')) (of_end B its) rb) (of_end A its) ra));
+      agree = subst (λ (rs : List Run). All (λ run. All (AgreeAtBothBut left_out run) (runs_of B (blocks its))) rs) a
+          (subst (λ (rs : List Run). All (λ run. All (AgreeAtBothBut left_out run) rs) (of_end A its)) b
+          (All-weaker (IsRunOf 1 sci_a) (λ run. All (AgreeAtBothBut left_out run) (of_end B its))
+          (λ run it. All-weaker (IsRunOf 2 sci_b) (AgreeAtBothBut left_out run)
+          (λ other it'. keys_but HasOneSuite HasOneSalt left_out run other (agree 1 2 sci_a sci_b run other it it')) (of_end B its) rb) (of_end A its) ra));
       one_a = subst (AllPairs (IsSameEndBut left_out)) a
           (pairs_of_all (IsRunOf 1 sci_a) (IsSameEndBut left_out) (λ p q x y. same_end_but left_out p q (same_runs 1 sci_a p q x y)) (of_end A its) ra);
       one_b = subst (AllPairs (IsSameEndBut left_out)) b
@@ -104,23 +98,23 @@ peers left_out its ra salt_a durable_a rb salt_b durable_b =
 one_history : (left_out : Premise) (run : Run) → (StaysSoundAlways ≢ left_out → IsSoundRun run) → IsHistoryBut left_out (run ∷ [])
 one_history left_out run sound = record {
   sound = λ d. All-cons IsSoundRun run [] (sound d) (All-nil IsSoundRun);
-  agree = λ d. one_alone AgreeOnKeys run;
+  agree = one_alone (AgreeInRunsBut left_out) run;
   salt = λ d. one_alone SameSalt run;
   durable = λ d. one_alone KeepsDurable run;
 }
 
-pub one_run_each : (left_out : Premise) (a b : Run) → (StaysSoundAlways ≢ left_out → IsSoundRun a) → (StaysSoundAlways ≢ left_out → IsSoundRun b) → AreOfTwoEndsBut left_out a b →
+pub one_run_each : (left_out : Premise) (a b : Run) → (StaysSoundAlways ≢ left_out → IsSoundRun a) → (StaysSoundAlways ≢ left_out → IsSoundRun b) → AgreeAtBothBut left_out a b →
     ArePeersBut left_out (blocks ((A, a) ∷ (B, b) ∷ []))
-one_run_each left_out a b sound sound' apart' =
+one_run_each left_out a b sound sound' agree' =
     let its : List EndRun = (A, a) ∷ (B, b) ∷ [] in
     record {
       a = subst (IsHistoryBut left_out) (sym (runs_of-blocks A its)) (one_history left_out a sound);
       b = subst (IsHistoryBut left_out) (sym (runs_of-blocks B its)) (one_history left_out b sound');
-      apart = subst (λ (ra : List Run). All (λ run. All (AreOfTwoEndsBut left_out run) (runs_of B (blocks its))) ra) (sym (runs_of-blocks A its))
-          (subst (λ (rb : List Run). All (λ run. All (AreOfTwoEndsBut left_out run) rb) (a ∷ [])) (sym (runs_of-blocks B its))
-          (All-cons (λ run. All (AreOfTwoEndsBut left_out run) (b ∷ [])) a []
-          (All-cons (AreOfTwoEndsBut left_out a) b [] apart' (All-nil (AreOfTwoEndsBut left_out a)))
-          (All-nil (λ run. All (AreOfTwoEndsBut left_out run) (b ∷ [])))));
+      agree = subst (λ (ra : List Run). All (λ run. All (AgreeAtBothBut left_out run) (runs_of B (blocks its))) ra) (sym (runs_of-blocks A its))
+          (subst (λ (rb : List Run). All (λ run. All (AgreeAtBothBut left_out run) rb) (a ∷ [])) (sym (runs_of-blocks B its))
+          (All-cons (λ run. All (AgreeAtBothBut left_out run) (b ∷ [])) a []
+          (All-cons (AgreeAtBothBut left_out a) b [] agree' (All-nil (AgreeAtBothBut left_out a)))
+          (All-nil (λ run. All (AgreeAtBothBut left_out run) (b ∷ [])))));
       one_a = subst (AllPairs (IsSameEndBut left_out)) (sym (runs_of-blocks A its)) (one_alone (IsSameEndBut left_out) a);
       one_b = subst (AllPairs (IsSameEndBut left_out)) (sym (runs_of-blocks B its)) (one_alone (IsSameEndBut left_out) b);
     }

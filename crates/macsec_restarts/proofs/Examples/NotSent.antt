@@ -19,7 +19,7 @@ use Rattle.macsec_secy.specs.State.{State}
 use Rattle.macsec_secy.specs.Step.{link_frame, step}
 use Rattle.macsec_secy.proofs.StaysSound.{after_effect}
 use Rattle.macsec_link.specs.Origin.{IsSubsequence}
-use Rattle.macsec_reserve.specs.Histories.{AgreeOnKeys, KeepsDurable, Run, SameSalt, opening, sealed_in_all}
+use Rattle.macsec_reserve.specs.Histories.{KeepsDurable, Run, SameSalt, opening, sealed_in_all}
 use Rattle.macsec_reserve.specs.Journal.{highest, sending_name}
 use Rattle.macsec_reserve.specs.Keeping.{Keeping, KeepingInput, keeping_after, keeping_step}
 use Rattle.macsec_reserve.proofs.HighestOf.{highest_of_one}
@@ -34,9 +34,9 @@ use Rattle.macsec_restarts.specs.Delivered.{Delivery, delivered_at, delivered_in
 use Rattle.macsec_restarts.specs.Happenings.{runs_of}
 use Rattle.macsec_restarts.specs.Order.{SavedIn}
 use Rattle.macsec_restarts.specs.Sent.{SentIn}
-use Rattle.macsec_restarts.proofs.Examples.Blocks.{AreOwn, AreSteps, Told, after_own, blocks, no_step, runs_of-blocks, step_next, told_end, told_next}
-use Rattle.macsec_restarts.proofs.Examples.Histories.{IsRunOf, agree, history, nothing_saved, of_keys, peers, refuted, run_told, seals_are}
-use Rattle.macsec_restarts.proofs.Examples.Premises.{AreOfTwoEndsBut, IsHistoryBut, IsNotForged, IsSameEndBut, IsStrict, KeepsSci, LawWithout, Premise, history_but}
+use Rattle.macsec_restarts.proofs.Examples.Blocks.{AreOwn, AreSteps, EndRun, Told, after_own, blocks, no_step, runs_of-blocks, step_next, told_end, told_next}
+use Rattle.macsec_restarts.proofs.Examples.Histories.{IsRunOf, agree, nothing_saved, of_keys, peers, refuted, run_told, seals_are}
+use Rattle.macsec_restarts.proofs.Examples.Premises.{AgreeAtBothBut, AgreeInRunsBut, ArePeersBut, IsHistoryBut, IsNotForged, IsSameEndBut, IsStrict, KeepsSalt, KeepsSci, KeepsSuite, LawWithout, Premise, keys_but}
 use Rattle.macsec_restarts.proofs.Examples.Receivers as receiver
 use Rattle.macsec_restarts.proofs.Examples.Tags.{octets_1}
 use Rattle.macsec_restarts.proofs.SoundRuns.{IsSoundRun}
@@ -171,6 +171,27 @@ strict_needed =
         (receiver.told (salt false) (reads []) false (disables ∷ []) [] (at_b disabled) free_b
         (told_next (at_b (receiver.ready false)) (at_b disabled) (at_b disabled) disables [] [] [] [] [] (receiver.ready_sound false) refl refl does (told_end (at_b disabled) disabled_sound))).ends
 
+-- ---- two runs of B, and none of A
+
+pub two_runs_of_b : (left_out : Premise) (s r : Run) → IsSoundRun s → IsSoundRun r → AgreeInRunsBut left_out s r → SameSalt s r → KeepsDurable s r → IsSameEndBut left_out s r →
+    ArePeersBut left_out (blocks ((B, s) ∷ (B, r) ∷ []))
+two_runs_of_b left_out s r sound sound' agree' salts durable same =
+    let its : List EndRun = (B, s) ∷ (B, r) ∷ [] in
+    record {
+      a = subst (IsHistoryBut left_out) (sym (runs_of-blocks A its))
+          (record { sound = λ d. All-nil IsSoundRun; agree = no_pairs (AgreeInRunsBut left_out); salt = λ d. no_pairs SameSalt; durable = λ d. no_pairs KeepsDurable });
+      b = subst (IsHistoryBut left_out) (sym (runs_of-blocks B its)) (record {
+        sound = λ d. both IsSoundRun s r sound sound';
+        agree = pair (AgreeInRunsBut left_out) s r agree';
+        salt = λ d. pair SameSalt s r salts;
+        durable = λ d. pair KeepsDurable s r durable;
+      });
+      agree = subst (λ (ra : List Run). All (λ run. All (AgreeAtBothBut left_out run) (runs_of B (blocks its))) ra) (sym (runs_of-blocks A its))
+          (All-nil (λ run. All (AgreeAtBothBut left_out run) (runs_of B (blocks its))));
+      one_a = subst (AllPairs (IsSameEndBut left_out)) (sym (runs_of-blocks A its)) (no_pairs (IsSameEndBut left_out));
+      one_b = subst (AllPairs (IsSameEndBut left_out)) (sym (runs_of-blocks B its)) (pair (IsSameEndBut left_out) s r same);
+    }
+
 -- ---- it changes its SCI: B sends the frame in its first run, and its second run delivers it
 
 module _ (s r : Run) (sends : Facts 1 sci_a s (sender.sent false) []) (receives : Facts 2 sci_b r [] (receiver.delivery 1 ∷ [])) where
@@ -197,23 +218,10 @@ module _ (s r : Run) (sends : Facts 1 sci_a s (sender.sent false) []) (receives 
           tt,
         ),
       )
-      (record {
-        a = subst (IsHistoryBut KeepsSci) (sym (runs_of-blocks A ((B, s) ∷ (B, r) ∷ [])))
-            (history_but KeepsSci [] (history 1 sci_a [] (All-nil (IsRunOf 1 sci_a)) (no_pairs SameSalt) (no_pairs KeepsDurable)));
-        b = subst (IsHistoryBut KeepsSci) (sym (runs_of-blocks B ((B, s) ∷ (B, r) ∷ []))) (record {
-          sound = λ d. both IsSoundRun s r sends.of.sound receives.of.sound;
-          agree = λ d. pair AgreeOnKeys s r (agree 1 2 sci_a sci_b s r sends.of receives.of);
-          salt = λ d. pair SameSalt s r salts;
-          durable = λ d. pair KeepsDurable s r durable;
-        });
-        apart = subst (λ (ra : List Run). All (λ run. All (AreOfTwoEndsBut KeepsSci run) (runs_of B (blocks ((B, s) ∷ (B, r) ∷ [])))) ra) (sym (runs_of-blocks A ((B, s) ∷ (B, r) ∷ [])))
-            (All-nil (λ run. All (AreOfTwoEndsBut KeepsSci run) (runs_of B (blocks ((B, s) ∷ (B, r) ∷ [])))));
-        one_a = subst (AllPairs (IsSameEndBut KeepsSci)) (sym (runs_of-blocks A ((B, s) ∷ (B, r) ∷ []))) (no_pairs (IsSameEndBut KeepsSci));
-        one_b = subst (AllPairs (IsSameEndBut KeepsSci)) (sym (runs_of-blocks B ((B, s) ∷ (B, r) ∷ []))) (pair (IsSameEndBut KeepsSci) s r (record {
-          sci = λ d. absurd (d refl);
-          ssci = λ d. of_keys (λ x y. x.bytes ≡ y.bytes → is_xpn x.suite ≡ true → x.ssci ≡ y.ssci) 1 2 sci_a sci_b s r sends.of receives.of (λ n m same xpn. cc);
-        }));
-      })
+      (two_runs_of_b KeepsSci s r sends.of.sound receives.of.sound (keys_but KeepsSuite KeepsSalt KeepsSci s r (agree 1 2 sci_a sci_b s r sends.of receives.of)) salts durable (record {
+        sci = λ d. absurd (d refl);
+        ssci = λ d. of_keys (λ x y. x.bytes ≡ y.bytes → is_xpn x.suite ≡ true → x.ssci ≡ y.ssci) 1 2 sci_a sci_b s r sends.of receives.of (λ n m same xpn. cc);
+      }))
       refl
       (ap (λ (xs : List Delivery). xs ++ delivered_in_all (r ∷ [])) sends.told.delivers ∙ ap (λ (xs : List Delivery). xs ++ []) receives.told.delivers)
       (not_of_none (1 ∷ client 1))

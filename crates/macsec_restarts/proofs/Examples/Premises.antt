@@ -11,7 +11,6 @@ use Rattle.macsec_commands.specs.declared.mode.Mode.TheVariants.{Strict}
 use Rattle.macsec_secy.specs.State.{State}
 use Rattle.macsec_reserve.specs.Histories.{AgreeOnKeys, IsHistory, KeepsDurable, Run, SameSalt, StaysSound, closing, opening}
 use Rattle.macsec_reserve.specs.Keeping.{KeepingInput, keeping_step}
-use Rattle.macsec_reserve.specs.TwoEnds.{AreOfTwoEnds}
 use Rattle.macsec_restarts.specs.Delivered.{Delivery, delivered_at, newly_delivered}
 use Rattle.macsec_restarts.specs.Happenings.{AtEach, Happening, begins, comes_in, last_run, runs_of, same_end}
 use Rattle.macsec_restarts.specs.Order.{ComesInOrder, CreatesAbove, IsOrderedAt, IsOrderedInput, IsOrderly, SavedIn, delivered_in, delivered_so_far}
@@ -26,7 +25,8 @@ pub data Premise : Type 0 where
   HasWindowOf0 : Premise
   KeepsSci : Premise
   KeepsSsci : Premise
-  KeepsKeys : Premise
+  KeepsSuite : Premise
+  KeepsSalt : Premise
   HasOneSalt : Premise
   HasOneSuite : Premise
   StaysSoundAlways : Premise
@@ -60,25 +60,33 @@ pub record IsSameEndBut (left_out : Premise) (run later : Run) : Type 0 where
   pub ssci : KeepsSsci ≢ left_out → (x y : InstalledKey) → Contains (closing run).secy.keys x → Contains (closing later).secy.keys y → x.bytes ≡ y.bytes →
       is_xpn x.suite ≡ true → x.ssci ≡ y.ssci
 
-pub record AgreeAtBothBut (left_out : Premise) (x y : InstalledKey) : Type 0 where
-  pub suite : HasOneSuite ≢ left_out → x.suite ≡ y.suite
-  pub salt : HasOneSalt ≢ left_out → is_xpn x.suite ≡ true → x.salt ≡ y.salt
-  pub ssci : is_xpn x.suite ≡ true → x.ssci ≢ y.ssci
+-- keys of the same octets agree in two runs, where the suite is one premise, and the salt another
+pub record AgreeOnKeyBut (of_suite of_salt left_out : Premise) (x y : InstalledKey) : Type 0 where
+  pub suite : of_suite ≢ left_out → x.suite ≡ y.suite
+  pub salt : of_salt ≢ left_out → is_xpn x.suite ≡ true → x.salt ≡ y.salt
 
-pub record AreOfTwoEndsBut (left_out : Premise) (run other : Run) : Type 0 where
-  pub sci : run.config.sci ≢ other.config.sci
-  pub keys : (x y : InstalledKey) → Contains (closing run).secy.keys x → Contains (closing other).secy.keys y → x.bytes ≡ y.bytes → AgreeAtBothBut left_out x y
+abbrev pub AgreeOnKeysBut : Premise → Premise → Premise → Run → Run → Type 0
+AgreeOnKeysBut of_suite of_salt left_out run later =
+    (x y : InstalledKey) → Contains (closing run).secy.keys x → Contains (closing later).secy.keys y → x.bytes ≡ y.bytes → AgreeOnKeyBut of_suite of_salt left_out x y
+
+-- in two runs of one end
+abbrev pub AgreeInRunsBut : Premise → Run → Run → Type 0
+AgreeInRunsBut left_out run later = AgreeOnKeysBut KeepsSuite KeepsSalt left_out run later
+
+-- in a run of one end and a run of the other
+abbrev pub AgreeAtBothBut : Premise → Run → Run → Type 0
+AgreeAtBothBut left_out run other = AgreeOnKeysBut HasOneSuite HasOneSalt left_out run other
 
 pub record IsHistoryBut (left_out : Premise) (runs : List Run) : Type 0 where
   pub sound : StaysSoundAlways ≢ left_out → All (λ run. StaysSound (opening run) run.inputs) runs
-  pub agree : KeepsKeys ≢ left_out → AllPairs AgreeOnKeys runs
+  pub agree : AllPairs (AgreeInRunsBut left_out) runs
   pub salt : ReadsSalt ≢ left_out → AllPairs SameSalt runs
   pub durable : ReadsDurable ≢ left_out → AllPairs KeepsDurable runs
 
 pub record ArePeersBut (left_out : Premise) (events : List Happening) : Type 0 where
   pub a : IsHistoryBut left_out (runs_of A events)
   pub b : IsHistoryBut left_out (runs_of B events)
-  pub apart : All (λ run. All (AreOfTwoEndsBut left_out run) (runs_of B events)) (runs_of A events)
+  pub agree : All (λ run. All (AgreeAtBothBut left_out run) (runs_of B events)) (runs_of A events)
   pub one_a : AllPairs (IsSameEndBut left_out) (runs_of A events)
   pub one_b : AllPairs (IsSameEndBut left_out) (runs_of B events)
 
@@ -112,38 +120,43 @@ each_suffices e bytes sci an before (h ∷ more) each = (
 same_end_suffices : (run later : Run) → IsSameEndBut NoPremise run later → IsSameEnd run later
 same_end_suffices run later is = record { sci = is.sci (λ none. cc); ssci = is.ssci (λ none. cc) }
 
-two_ends_suffice : (run other : Run) → AreOfTwoEndsBut NoPremise run other → AreOfTwoEnds run other
-two_ends_suffice run other are = record {
-  sci = are.sci;
-  keys = λ x y here there bytes.
-      let it = are.keys x y here there bytes in
-      record { agree = record { suite = it.suite (λ none. cc); salt = it.salt (λ none. cc) }; ssci = it.ssci };
-}
+keys_suffice : (of_suite of_salt : Premise) → of_suite ≢ NoPremise → of_salt ≢ NoPremise → (run later : Run) → AgreeOnKeysBut of_suite of_salt NoPremise run later → AgreeOnKeys run later
+keys_suffice of_suite of_salt has_suite has_salt run later are x y here there bytes =
+    let it = are x y here there bytes in
+    record { suite = it.suite has_suite; salt = it.salt has_salt }
 
 history_suffices : (runs : List Run) → IsHistoryBut NoPremise runs → IsHistory runs
-history_suffices runs is = record { sound = is.sound (λ none. cc); agree = is.agree (λ none. cc); salt = is.salt (λ none. cc); durable = is.durable (λ none. cc) }
+history_suffices runs is = record {
+  sound = is.sound (λ none. cc);
+  agree = λ i j d less within. keys_suffice KeepsSuite KeepsSalt (λ none. cc) (λ none. cc) (get_or runs i d) (get_or runs j d) (is.agree i j d less within);
+  salt = is.salt (λ none. cc);
+  durable = is.durable (λ none. cc);
+}
 
 pub peers_suffice : (events : List Happening) → ArePeersBut NoPremise events → ArePeers events
 peers_suffice events is = record {
   a = history_suffices (runs_of A events) is.a;
   b = history_suffices (runs_of B events) is.b;
-  apart = All-weaker (λ run. All (AreOfTwoEndsBut NoPremise run) (runs_of B events)) (λ run. All (AreOfTwoEnds run) (runs_of B events))
-      (λ run all. All-weaker (AreOfTwoEndsBut NoPremise run) (AreOfTwoEnds run) (two_ends_suffice run) (runs_of B events) all) (runs_of A events) is.apart;
+  agree = All-weaker (λ run. All (AgreeAtBothBut NoPremise run) (runs_of B events)) (λ run. All (AgreeOnKeys run) (runs_of B events))
+      (λ run all. All-weaker (AgreeAtBothBut NoPremise run) (AgreeOnKeys run) (λ other are. keys_suffice HasOneSuite HasOneSalt (λ none. cc) (λ none. cc) run other are) (runs_of B events) all)
+      (runs_of A events) is.agree;
   one_a = λ i j d less within. same_end_suffices (get_or (runs_of A events) i d) (get_or (runs_of A events) j d) (is.one_a i j d less within);
   one_b = λ i j d less within. same_end_suffices (get_or (runs_of B events) i d) (get_or (runs_of B events) j d) (is.one_b i j d less within);
 }
 
 -- and each of them suffices without another
+pub keys_but : (of_suite of_salt left_out : Premise) (run later : Run) → AgreeOnKeys run later → AgreeOnKeysBut of_suite of_salt left_out run later
+keys_but of_suite of_salt left_out run later are x y here there bytes =
+    let it = are x y here there bytes in
+    record { suite = λ d. it.suite; salt = λ d. it.salt }
+
 pub history_but : (left_out : Premise) (runs : List Run) → IsHistory runs → IsHistoryBut left_out runs
-history_but left_out runs is = record { sound = λ d. is.sound; agree = λ d. is.agree; salt = λ d. is.salt; durable = λ d. is.durable }
+history_but left_out runs is = record {
+  sound = λ d. is.sound;
+  agree = λ i j d less within. keys_but KeepsSuite KeepsSalt left_out (get_or runs i d) (get_or runs j d) (is.agree i j d less within);
+  salt = λ d. is.salt;
+  durable = λ d. is.durable;
+}
 
 pub same_end_but : (left_out : Premise) (run later : Run) → IsSameEnd run later → IsSameEndBut left_out run later
 same_end_but left_out run later is = record { sci = λ d. is.sci; ssci = λ d. is.ssci }
-
-pub two_ends_but : (left_out : Premise) (run other : Run) → AreOfTwoEnds run other → AreOfTwoEndsBut left_out run other
-two_ends_but left_out run other are = record {
-  sci = are.sci;
-  keys = λ x y here there bytes.
-      let it = are.keys x y here there bytes in
-      record { suite = λ d. it.agree.suite; salt = λ d. it.agree.salt; ssci = it.ssci };
-}

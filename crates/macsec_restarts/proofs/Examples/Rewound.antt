@@ -20,7 +20,7 @@ use Rattle.macsec_link.specs.Origin.{IsSubsequence}
 use Rattle.macsec_reserve.specs.declared.reservation.Reservation.{Reservation}
 use Rattle.macsec_reserve.specs.Crashes.{IsReservation}
 use Rattle.macsec_reserve.specs.Entries.{reduced}
-use Rattle.macsec_reserve.specs.Histories.{AgreeOnKeys, KeepsDurable, Run, SameSalt, opening, sealed_in_all}
+use Rattle.macsec_reserve.specs.Histories.{KeepsDurable, Run, SameSalt, opening, sealed_in_all}
 use Rattle.macsec_reserve.specs.Journal.{highest, reservations, sending_name}
 use Rattle.macsec_reserve.specs.Keeping.{Keeping, KeepingInput, keeping_after, keeping_step}
 use Rattle.macsec_reserve.proofs.HighestOf.{highest_of_one}
@@ -37,7 +37,7 @@ use Rattle.macsec_restarts.specs.Sent.{SentIn, sent_in_all}
 use Rattle.macsec_restarts.proofs.SoundRuns.{IsSoundRun}
 use Rattle.macsec_restarts.proofs.Examples.Blocks.{AreOwn, AreSteps, IsStep, Told, after_own, blocks, no_step, step_next, told_end, told_next}
 use Rattle.macsec_restarts.proofs.Examples.Histories.{IsRunOf, agree, history, nothing_saved, peers_of, refuted, run_told, seals_are}
-use Rattle.macsec_restarts.proofs.Examples.Premises.{LawWithout, Premise, ReadsDurable, ReadsSalt, history_but}
+use Rattle.macsec_restarts.proofs.Examples.Premises.{AgreeInRunsBut, KeepsSalt, KeepsSuite, LawWithout, Premise, ReadsDurable, ReadsSalt, history_but, keys_but}
 use Rattle.macsec_restarts.proofs.Examples.Receivers as receiver
 use Rattle.macsec_restarts.proofs.Examples.Senders as sender
 use Rattle.macsec_restarts.proofs.Examples.Tags.{octets_1, octets_3}
@@ -90,7 +90,7 @@ module _ (left_out : Premise) (a a' b : Run) (first : Facts 1 sci_a a (sender.se
       (peers_of left_out ((A, a) ∷ (A, a') ∷ (B, b) ∷ []) (both (IsRunOf 1 sci_a) a a' first.of second.of)
       (record {
         sound = λ d. both IsSoundRun a a' first.of.sound second.of.sound;
-        agree = λ d. pair AgreeOnKeys a a' (agree 1 1 sci_a sci_a a a' first.of second.of);
+        agree = pair (AgreeInRunsBut left_out) a a' (keys_but KeepsSuite KeepsSalt left_out a a' (agree 1 1 sci_a sci_a a a' first.of second.of));
         salt = λ d. pair SameSalt a a' (same d);
         durable = λ d. pair KeepsDurable a a' (durable d);
       })
