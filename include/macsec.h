@@ -29,7 +29,7 @@
  *            nothing.
  * NUMBERS    Integers are in host byte order. SCIs, keys and salts are octets in the order in which the standard
  *            writes them: an SCI is the six octets of a MAC address and two of a port number.
- * STATUS     Each call with a handle, except macsec_free, returns a status: MACSEC_OK, or why nothing was done
+ * STATUS     Each call with a handle, except those that free it, returns a status: MACSEC_OK, or why nothing was done
  *            (MACSEC_E_..). In the second case nothing has changed, and the caller's output structs are unchanged,
  *            except that a macsec_sent, a macsec_received, the line of macsec_configure and of
  *            macsec_reserve_configure, and the answer of macsec_answer are always filled in. The handle is tested first
@@ -709,8 +709,8 @@ static inline uint32_t macsec_reserve_open(macsec_endpoint *e, const macsec_conf
 uint32_t macsec_reserve_configure_raw(macsec_endpoint *e, const uint8_t *text, size_t text_length,
                                       const uint8_t *journal, size_t journal_length, bool ahead, uint32_t *line);
 /* As macsec_configure, with a journal, and with `ahead` as for macsec_reserve_open. A fault of the text comes first,
- * then MACSEC_E_NOT_JOURNAL with `line` 0. A `txsa` or `rxsa` at a number that an earlier run may have used is refused,
- * and then there is no endpoint. */
+ * then MACSEC_E_NOT_JOURNAL with `line` 0. A `txsa` or `rxsa` at a number that an earlier run reserved or saved is
+ * refused, and then there is no endpoint. */
 static inline uint32_t macsec_reserve_configure(macsec_endpoint *e, const uint8_t *text, size_t text_length,
                                                 const uint8_t *journal, size_t length, bool ahead, uint32_t *line) {
     return macsec_reserve_configure_raw(e, macsec_octets(text, text_length), text_length,

@@ -159,8 +159,8 @@ class SecY:
     one of the processes may send by it. Never give two endpoints that send the same key and packet number.
 
     `journal` is all octets of a journal's file. With it the endpoint uses only packet numbers that a record reserves,
-    and begins no association at a number that an earlier run reserved. It creates no receive association again at a
-    number that it may have accepted from it. include/macsec.h says how to keep the file.
+    and begins no association at a number that an earlier run reserved or saved. It creates no receive association again
+    below its lowest acceptable number. include/macsec.h says how to keep the file.
 
     With `ahead` the endpoint also accepts only packet numbers that a record reserves, so it accepts no frame again that
     an earlier run accepted, whatever the moment at which that run ended. Its caller then has to write records for its
@@ -403,7 +403,7 @@ class SecY:
         sender's.
 
         With a journal `pn` must be above `reserve_rx_floor`, else it is refused: an association that was deleted does
-        not begin again at a number that it may have accepted.
+        not begin again below its lowest acceptable number.
         """
         numbers = number_of(an, 8, "an"), number_of(key, 16, "key"), number_of(pn, 64, "pn")
         self._call("add_rx_sa", sci_of(sci), *numbers, number_of(ssci, 32, "ssci"))
@@ -461,8 +461,8 @@ class SecY:
         return int(self._shown(ctypes.c_uint64, "reserve_tx_floor", number_of(key, 16, "key")).value)
 
     def reserve_rx_floor(self, sci: SciLike, an: int, key: int) -> int:
-        """The highest packet number of a receive association under a key that earlier runs reserved or saved, or that
-        this run may have accepted before it deleted the association; 0 if none. The association begins above it."""
+        """The highest packet number of a receive association under a key that earlier runs reserved or saved, or the
+        one below its lowest acceptable one where this run deleted it; 0 if none. The association begins above it."""
         words = sci_of(sci), number_of(an, 8, "an"), number_of(key, 16, "key")
         return int(self._shown(ctypes.c_uint64, "reserve_rx_floor", *words).value)
 

@@ -10,8 +10,8 @@ use Rattle.macsec_secy.specs.Step.{frame_fault, link_frame, received, sending_of
 use Rattle.macsec_reserve.specs.Keeping.{Keeping, endpoint_input, endpoint_output, keeping_step}
 
 -- the premises are the ones for a single run (`CanAccept`). So a restart of the sender only skips packet numbers: under an
--- XPN suite fewer than 2^31, lost frames included. A restart of the receiver costs the frames below the lowest number at
--- which the SA was created again, and the frames that come in before it is enabled
+-- XPN suite fewer than 2^31 less the replay window, lost frames included. A restart of the receiver costs the frames below
+-- the lowest number at which the SA was created again, and the frames that come in before it is enabled
 abbrev pub AcceptsInTime : Keeping → Keeping → List ℕ → TxRow → RxRow → List ℕ → Type 0
 AcceptsInTime sender receiver client tx rx behind =
     IsSound sender.secy → IsSound receiver.secy → frame_fault client ≡ None → (sending_of sender.secy client).by ≡ Some tx →
