@@ -8,12 +8,17 @@ from house.processors import KINDS, WIDER, runs
 from house.written import table
 
 # What a check needs, in the order in which the gate makes it: nothing but sources; the compiler of `rt`, its log, or the
-# crates that it has proved; the program, also as Rattle's own compiler builds it; the libraries for C; and all of these.
+# crates that it has proved; the program, also as Rattle's own compiler builds it; the libraries for C; what is built of
+# these, and no check that writes into build/ beside it.
 NOTHING, TOOLCHAIN, LOG, PROVED = "nothing", "rt", "the log of rt ci", "proved crates"
-PROGRAM, PROGRAMS, LIBRARY, ROOT_USER, ALL = "program", "both programs", "library", "library, root", "all of these"
+PROGRAM, PROGRAMS, LIBRARY, ROOT_USER = "program", "both programs", "library", "library, root"
+SHOWN, ALL = "programs, library", "all of these"
 GUEST = "root, qemu, Debian"
 # What `rt ci` and what is built beside it give, which the checks can use side by side.
 BUILT_NEEDS = (PROVED, PROGRAM, PROGRAMS, LIBRARY, ROOT_USER)
+
+# The check that builds what the controls take.
+BEFORE_CONTROLS = "c-programs"
 
 # A check that takes less than this many seconds is made before the proofs, and not beside them.
 QUICK = 10
@@ -149,7 +154,7 @@ CHECKS: list[Check] = [
           ROOT_USER, 20, "the checks macsecd-controls and workers",
           gate="--short --workers 0,1 --seed {seed} traffic rekey restart port losses",
           hand="--workers 0,1,3 --seed {seed}"),
-    Check("controls", "sees that the checks report something wrong", "tests/program/controls", ALL, 60,
+    Check("controls", "sees that the checks report something wrong", "tests/program/controls", SHOWN, 60,
           "it is made of them", gate=""),
     Check("any-order", "sees that rt ci accepts what make run leaves", "tests/any-order", ALL, 60, None, gate=""),
     Check("isolated", "runs the device with LINK in a separate network namespace", "device/tests/isolated",
@@ -181,7 +186,8 @@ CHECKS: list[Check] = [
     Check("c-cost", "counts the instructions of a frame through the library, built for each processor",
           "tests/program/c-cost", LIBRARY, 60, None, hand=""),
     Check("cores", "measures how many frames several threads seal through the library",
-          "tests/library/cores build/libmacsec.a", LIBRARY, 10, None, hand=""),
+          "tests/library/cores --least 0.9 build/libmacsec.a", LIBRARY, 10, "threads that seal under one lock (--mistake)",
+          hand=""),
     Check("device-kernel", "runs the device against a Linux kernel in a virtual machine", "device/tests/device-kernel",
           GUEST, 900, None, hand=""),
     Check("kernel-captures", "opens captures of a Linux kernel in a virtual machine", "python/tests/kernel-captures",

@@ -2,13 +2,20 @@
  *
  * usage: threads THREADS OCTETS ROUNDS
  *
- * In each round the first thread plans frames of so many octets of data, encrypted under a 128-bit key with an explicit
- * SCI, in SLOTS slots of each thread. Then all threads seal their frames at once, and only this is timed, from the
- * moment when all may begin until the last has ended. No lock and no memory is shared while they seal. It prints the
- * nanoseconds of each round. */
+ * Each thread runs on another processor. In each round every thread seals alone, one after the other; then the first
+ * two seal at the same time, then the first three, up to all. Before each time the main thread plans frames of so many
+ * octets of data, encrypted under a 128-bit key with an explicit SCI, in SLOTS slots of each thread that is to seal.
+ * Only the sealing is timed, in each thread from the moment when all of them may begin until it has sealed its own
+ * frames. The other threads sleep. No lock and no memory is shared while they seal.
+ *
+ * For each time and thread it prints how many threads sealed, the thread, and its nanoseconds.
+ *
+ * With ONE_LOCK defined they seal under one lock, which the tool has to report. */
 #define _GNU_SOURCE
 #include "macsec.h"
 #include <pthread.h>
+#include <sched.h>
+#include <semaphore.h>
 #include <stdatomic.h>
 #include <stdio.h>
 #include <stdlib.h>
@@ -22,14 +29,20 @@ struct own {
     macsec_slot slots[SLOTS];
     uint8_t out[MACSEC_FRAME_MAX];
     pthread_t thread;
-    bool failed;
+    sem_t called;
+    double took;
+    bool failed, ends;
 };
 
 static struct own owns[THREADS];
-static unsigned threads, rounds;
-/* The round that may begin, and how many threads have ended theirs. */
-static _Alignas(64) _Atomic unsigned begun;
-static _Alignas(64) _Atomic unsigned ended;
+static unsigned threads;
+/* How many threads seal now, and how many of them are ready. */
+static unsigned called;
+static _Alignas(64) _Atomic unsigned ready;
+static _Alignas(64) sem_t sealed;
+#ifdef ONE_LOCK
+static pthread_mutex_t lock = PTHREAD_MUTEX_INITIALIZER;
+#endif
 
 static double now(void) {
     struct timespec t;
@@ -47,19 +60,32 @@ static void must(bool good, const char *what) {
 static void seal_all(struct own *it) {
     for (unsigned i = 0; i < SLOTS; i++) {
         size_t written;
+#ifdef ONE_LOCK
+        pthread_mutex_lock(&lock);
+#endif
         it->failed |= macsec_seal_job(&it->slots[i], &it->key, it->out, sizeof it->out, &written) != MACSEC_OK;
+#ifdef ONE_LOCK
+        pthread_mutex_unlock(&lock);
+#endif
     }
 }
 
-/* Seals the frames of each round. */
+/* Seals its frames each time that it is called, once all that are called are ready. */
 static void *work(void *own) {
-    for (unsigned round = 1; round <= rounds; round++) {
-        while (atomic_load_explicit(&begun, memory_order_acquire) < round)
+    struct own *it = own;
+    for (;;) {
+        double began;
+        must(sem_wait(&it->called) == 0, "a thread cannot wait");
+        if (it->ends)
+            return NULL;
+        atomic_fetch_add(&ready, 1);
+        while (atomic_load(&ready) < called)
             __builtin_ia32_pause();
-        seal_all(own);
-        atomic_fetch_add_explicit(&ended, 1, memory_order_release);
+        began = now();
+        seal_all(it);
+        it->took = now() - began;
+        must(sem_post(&sealed) == 0, "a thread cannot say that it has ended");
     }
-    return NULL;
 }
 
 static void plan_all(macsec_endpoint *e, struct own *it, const uint8_t *frame, size_t length) {
@@ -69,14 +95,39 @@ static void plan_all(macsec_endpoint *e, struct own *it, const uint8_t *frame, s
     }
 }
 
-/* Has all threads seal once. Returns the nanoseconds that it took. */
-static double seal_round(unsigned round) {
-    double began = now();
-    atomic_store_explicit(&begun, round, memory_order_release);
-    seal_all(&owns[0]);
-    while (atomic_load_explicit(&ended, memory_order_acquire) < round * (threads - 1))
-        __builtin_ia32_pause();
-    return now() - began;
+/* Has some threads seal at the same time, and prints what each took. */
+static void seal_at_once(macsec_endpoint *e, unsigned first, unsigned count, const uint8_t *frame, size_t length) {
+    for (unsigned i = first; i < first + count; i++)
+        plan_all(e, &owns[i], frame, length);
+    called = count;
+    atomic_store(&ready, 0);
+    for (unsigned i = first; i < first + count; i++)
+        must(sem_post(&owns[i].called) == 0, "a thread cannot be called");
+    for (unsigned i = first; i < first + count; i++)
+        must(sem_wait(&sealed) == 0, "no wait for the threads");
+    for (unsigned i = first; i < first + count; i++)
+        printf("%u %u %.0f\n", count, i, owns[i].took);
+}
+
+/* Starts each thread on another processor, of those that this process may run on. */
+static void start_all(void) {
+    cpu_set_t all;
+    int processor = -1;
+    must(sched_getaffinity(0, sizeof all, &all) == 0 && (unsigned)CPU_COUNT(&all) >= threads, "too few processors");
+    for (unsigned i = 0; i < threads; i++) {
+        pthread_attr_t attributes;
+        cpu_set_t one;
+        do
+            processor++;
+        while (!CPU_ISSET(processor, &all));
+        CPU_ZERO(&one);
+        CPU_SET(processor, &one);
+        must(sem_init(&owns[i].called, 0, 0) == 0 && pthread_attr_init(&attributes) == 0 &&
+                 pthread_attr_setaffinity_np(&attributes, sizeof one, &one) == 0 &&
+                 pthread_create(&owns[i].thread, &attributes, work, &owns[i]) == 0 &&
+                 pthread_attr_destroy(&attributes) == 0,
+             "no thread");
+    }
 }
 
 static void open_all(macsec_endpoint *e) {
@@ -95,10 +146,13 @@ static void open_all(macsec_endpoint *e) {
 
 static void close_all(macsec_endpoint *e) {
     for (unsigned i = 0; i < threads; i++) {
+        owns[i].ends = true;
+        must(sem_post(&owns[i].called) == 0 && pthread_join(owns[i].thread, NULL) == 0, "a thread does not end");
         must(!owns[i].failed, "a frame was not sealed");
         for (unsigned s = 0; s < SLOTS; s++)
             macsec_slot_free(&owns[i].slots[s]);
         macsec_key_free(&owns[i].key);
+        sem_destroy(&owns[i].called);
     }
     macsec_free(e);
 }
@@ -107,21 +161,22 @@ int main(int count, char **words) {
     static uint8_t frame[9000] = { 2, 0, 0, 0, 0, 2, 2, 0, 0, 0, 0, 1, 8, 0 };
     macsec_endpoint e = MACSEC_ENDPOINT_INIT;
     size_t length;
+    unsigned rounds;
     must(count == 4, "usage: threads THREADS OCTETS ROUNDS");
     threads = (unsigned)strtoul(words[1], NULL, 10);
     length = strtoul(words[2], NULL, 10) + 12; /* the addresses are no data */
     rounds = (unsigned)strtoul(words[3], NULL, 10);
     must(threads > 0 && threads <= THREADS && length <= sizeof frame, "too many threads or octets");
+    must(sem_init(&sealed, 0, 0) == 0, "no semaphore");
     open_all(&e);
-    for (unsigned i = 1; i < threads; i++)
-        must(pthread_create(&owns[i].thread, NULL, work, &owns[i]) == 0, "no thread");
-    for (unsigned round = 1; round <= rounds; round++) {
+    start_all();
+    for (unsigned round = 0; round < rounds; round++) {
         for (unsigned i = 0; i < threads; i++)
-            plan_all(&e, &owns[i], frame, length);
-        printf("%.0f\n", seal_round(round));
+            seal_at_once(&e, i, 1, frame, length);
+        for (unsigned at_once = 2; at_once <= threads; at_once++)
+            seal_at_once(&e, 0, at_once, frame, length);
     }
-    for (unsigned i = 1; i < threads; i++)
-        pthread_join(owns[i].thread, NULL);
     close_all(&e);
+    sem_destroy(&sealed);
     return 0;
 }
