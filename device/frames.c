@@ -39,12 +39,13 @@ static enum outcome deliver(struct device *d, const macsec_received *got) {
 
 enum outcome frames_from_client(struct device *d) {
     unsigned used = 0, lacked = 0;
+    enum outcome outcome;
     if (d->workers != NULL)
         return parallel_from_client(d);
     for (unsigned i = link_waiting(); i < BATCH; i++) {
         struct frame frame;
         uint32_t fate;
-        enum outcome outcome = tap_read(&d->tap, &frame);
+        outcome = tap_read(&d->tap, &frame);
         if (outcome == GONE)
             return outcome;
         if (outcome == BUSY)
@@ -54,11 +55,13 @@ enum outcome frames_from_client(struct device *d) {
         used += fate == MACSEC_FATE_PROTECTED;
         lacked += fate == MACSEC_FATE_NO_RESERVATION;
     }
+    outcome = link_flush(&d->link, &d->counts); /* before it is noted, since the peer waits */
     numbers_used(d->numbers, d->endpoint, used, lacked > 0);
-    return link_flush(&d->link, &d->counts);
+    return outcome;
 }
 
 enum outcome frames_received(struct device *d, const macsec_received *got) {
+    enum outcome outcome = got->delivered ? deliver(d, got) : DONE; /* before it is noted, since the client waits */
     d->counts.link_in++;
     count_fault(got->status, &d->counts.link_too_short, &d->counts.link_too_long);
     d->counts.no_endpoint += got->status == MACSEC_E_EMPTY;
@@ -67,7 +70,7 @@ enum outcome frames_received(struct device *d, const macsec_received *got) {
     history_received(&d->history, got);
     floods_note(d, got->verdict);
     numbers_received(d->numbers, d->endpoint, got, held_count(d));
-    return got->delivered ? deliver(d, got) : DONE;
+    return outcome;
 }
 
 enum outcome frames_present(struct device *d, const struct frame *frame) {

@@ -180,28 +180,28 @@ static bool is_gone(int error) {
     return error == ENODEV || error == ENXIO || error == EBADF;
 }
 
-/* Prepares a call that reads frames. */
-static void prepare(struct mmsghdr headers[BATCH], struct iovec parts[BATCH][2]) {
-    memset(headers, 0, BATCH * sizeof *headers);
-    for (unsigned i = 0; i < BATCH; i++) {
+/* Prepares so many headers for a call that reads frames. */
+static void prepare(struct mmsghdr headers[BATCH], unsigned count) {
+    static struct iovec parts[BATCH][2];
+    for (unsigned i = 0; i < count; i++) {
         parts[i][0] = (struct iovec){ &received[i].about, sizeof received[i].about };
         parts[i][1] = (struct iovec){ received[i].octets + TAG, sizeof received[i].octets - TAG };
-        headers[i].msg_hdr.msg_iov = parts[i];
-        headers[i].msg_hdr.msg_iovlen = 2;
+        headers[i] = (struct mmsghdr){ .msg_hdr = { .msg_iov = parts[i], .msg_iovlen = 2 } };
         headers[i].msg_hdr.msg_control = received[i].control;
         headers[i].msg_hdr.msg_controllen = sizeof received[i].control;
     }
 }
 
 enum outcome link_read(struct link *l, struct unfinished frames[BATCH], unsigned *count) {
-    struct mmsghdr headers[BATCH];
-    struct iovec parts[BATCH][2];
+    static struct mmsghdr headers[BATCH];
+    static unsigned used = BATCH; /* how many the last call may have changed */
     int got;
-    prepare(headers, parts);
+    prepare(headers, used);
     *count = 0;
     do
         got = recvmmsg(l->socket, headers, BATCH, MSG_DONTWAIT, NULL);
     while (got < 0 && errno == EINTR);
+    used = got < 0 ? 1 : got < BATCH ? (unsigned)got + 1 : BATCH;
     if (got < 0) {
         l->unreadable += errno == EINVAL; /* segments of another protocol, or that a card has joined (LRO) */
         return is_gone(errno) ? GONE : BUSY;

@@ -116,8 +116,10 @@ enum outcome parallel_from_client(struct device *d) {
     enum outcome outcome = leave_at_most(d, RING - BATCH);
     if (outcome == DONE)
         outcome = read_client_frames(d, &b);
+    if (outcome != GONE)
+        outcome = send_finished(d); /* before it is noted, since the peer waits */
     numbers_used(d->numbers, d->endpoint, b.used, b.lacked > 0);
-    return outcome == GONE ? outcome : send_finished(d);
+    return outcome;
 }
 
 /* ---- Receiving ---- */
