@@ -511,6 +511,8 @@ int journals_check_disk(const char *name, bool creates);
 /* Compares the keys under which this NAME sends with the other journals of the host, in the same folder and in those
  * beside one that has the name of the device. Returns 0, or the exit status after a message. */
 int journals_check_keys(const struct config *c, const char *name);
+/* Why macsecd does not start with the journal that is there; or NULL, also if it can't be read. Nothing is locked. */
+const char *journals_fault(const char *path);
 
 /* ---- keys.c: the keys that an endpoint has, for one that takes over from it ---- */
 

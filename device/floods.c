@@ -91,8 +91,10 @@ void floods_stop(struct device *d) {
         return;
     find_channels(d, &c);
     filter.len = make_program(&c, program);
-    if (setsockopt(d->link.socket, SOL_SOCKET, SO_ATTACH_FILTER, &filter, sizeof filter) != 0)
+    if (setsockopt(d->link.socket, SOL_SOCKET, SO_ATTACH_FILTER, &filter, sizeof filter) != 0) {
+        message_of_errno("LINK %s: no filter against a flood", d->link.name);
         return;
+    }
     d->floods.filtered = true;
     d->counts.link_floods++;
 }

@@ -157,6 +157,32 @@ static uint8_t *read_file(int file, size_t *length) {
     return octets;
 }
 
+static const char *fault_of_file(int file) {
+    uint8_t header[MACSEC_RECORD_LENGTH], valid[MACSEC_RECORD_LENGTH];
+    size_t length;
+    struct stat about;
+    if (fstat(file, &about) != 0)
+        return NULL;
+    if (about.st_nlink > 1)
+        return "has another name too";
+    if (about.st_size < (off_t)sizeof header)
+        return "is too short for its header";
+    if (about.st_size > (off_t)JOURNAL_MAX)
+        return "is too long";
+    if (pread(file, header, sizeof header, 0) != (ssize_t)sizeof header ||
+        macsec_journal_compacted(header, sizeof header, valid, &length) != MACSEC_E_NOT_JOURNAL)
+        return NULL;
+    return "is none, is of another version, or has a damaged header";
+}
+
+const char *journals_fault(const char *path) {
+    int file = open(path, O_RDONLY | O_CLOEXEC | O_NOFOLLOW | O_NONBLOCK | O_NOCTTY);
+    const char *fault = file < 0 ? NULL : fault_of_file(file);
+    if (file >= 0)
+        (void)close(file); /* it was only read */
+    return fault;
+}
+
 /* Compares with one journal. It can be written meanwhile: whole records are read. */
 static int compare_file(const struct keys *k, const char *folder, const char *name) {
     char path[PATH_MAX];

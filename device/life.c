@@ -124,10 +124,12 @@ static bool read_report(struct device *d, const struct nlmsghdr *header) {
     return true;
 }
 
-/* The answer to a question about a device that is not there. */
+/* The answer to a question about a device that is not there. If the system lacks memory, the question is asked again.
+ */
 static bool read_error(const struct nlmsghdr *header) {
     const struct nlmsgerr *error = NLMSG_DATA(header);
-    if (header->nlmsg_len < NLMSG_LENGTH(sizeof *error) || error->error == 0)
+    if (header->nlmsg_len < NLMSG_LENGTH(sizeof *error) || error->error == 0 || error->error == -ENOBUFS ||
+        error->error == -ENOMEM)
         return true;
     errno = -error->error;
     message_of_errno("LINK is gone");
@@ -191,7 +193,6 @@ int life_open(struct device *d) {
 }
 
 int life_begin(struct device *d) {
-    tap_set_carrier(&d->tap, false);
     if (ask(&d->life, d->link.index) != 0)
         return ENDS_FAILED;
     return life_read(d) ? 0 : ENDS_FAILED;

@@ -21,7 +21,7 @@
 /* The longest request is `load` with its lines. */
 enum { REQUEST = 128 * 1024, ANSWER = 512 * 1024 };
 
-static char request[REQUEST], answer[ANSWER], earlier[ANSWER];
+static char request[REQUEST + 1], answer[ANSWER], earlier[ANSWER];
 
 static int fail(const char *what) {
     fprintf(stderr, "macsecctl: %s: %s\n", what, strerror(errno));
@@ -139,7 +139,7 @@ static size_t read_lines(int file, size_t length) {
     }
     if (length < sizeof request)
         return length;
-    fprintf(stderr, "macsecctl: the lines have more than %d octets\n", REQUEST - 6);
+    fprintf(stderr, "macsecctl: the lines have more than %d octets\n", REQUEST - 5);
     return 0;
 }
 

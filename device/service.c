@@ -31,8 +31,20 @@ int service_open(void) {
     return ENDS_FAILED;
 }
 
-/* If the manager does not get it, its watchdog acts. */
+static bool is_sent(const char *assignment) {
+    return send(manager, assignment, strlen(assignment), MSG_DONTWAIT | MSG_NOSIGNAL) >= 0;
+}
+
+/* If the manager does not get it, its watchdog acts. But the watchdog begins with READY=1: that is sent again before
+ * the next assignment until the manager has it. */
 void service_notify(const char *assignment) {
-    if (manager >= 0)
-        (void)send(manager, assignment, strlen(assignment), MSG_DONTWAIT | MSG_NOSIGNAL);
+    static const char ready[] = "READY=1";
+    static bool owes_ready;
+    bool is_ready = strcmp(assignment, ready) == 0;
+    if (manager < 0)
+        return;
+    if (is_ready || owes_ready)
+        owes_ready = !is_sent(ready);
+    if (!is_ready)
+        (void)is_sent(assignment);
 }

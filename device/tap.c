@@ -72,6 +72,7 @@ int tap_open(struct tap *t, const struct config *c, const struct link *l) {
     result = ask(t->file, TUNSETIFF, &request, t->name, "it can't be made or is in use");
     if (result != 0)
         return result;
+    tap_set_carrier(t, false); /* until LINK is up, which life_read finds out */
     /* No frame from the client lacks its checksum or is longer than the MTU. */
     if (ioctl(t->file, TUNSETOFFLOAD, 0UL) != 0 || ioctl(t->file, TUNGETIFF, &request) != 0) {
         message_of_errno("TAP %s", t->name);

@@ -53,6 +53,12 @@ CONTROLS: dict[str, list[Control]] = {
     "faults": [
         Control("errors are ignored", ("macsec-link", "set -euf", "set -uf"), (), ("not all is done",)),
         Control(
+            "ip's own status is returned",
+            ("macsec-link", "|| exit 1' EXIT", "|| exit $status' EXIT"),
+            (),
+            ("is a fault of the configuration",),
+        ),
+        Control(
             "no device is moved back", ("macsec-link", "move_back $moved\n            fail", "fail"), (), ("are apart",)
         ),
     ],

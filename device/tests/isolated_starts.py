@@ -214,7 +214,7 @@ def check_rights(options: Options) -> None:
 WRAPPER = """#!/bin/sh
 count=$(($(cat {folder}/count) + 1))
 echo $count > {folder}/count
-[ $count != "$FAILS" ] || {{ echo "this command fails" >&2; exit 1; }}
+[ $count != "$FAILS" ] || {{ echo "this command fails" >&2; exit 2; }}
 exec {ip} "$@"
 """
 
@@ -237,6 +237,7 @@ def fails_at(host: Host, number: int, path: str) -> bool:
     ended = host.link("isolate", PATH=path, FAILS=str(number))
     there = set(host.devices(True))
     report(("mv0" in there) == ("link0" in there), f"faults: {number}: LINK and the device below it are apart: {there}")
+    report(ended.returncode != 2, f"faults: {number}: a command that fails is a fault of the configuration")
     holds = ended.returncode != 0 or is_complete(host)
     report(holds, f"faults: {number}: status 0, and not all is done: {ended.stderr}")
     again = host.link("isolate")

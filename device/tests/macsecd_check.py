@@ -123,6 +123,23 @@ def check_planted(end: End) -> None:
             expect(end, f"{lines}", 2, where[0] if where and "LINK" not in faults[0] else "")
 
 
+def check_octets(end: End, journal: pathlib.Path) -> None:
+    """Journals with which macsecd does not start."""
+    octets = journal.read_bytes()
+    wrong = {"is too short": octets[:63], "is too long": octets + bytes(1 << 22), "is none": b"\0" + octets[1:]}
+    for text, each in wrong.items():
+        journal.write_bytes(each)
+        status, found = run(end)
+        report(status == 2 and text in found[0], f"a journal that {text}: {found}")
+        report(end.run("macsec0").returncode != 0, f"macsecd starts with a journal that {text}")
+    journal.write_bytes(octets)
+    other = journal.with_suffix(".other")
+    os.link(journal, other)
+    status, found = run(end)
+    report(status == 2 and "has another name too" in found[0], f"a journal of two names: {found}")
+    other.unlink()
+
+
 def check_surroundings(end: End) -> None:
     """The file itself, its path, and the journal."""
     journal = end.folder / "state/macsec0.journal"
@@ -137,6 +154,7 @@ def check_surroundings(end: End) -> None:
     status, found = run(end)
     report(status == 0 and "others may write the journal" in found[0], f"a journal of mode 0666: {found}")
     journal.chmod(0o600)
+    check_octets(end, journal)
     journal.rename(journal.with_suffix(".away"))
     status, found = run(end)
     report(status == 2 and "--create-journal macsec0" in found[0], f"no journal: {found}")

@@ -67,6 +67,8 @@ CONTROLS: dict[str, list[tuple[str, str, str]]] = {
               ("check.c", "        c->text_only = status != MACSEC_OK;\n", "        c->text_only = true;\n"),
               ("check.c", "c->config.max_frame != fitting", "false"),
               ("check.c", "about.st_uid != of_folder.st_uid", "false"),
+              ("journals.c", "about.st_nlink > 1", "false"),
+              ("journals.c", "&length) != MACSEC_E_NOT_JOURNAL)", "&length) != MACSEC_E_MEMORY)"),
               ("check.c", "(!c->config.shared && c->config.tap", "(c->config.shared && c->config.tap"),
               ("check.c", "static const char other[] = \"end A gcm128 ", "static const char other[] = \"end A gcm129 ")],
     "journals": [("journals.c", "        *is_lost = true;\n", ""),
