@@ -1,11 +1,13 @@
 """macsecd with workers beside macsecd without, in one run: UDP, TCP and echo requests, and the same without the cipher.
 
-UDP goes through one macsecd, whose frames nobody receives. TCP and echo requests go through two. There are as many
-rounds as asked for, of all numbers of workers one after the other; the best throughput and the least median count.
-Other work on the machine's processors changes the results: the threads need as many that are free."""
+UDP goes through one macsecd, whose frames nobody receives. There is one for each number of workers, and they take turns
+of half a second, so that other work on the machine's processors, which comes and goes, meets all of them. A gain is the
+median, over the turns, of the frames with workers by those without in the same turn. TCP and echo requests go through
+two; of the rounds the best throughput and the least median count. The threads need as many processors that are free."""
 
 from __future__ import annotations
 
+import contextlib
 import os
 import pathlib
 import socket
@@ -33,16 +35,23 @@ class Speed(NamedTuple):
     processors: float
 
 
-class Row(NamedTuple):
-    """What was measured with a number of workers: frames by UDP, million octets by TCP, and microseconds of an echo."""
+def median(speeds: list[Speed]) -> Speed:
+    """The median of each."""
+    return Speed(*(statistics.median(it) for it in zip(*speeds)))
 
-    udp: Speed
+
+class Row(NamedTuple):
+    """What was measured with a number of workers: frames by UDP in each turn, million octets by TCP, and microseconds of
+    an echo."""
+
+    udp: list[Speed]
     tcp: Speed
     echo: float
 
     def text(self) -> str:
         """What is printed of it."""
-        udp = f"UDP {self.udp.each_second:,.0f} frames a second, {self.udp.processors:.2f} us of processors each"
+        usual = median(self.udp)
+        udp = f"UDP {usual.each_second:,.0f} frames a second, {usual.processors:.2f} us of processors each"
         tcp = f"TCP {self.tcp.each_second:.1f} million octets a second, {self.tcp.processors:.2f} us for each frame"
         return f"{udp}; {tcp}; an echo {self.echo:.1f} us"
 
@@ -54,25 +63,38 @@ def build_datagrams(folder: pathlib.Path) -> pathlib.Path:
     return out
 
 
-def run_udp(folder: pathlib.Path, programs: pathlib.Path, sender: pathlib.Path, seconds: float) -> Speed:
-    """Frames of 1,400 octets to one macsecd, more than it can take."""
-    with World(folder, programs) as world:
-        world.prepare()
-        a = world.ends[0]
-        a.start()
-        words = [*a.enter, str(sender), str(seconds + 1), "10.9.0.2", "9", str(DATAGRAM)]
-        with subprocess.Popen(words, stdin=subprocess.DEVNULL) as sending:
-            time.sleep(0.5)
-            before, began, used = a.counters(), time.monotonic(), processor_time(a)
-            time.sleep(seconds)
-            after, ended, grown = a.counters(), time.monotonic(), processor_time(a) - used
-            report(sending.poll() is None, "the sender of datagrams ends before it is measured")
-        report(sending.returncode == 0, f"the sender of datagrams ends with {sending.returncode}")
-        frames = after["device LinkOut"] - before["device LinkOut"]
-        missed = after["device TapIn"] - before["device TapIn"] - frames
-        report(abs(missed) <= 256, f"{missed} frames of TAP did not leave")
-        report(a.stop() == 0, f"macsecd does not end well: {a.log()}")
+def take_turn(a: End, sender: pathlib.Path) -> Speed:
+    """Frames of 1,400 octets to a macsecd for half a second, more than it can take."""
+    words = [*a.enter, str(sender), "0.5", "10.9.0.2", "9", str(DATAGRAM)]
+    with subprocess.Popen(words, stdin=subprocess.DEVNULL) as sending:
+        time.sleep(0.1)
+        before, began, used = a.counters(), time.monotonic(), processor_time(a)
+        time.sleep(0.3)
+        after, ended, grown = a.counters(), time.monotonic(), processor_time(a) - used
+        report(sending.poll() is None, "the sender of datagrams ends before it is measured")
+    report(sending.returncode == 0, f"the sender of datagrams ends with {sending.returncode}")
+    frames = after["device LinkOut"] - before["device LinkOut"]
+    missed = after["device TapIn"] - before["device TapIn"] - frames
+    report(abs(missed) <= 256, f"{missed} frames of TAP did not leave")
     return Speed(frames / (ended - began), grown / frames)
+
+
+def run_udp(
+    folder: pathlib.Path, programs: pathlib.Path, sender: pathlib.Path, numbers: list[int], turns: int
+) -> dict[int, list[Speed]]:
+    """So many turns of a macsecd for each number of workers."""
+    with contextlib.ExitStack() as stack:
+        ends = {}
+        for workers in numbers:
+            End.workers = workers
+            world = stack.enter_context(World(folder.with_name(f"{folder.name}-{workers}"), programs))
+            world.prepare()
+            ends[workers] = world.ends[0]
+            ends[workers].start()
+        taken = [{workers: take_turn(a, sender) for workers, a in ends.items()} for _ in range(turns)]
+        for a in ends.values():
+            report(a.stop() == 0, f"macsecd does not end well: {a.log()}")
+    return {workers: [turn[workers] for turn in taken] for workers in numbers}
 
 
 def run_tcp(folder: pathlib.Path, programs: pathlib.Path, octets: int) -> Speed:
@@ -112,18 +134,19 @@ def run_echo(folder: pathlib.Path, programs: pathlib.Path, count: int) -> float:
     return statistics.median(times[count // 10 :]) * 1e6
 
 
-def best(rows: list[Row]) -> Row:
-    """The best of each."""
-    return Row(max(it.udp for it in rows), max(it.tcp for it in rows), min(it.echo for it in rows))
+def joined(rows: list[Row]) -> Row:
+    """All turns of UDP, and the best of the others."""
+    return Row([each for it in rows for each in it.udp], max(it.tcp for it in rows), min(it.echo for it in rows))
 
 
 def compare(what: str, rows: dict[int, Row], bars: bool) -> None:
-    """Prints the best of each number of workers, beside none, and whether the bars hold."""
+    """Prints what counts of each number of workers, beside none, and whether the bars hold."""
     none = rows[0]
     for workers, row in rows.items():
-        gains = row.udp.each_second / none.udp.each_second, row.tcp.each_second / none.tcp.each_second
+        udp = statistics.median(it.each_second / other.each_second for it, other in zip(row.udp, none.udp))
+        gains = udp, row.tcp.each_second / none.tcp.each_second
         later = row.echo - none.echo
-        print(f"cores: best of {what}, {workers} workers: {row.text()}", flush=True)
+        print(f"cores: all of {what}, {workers} workers: {row.text()}", flush=True)
         print(f"cores: beside none: UDP {gains[0]:.2f}, TCP {gains[1]:.2f}, an echo {later:+.1f} us", flush=True)
         if bars and workers > 0:
             least = BARS_UDP.get(workers, 0), BARS_TCP.get(workers, 0)
@@ -140,18 +163,18 @@ def measure_cores(
     programs = {"macsecd": build(folder / "full", library, [], device)}
     if not short:
         programs["relay"] = build(folder / "relay", library, [], device, RELAY)
-    rounds, seconds, octets, echoes = (1, 1.0, 100 << 20, 300) if short else (rounds, 3.0, 400 << 20, 1000)
+    rounds, turns, octets, echoes = (1, 4, 100 << 20, 300) if short else (rounds, 10, 400 << 20, 1000)
     rows: dict[str, dict[int, list[Row]]] = {name: {workers: [] for workers in numbers} for name in programs}
     for number in range(rounds):
         print(f"cores: round {number + 1}, load {os.getloadavg()[0]:.1f}", flush=True)
         for name, each in programs.items():
+            udp = run_udp(folder / f"{name}{number}-udp", each, sender, numbers, turns)
             for workers in numbers:
                 End.workers = workers
                 at = f"{name}{number}-{workers}"
-                udp = run_udp(folder / f"{at}-udp", each, sender, seconds)
                 tcp_ = run_tcp(folder / f"{at}-tcp", each, octets)
-                row = Row(udp, tcp_, run_echo(folder / f"{at}-echo", each, echoes))
+                row = Row(udp[workers], tcp_, run_echo(folder / f"{at}-echo", each, echoes))
                 rows[name][workers].append(row)
                 print(f"cores: {name}, {workers} workers: {row.text()}", flush=True)
     for name in programs:
-        compare(name, {workers: best(rows[name][workers]) for workers in numbers}, name == "macsecd")
+        compare(name, {workers: joined(rows[name][workers]) for workers in numbers}, name == "macsecd")
