@@ -86,7 +86,7 @@ CHECKS: list[Check] = [
           "tools/refused kept-frames", PROVED, 10, None, gate="--after-ci", hand=""),
     Check("lanes-used", "sees that the cipher is built of its lanes, powers and pieces", "tools/refused lanes-used",
           PROVED, 5, None, gate="--after-ci", hand=""),
-    Check(PROOFS, "proves every crate and runs its tests, must-fail edits and programs", "rt ci", TOOLCHAIN, 2600,
+    Check(PROOFS, "proves every crate and runs its tests, must-fail edits and programs", "rt ci", TOOLCHAIN, 2300,
           "the must-fail edits", gate=""),
     Check("edits-refused", "reads in the log of the proofs that each edit was tried and refused",
           "tools/edits --after build/ci.log", LOG, 1, "a log without edits", gate=""),
