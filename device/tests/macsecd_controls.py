@@ -168,7 +168,7 @@ CONTROLS: dict[str, list[tuple[str, str, str]]] = {
                  "    macsec_free(d->endpoint);\n    return result;\n}\n")],
     "soak": [("control.c", "    d->counts.requests++;\n",
               "    d->counts.requests++;\n    answer[0] = *(char *)memset(__builtin_malloc(4096), 1, 4096);\n"),
-             ("frames.c", "return got->delivered ?", "return got->delivered && d->counts.link_in % 1000 ?")],
+             ("frames.c", "outcome = got->delivered ?", "outcome = got->delivered && d->counts.link_in % 1000 ?")],
     "hostile": [("control.c", "static char request[REQUEST + 1]", "static char request[64]")],
 }
 # fmt: on
