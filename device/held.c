@@ -61,11 +61,14 @@ unsigned held_count(const struct device *d) {
 }
 
 void held_tick(struct device *d) {
+    macsec_received dropped = MACSEC_RECEIVED_INIT;
     struct held *h = &d->held;
     if (h->count == 0 || h->grants != numbers_grants(d->numbers) || ++h->ticks < TICKS)
         return;
     d->counts.link_in += h->count;
     d->counts.link_no_reservation += h->count;
+    dropped.verdict = MACSEC_VERDICT_NO_RESERVATION;
+    history_received(&d->history, &dropped);
     h->count = 0;
     h->used = 0;
 }

@@ -93,6 +93,8 @@ static void test_ticks(void) {
     held_tick(&device);
     if (held_count(&device) != 0 || device.counts.link_no_reservation != count || device.counts.link_in != count)
         fail("it waits for ever, or is not counted", last);
+    if (device.history.dropped == 0 || device.history.why != MACSEC_VERDICT_NO_RESERVATION)
+        fail("it is not shown as the last drop", last);
 }
 
 int main(int count, char **words) {

@@ -59,7 +59,7 @@ def build_held(folder: pathlib.Path) -> pathlib.Path:
     """Builds frames that wait for a reservation, with sanitizers."""
     folder.mkdir(parents=True, exist_ok=True)
     program = folder / "journal_held"
-    sources = [str(ROOT / f"device/{it}.c") for it in ("held", "tests/journal_held")]
+    sources = [str(ROOT / f"device/{it}.c") for it in ("held", "history", "tests/journal_held")]
     if subprocess.call(["gcc", *FLAGS, "-pedantic", *SANITIZED, "-o", str(program), *sources]):
         sys.exit("device/tests/journal: a program was not built")
     return program
