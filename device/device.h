@@ -648,6 +648,7 @@ struct waiting {
 };
 
 struct waits {
+    unsigned answers; /* how many wait: as a rule none, so that the loop looks at no client after each frame */
     struct waiting clients[CLIENTS];
 };
 
@@ -757,6 +758,17 @@ int confine_worker(void);
 enum outcome frames_from_client(struct device *d);
 /* Reads a batch of frames from LINK, and delivers what the endpoint makes of them. */
 enum outcome frames_from_link(struct device *d);
+/* What was read of TAP in a batch: frames, those that used a packet number, and those that had none reserved. */
+struct client_batch {
+    unsigned frames, used, lacked;
+};
+
+/* Parts of the first one. If the last batch had one frame, the first one of this batch is probably alone too: it leaves
+ * before the next one is looked for. Returns what became of that. */
+enum outcome frames_batch_begin(struct device *d, struct client_batch *b);
+void frames_note_fate(struct device *d, struct client_batch *b, uint32_t fate);
+/* To be called when the frames of a batch have left, or are under way. */
+void frames_batch_end(struct device *d, const struct client_batch *b);
 /* Adds to the waiting frames what the endpoint makes of a client frame. Returns its fate. */
 uint32_t frames_send(struct device *d, const struct frame *frame);
 /* Judges a frame of LINK, after those that wait, and delivers it. Returns GONE if TAP is. */
@@ -788,6 +800,7 @@ struct device {
     struct port port;
     struct numbers *numbers;
     struct workers *workers; /* NULL: there are none */
+    bool sparse;             /* had the last frames of TAP come one by one? */
     int signals, clock, events;
 };
 

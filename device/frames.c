@@ -37,27 +37,43 @@ static enum outcome deliver(struct device *d, const macsec_received *got) {
     return DONE;
 }
 
+void frames_note_fate(struct device *d, struct client_batch *b, uint32_t fate) {
+    d->counts.tap_in++;
+    b->frames++;
+    b->used += fate == MACSEC_FATE_PROTECTED;
+    b->lacked += fate == MACSEC_FATE_NO_RESERVATION;
+}
+
+enum outcome frames_batch_begin(struct device *d, struct client_batch *b) {
+    struct frame frame;
+    enum outcome outcome = d->sparse ? tap_read(&d->tap, &frame) : DONE;
+    if (!d->sparse || outcome != DONE)
+        return outcome;
+    frames_note_fate(d, b, frames_send(d, &frame));
+    return link_flush(&d->link, &d->counts);
+}
+
+void frames_batch_end(struct device *d, const struct client_batch *b) {
+    if (b->frames > 0)
+        d->sparse = b->frames == 1;
+    numbers_used(d->numbers, d->endpoint, b->used, b->lacked > 0);
+}
+
 enum outcome frames_from_client(struct device *d) {
-    unsigned used = 0, lacked = 0;
-    enum outcome outcome;
+    struct client_batch b = { 0, 0, 0 };
+    enum outcome outcome, left;
     if (d->workers != NULL)
         return parallel_from_client(d);
-    for (unsigned i = link_waiting(); i < BATCH; i++) {
+    outcome = frames_batch_begin(d, &b);
+    for (unsigned i = link_waiting(); outcome == DONE && i < BATCH; i++) {
         struct frame frame;
-        uint32_t fate;
         outcome = tap_read(&d->tap, &frame);
-        if (outcome == GONE)
-            return outcome;
-        if (outcome == BUSY)
-            break;
-        d->counts.tap_in++;
-        fate = frames_send(d, &frame);
-        used += fate == MACSEC_FATE_PROTECTED;
-        lacked += fate == MACSEC_FATE_NO_RESERVATION;
+        if (outcome == DONE)
+            frames_note_fate(d, &b, frames_send(d, &frame));
     }
-    outcome = link_flush(&d->link, &d->counts); /* before it is noted, since the peer waits */
-    numbers_used(d->numbers, d->endpoint, used, lacked > 0);
-    return outcome;
+    left = outcome == GONE ? GONE : link_flush(&d->link, &d->counts); /* before it is noted, since the peer waits */
+    frames_batch_end(d, &b);
+    return left;
 }
 
 enum outcome frames_received(struct device *d, const macsec_received *got) {

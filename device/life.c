@@ -124,8 +124,7 @@ static bool read_report(struct device *d, const struct nlmsghdr *header) {
     return true;
 }
 
-/* The answer to a question about a device that is not there. If the system lacks memory, the question is asked again.
- */
+/* The answer to a question about a device that is not there. For want of memory the question is asked again. */
 static bool read_error(const struct nlmsghdr *header) {
     const struct nlmsgerr *error = NLMSG_DATA(header);
     if (header->nlmsg_len < NLMSG_LENGTH(sizeof *error) || error->error == 0 || error->error == -ENOBUFS ||

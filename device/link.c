@@ -247,15 +247,13 @@ static void remove_waiting(unsigned count) {
 /* Sends what waits, as far as the system takes it. Nothing is left to a network card. Returns what sendmmsg does. */
 static int send_waiting(const struct link *l) {
     static struct virtio_net_hdr complete;
-    struct mmsghdr headers[BATCH];
+    struct mmsghdr headers[BATCH]; /* of so many are used, and no others written to */
     struct iovec parts[BATCH][2];
-    memset(headers, 0, sizeof headers);
     for (unsigned i = 0; i < waiting_count; i++) {
         unsigned at = (waiting_first + i) % BATCH;
         parts[i][0] = (struct iovec){ &complete, sizeof complete };
         parts[i][1] = (struct iovec){ waiting[at], waiting_length[at] };
-        headers[i].msg_hdr.msg_iov = parts[i];
-        headers[i].msg_hdr.msg_iovlen = 2;
+        headers[i] = (struct mmsghdr){ .msg_hdr = { .msg_iov = parts[i], .msg_iovlen = 2 } };
     }
     return sendmmsg(l->socket, headers, waiting_count, MSG_DONTWAIT);
 }

@@ -88,11 +88,15 @@ static int watch_ports(struct device *d, bool *blocked) {
     return result == 0 ? GOES_ON : result;
 }
 
-/* Nothing is printed here: rtnetlink reports what happened to LINK. */
+/* Nothing is printed here: rtnetlink reports what happened to LINK. The client's answer to a frame, as to an echo
+ * request, is often there when the frame is delivered: it is read at once, without a wait between. */
 static int on_link(struct device *d, uint32_t events) {
+    uint64_t delivered = d->counts.tap_out;
     enum outcome outcome = (events & EPOLLOUT) != 0 ? link_flush(&d->link, &d->counts) : DONE;
     if (outcome != GONE && (events & ~(uint32_t)EPOLLOUT) != 0)
         outcome = frames_from_link(d);
+    if (outcome == DONE && d->counts.tap_out != delivered && link_waiting() == 0)
+        outcome = frames_from_client(d);
     return outcome == GONE && !life_read(d) ? ENDS_FAILED : GOES_ON;
 }
 
@@ -160,6 +164,8 @@ static int on_journal(struct device *d) {
 /* Sends answers whose time has come. */
 static int send_answers(struct device *d) {
     int result = GOES_ON;
+    if (d->waits.answers == 0)
+        return result;
     waits_send(d);
     for (int i = 0; i < CLIENTS && result == GOES_ON; i++)
         result = watch_client(d, i);

@@ -76,36 +76,26 @@ static enum outcome leave_at_most(struct device *d, unsigned count) {
     return outcome;
 }
 
-/* What was read of TAP in a batch. */
-struct client_batch {
-    unsigned frames, used, lacked;
-};
-
-static void note_fate(struct device *d, struct client_batch *b, uint32_t fate) {
-    d->counts.tap_in++;
-    b->frames++;
-    b->used += fate == MACSEC_FATE_PROTECTED;
-    b->lacked += fate == MACSEC_FATE_NO_RESERVATION;
-}
-
 /* Reads a batch. Without other frames, and if a key can't be copied, frames are sealed at once. A frame alone needs no
  * copies, so if none is under way they are looked for when the second frame is there. */
 static enum outcome read_client_frames(struct device *d, struct client_batch *b) {
     struct frame frame, following;
-    bool is_empty = ring_count(workers_ring(d->workers, SENDING)) == 0;
-    bool plans = !is_empty && can_plan(d);
-    enum outcome outcome = plans || is_empty ? DONE : leave_at_most(d, 0);
+    bool is_first = ring_count(workers_ring(d->workers, SENDING)) == 0;
+    bool plans = !is_first && can_plan(d);
+    enum outcome outcome = DONE;
+    if (is_first)
+        outcome = frames_batch_begin(d, b);
+    else if (!plans)
+        outcome = leave_at_most(d, 0);
     if (outcome == DONE)
         outcome = tap_read(&d->tap, &frame);
     while (outcome == DONE) {
-        bool is_last = b->frames + 1 == BATCH;
+        bool is_last = b->frames + 1 >= BATCH;
         outcome = is_last ? BUSY : tap_read(&d->tap, &following);
-        if (b->frames == 0 && is_empty)
+        if (is_first)
             plans = outcome != BUSY && can_plan(d);
-        if (!plans)
-            note_fate(d, b, frames_send(d, &frame));
-        else
-            note_fate(d, b, plan_client_frame(d, &frame));
+        frames_note_fate(d, b, plans ? plan_client_frame(d, &frame) : frames_send(d, &frame));
+        is_first = false;
         frame = following;
     }
     return outcome;
@@ -118,7 +108,7 @@ enum outcome parallel_from_client(struct device *d) {
         outcome = read_client_frames(d, &b);
     if (outcome != GONE)
         outcome = send_finished(d); /* before it is noted, since the peer waits */
-    numbers_used(d->numbers, d->endpoint, b.used, b.lacked > 0);
+    frames_batch_end(d, &b);
     return outcome;
 }
 

@@ -29,11 +29,17 @@ bool waits_keep(struct device *d, int client, const char *answer, size_t length)
     w->length = length;
     w->ticket = ticket;
     w->until = now() + LONGEST;
+    d->waits.answers++;
     return true;
 }
 
 bool waits_for(const struct device *d, int client) {
     return d->waits.clients[client].length > 0;
+}
+
+void waits_client_gone(struct device *d, int client) {
+    d->waits.answers -= waits_for(d, client);
+    d->waits.clients[client].length = 0;
 }
 
 void waits_send(struct device *d) {
@@ -42,22 +48,18 @@ void waits_send(struct device *d) {
         size_t length = w->length;
         if (length == 0 || (!numbers_is_written(d->numbers, w->ticket) && now() < w->until))
             continue;
-        w->length = 0;
+        waits_client_gone(d, client);
         control_send(d, client, w->answer, length);
     }
 }
 
 int waits_left(const struct device *d) {
     int64_t first = INT64_MAX, left;
+    if (d->waits.answers == 0)
+        return -1;
     for (int client = 0; client < CLIENTS; client++)
         if (waits_for(d, client) && d->waits.clients[client].until < first)
             first = d->waits.clients[client].until;
-    if (first == INT64_MAX)
-        return -1;
     left = first - now();
     return left < 0 ? 0 : (int)left;
-}
-
-void waits_client_gone(struct device *d, int client) {
-    d->waits.clients[client].length = 0;
 }

@@ -13,7 +13,7 @@ from house.reporting import Failed, report
 # fmt: off
 CONTROLS: dict[str, list[tuple[str, str, str]]] = {
     "traffic": [("frames.c", "d->counts.tap_in++;", "d->counts.tap_in += 2;"),
-                ("parallel.c", "d->counts.tap_in++;", "d->counts.tap_in += 2;"),
+                ("parallel.c", "frames_note_fate(d, b, plans", "d->counts.tap_in++, frames_note_fate(d, b, plans"),
                  ("tap.c", "frame - HEADER - MACSEC_OVERHEAD_MAX;", "frame - HEADER;"),
                 ("show.c", "extended ? UINT64_MAX : UINT32_MAX", "UINT32_MAX")],
     "rekey": [("frames.c", "if (sent->length > 0)", "if (sent->length > 0 && sent->key != 2)")],
@@ -45,7 +45,8 @@ CONTROLS: dict[str, list[tuple[str, str, str]]] = {
               ("requests.c", "words_is(w, 1, \"rxsa\")", "false")],
     "disk": [("saver.c", "    if (s->runs) {", "    if (false) {"),
              ("numbers.c", "LASTS = 32, SLOW = 16,", "LASTS = 1, SLOW = 0,"),
-             ("waits.c", "enum { LONGEST = 1000 };", "enum { LONGEST = 10000 };")],
+             ("waits.c", "enum { LONGEST = 1000 };", "enum { LONGEST = 10000 };"),
+             ("waits.c", "    d->waits.answers++;\n", "")],
     "keys": [("names.c", "    return name->given_up != 0 && ", "    return name->given_up == UINT64_MAX && "),
              ("names.c", "    name->given_up = ++n->given_up;\n    name->marked = true;", "    name->marked = true;"),
              ("names.c", "name->came_again = name->came_again || existed;", "name->came_again = false;"),
