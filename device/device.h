@@ -600,24 +600,27 @@ void answer_metrics(struct text *t, const struct device *d);
 
 /* ---- history.c: when frames last went each way ---- */
 
-/* Times are in seconds since the system started, and one more; 0 is never. */
+/* Times are in seconds since macsecd started, and one more; 0 is never. */
 struct heard {
     uint8_t sci[8];
     uint64_t time;
 };
 
 struct history {
+    uint64_t seconds; /* since macsecd started, by the loop's clock */
     uint64_t sent, dropped;
     bool from_link;                              /* did LINK bring the last frame that was dropped? Else TAP did. */
     uint32_t why;                                /* its verdict, or its fate */
     struct heard heard[MACSEC_RX_CHANNEL_COUNT]; /* when a channel's last frame was delivered */
 };
 
+/* To be called when so many seconds have passed. No frame asks the system for the time. */
+void history_tick(struct history *h, uint64_t seconds);
 /* Note what became of a frame. */
 void history_sent(struct history *h, const macsec_sent *sent);
 void history_received(struct history *h, const macsec_received *got);
 /* How long ago that was. Returns false if it never was. */
-bool history_age(uint64_t time, uint64_t *seconds);
+bool history_age(const struct history *h, uint64_t time, uint64_t *seconds);
 /* How long ago a frame of this channel was delivered. */
 bool history_heard(const struct history *h, const uint8_t sci[8], uint64_t *seconds);
 
@@ -800,6 +803,7 @@ struct device {
     struct port port;
     struct numbers *numbers;
     struct workers *workers; /* NULL: there are none */
+    unsigned under_way[2];   /* frames of each direction that workers have */
     bool sparse;             /* had the last frames of TAP come one by one? */
     int signals, clock, events;
 };

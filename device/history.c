@@ -1,24 +1,25 @@
 /* When frames last went each way, and why the last one was dropped: for people who look at a running device. */
-#define _GNU_SOURCE
 #include "device.h"
 #include <string.h>
-#include <time.h>
 
-/* Seconds since the system started. Of this clock the kernel gives the time without a system call. */
-static uint64_t now(void) {
-    struct timespec time;
-    return clock_gettime(CLOCK_MONOTONIC_COARSE, &time) == 0 ? (uint64_t)time.tv_sec + 1 : 0;
+void history_tick(struct history *h, uint64_t seconds) {
+    h->seconds += seconds;
+}
+
+/* The time by which a frame is noted. */
+static uint64_t now(const struct history *h) {
+    return h->seconds + 1;
 }
 
 static void drop(struct history *h, bool from_link, uint32_t why) {
-    h->dropped = now();
+    h->dropped = now(h);
     h->from_link = from_link;
     h->why = why;
 }
 
 void history_sent(struct history *h, const macsec_sent *sent) {
     if (sent->length > 0)
-        h->sent = now();
+        h->sent = now(h);
     else
         drop(h, false, sent->fate);
 }
@@ -40,18 +41,17 @@ void history_received(struct history *h, const macsec_received *got) {
     if (!got->delivered)
         drop(h, true, got->verdict);
     else if (got->has_sa)
-        place_of(h, got->sci)->time = now();
+        place_of(h, got->sci)->time = now(h);
 }
 
-bool history_age(uint64_t time, uint64_t *seconds) {
-    uint64_t present = now();
-    *seconds = present > time ? present - time : 0;
+bool history_age(const struct history *h, uint64_t time, uint64_t *seconds) {
+    *seconds = now(h) - time;
     return time != 0;
 }
 
 bool history_heard(const struct history *h, const uint8_t sci[8], uint64_t *seconds) {
     for (size_t i = 0; i < MACSEC_RX_CHANNEL_COUNT; i++)
         if (memcmp(h->heard[i].sci, sci, sizeof h->heard[i].sci) == 0)
-            return history_age(h->heard[i].time, seconds);
+            return history_age(h, h->heard[i].time, seconds);
     return false;
 }

@@ -228,7 +228,10 @@ unsigned link_waiting(void) {
 }
 
 void link_append(const uint8_t *octets, size_t length, struct counts *c) {
-    unsigned at = (waiting_first + waiting_count) % BATCH;
+    unsigned at;
+    if (waiting_count == 0)
+        waiting_first = 0; /* a frame that comes alone is always at one place, whose memory is warm */
+    at = (waiting_first + waiting_count) % BATCH;
     if (waiting_count == BATCH) {
         c->link_refused++;
         return;

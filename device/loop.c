@@ -124,6 +124,7 @@ static int on_clock(struct device *d) {
     uint64_t times;
     if (read(d->clock, &times, sizeof times) != (ssize_t)sizeof times)
         return GOES_ON;
+    history_tick(&d->history, times);
     numbers_tick(d->numbers, d->endpoint);
     held_tick(d);
     drops_tick(d);
@@ -217,7 +218,7 @@ static int on_event(struct device *d, const struct epoll_event *event) {
 /* Waits for events. While frames are in rings, it does jobs if there are none, and finished frames end the wait. */
 static int wait_for_events(struct device *d, struct epoll_event events[EVENTS]) {
     int count, left = waits_left(d);
-    if (d->workers == NULL || !workers_have_frames(d->workers))
+    if (d->under_way[SENDING] + d->under_way[RECEIVING] == 0)
         return epoll_wait(d->events, events, EVENTS, left);
     count = epoll_wait(d->events, events, EVENTS, 0);
     if (count != 0 || workers_help(d->workers))

@@ -7,19 +7,33 @@
 #include "workers.h"
 #include <string.h>
 
+/* Puts the frame of a free place into a ring. The count beside what each frame needs anyway saves a frame that comes
+ * alone the look at the rings, whose memory is cold then. */
+static void put(struct device *d, enum direction direction, struct copies *copies) {
+    workers_put(d->workers, direction, copies);
+    d->under_way[direction]++;
+}
+
+static void remove_first(struct device *d, enum direction direction) {
+    workers_remove(d->workers, direction);
+    d->under_way[direction]--;
+}
+
 /* ---- Sending ---- */
 
 /* Sends sealed frames in their order, as far as LINK takes them. */
 static enum outcome send_finished(struct device *d) {
     struct ring *r = workers_ring(d->workers, SENDING);
     enum outcome outcome = DONE;
+    if (d->under_way[SENDING] == 0)
+        return link_flush(&d->link, &d->counts);
     while (outcome == DONE) {
         struct ring_place *p;
         while (link_waiting() < BATCH && (p = ring_first(r)) != NULL) {
             macsec_sent sent = { p->out, p->length, MACSEC_OK, p->fate, 0, { 0 } };
             d->counts.link_refused += p->length == 0; /* its packet number is used */
             frames_sent(d, &sent);
-            workers_remove(d->workers, SENDING);
+            remove_first(d, SENDING);
         }
         outcome = link_flush(&d->link, &d->counts);
         if (ring_first(r) == NULL)
@@ -52,7 +66,7 @@ static uint32_t plan_client_frame(struct device *d, const struct frame *frame) {
         frames_sent(d, &dropped);
         return planned.fate;
     }
-    workers_put(d->workers, SENDING, copies);
+    put(d, SENDING, copies);
     return planned.fate;
 }
 
@@ -69,7 +83,7 @@ static bool can_plan(const struct device *d) {
 /* Waits until all places of the sending ring but so many are finished and their frames given to LINK. */
 static enum outcome leave_at_most(struct device *d, unsigned count) {
     enum outcome outcome = send_finished(d);
-    while (outcome == DONE && ring_count(workers_ring(d->workers, SENDING)) > count) {
+    while (outcome == DONE && d->under_way[SENDING] > count) {
         (void)workers_await(d->workers, SENDING, 0);
         outcome = send_finished(d);
     }
@@ -80,7 +94,7 @@ static enum outcome leave_at_most(struct device *d, unsigned count) {
  * copies, so if none is under way they are looked for when the second frame is there. */
 static enum outcome read_client_frames(struct device *d, struct client_batch *b) {
     struct frame frame, following;
-    bool is_first = ring_count(workers_ring(d->workers, SENDING)) == 0;
+    bool is_first = d->under_way[SENDING] == 0;
     bool plans = !is_first && can_plan(d);
     enum outcome outcome = DONE;
     if (is_first)
@@ -133,7 +147,7 @@ static enum outcome receive_first(struct device *d, struct ring_place *p) {
     got.delivered = finished.delivered;
     got.pn = finished.pn;
     waits = got.verdict == MACSEC_VERDICT_NO_RESERVATION && p->length > 0 && held_keep(d, p->out, p->length);
-    workers_remove(d->workers, RECEIVING);
+    remove_first(d, RECEIVING);
     if (!waits)
         return frames_received(d, &got);
     numbers_received(d->numbers, d->endpoint, &got, held_count(d));
@@ -144,7 +158,8 @@ static enum outcome receive_first(struct device *d, struct ring_place *p) {
 static enum outcome receive_finished(struct device *d) {
     enum outcome outcome = DONE;
     struct ring_place *p;
-    while (outcome == DONE && (p = ring_first(workers_ring(d->workers, RECEIVING))) != NULL)
+    while (outcome == DONE && d->under_way[RECEIVING] > 0 &&
+           (p = ring_first(workers_ring(d->workers, RECEIVING))) != NULL)
         outcome = receive_first(d, p);
     return outcome;
 }
@@ -170,7 +185,7 @@ static enum outcome plan_link_frame(struct device *d, const struct frame *frame)
         return frames_receive(d, frame); /* it counts and judges nothing, and says why */
     p->length = numbers_are_ahead(d->numbers) ? frame->length : 0;
     memcpy(p->out, frame->octets, p->length);
-    workers_put(d->workers, RECEIVING, planned.job ? workers_copies(d->workers, d->endpoint, planned.key) : NULL);
+    put(d, RECEIVING, planned.job ? workers_copies(d->workers, d->endpoint, planned.key) : NULL);
     return DONE;
 }
 
@@ -183,7 +198,7 @@ enum outcome parallel_from_link(struct device *d) {
         outcome = link_read(&d->link, frames, &count);
     if (outcome == GONE)
         return outcome;
-    alone = count == 1 && ring_count(workers_ring(d->workers, RECEIVING)) == 0;
+    alone = count == 1 && d->under_way[RECEIVING] == 0;
     for (unsigned i = 0; i < count; i++) {
         struct segments s;
         struct frame frame;
@@ -211,11 +226,11 @@ enum outcome parallel_drain(struct device *d) {
     bool gone = false;
     if (d->workers == NULL)
         return DONE;
-    while (ring_count(workers_ring(d->workers, RECEIVING)) > 0) { /* also if TAP is gone: then they are refused */
+    while (d->under_way[RECEIVING] > 0) { /* also if TAP is gone: then they are refused */
         (void)workers_await(d->workers, RECEIVING, 0);
         gone = receive_finished(d) == GONE || gone;
     }
-    for (unsigned i = 0; i < ring_count(workers_ring(d->workers, SENDING)); i++)
+    for (unsigned i = 0; i < d->under_way[SENDING]; i++)
         (void)workers_await(d->workers, SENDING, i);
     return send_finished(d) == GONE || gone ? GONE : DONE;
 }

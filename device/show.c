@@ -78,10 +78,10 @@ static void add_journal(struct text *t, const struct device *d) {
 static void add_last(struct text *t, const struct history *h) {
     char text[AGE];
     uint64_t seconds;
-    bool ever = history_age(h->sent, &seconds);
+    bool ever = history_age(h, h->sent, &seconds);
     age_text(ever, seconds, text);
     text_add(t, "  last frame sent: %s\n", text);
-    ever = history_age(h->dropped, &seconds);
+    ever = history_age(h, h->dropped, &seconds);
     age_text(ever, seconds, text);
     text_add(t, "  last drop: %s", text);
     if (ever)

@@ -321,6 +321,7 @@ static void compare(void) {
 static void end_early(unsigned workers) {
     static struct device c;
     for (unsigned i = 0; i < ENDS; i++) {
+        memset(&c, 0, sizeof c); /* as a device begins */
         open_device(&c, "0200000000010001", workers);
         command(&c, "A key 0 %032u 0", i + 1);
         command(&c, "A txsa 0 0 1 conf");
