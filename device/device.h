@@ -163,6 +163,18 @@ enum { COUNT_OF_COUNTS = sizeof(struct counts) / sizeof(uint64_t) };
 const char *counts_name(size_t index);
 uint64_t counts_value(const struct counts *c, size_t index);
 
+/* ---- calls.c: the system calls that each frame needs ---- */
+
+struct mmsghdr;
+struct epoll_event;
+
+/* As the functions of the C library without `call_`. */
+ssize_t call_read(int file, void *to, size_t length);
+ssize_t call_write(int file, const void *from, size_t length);
+int call_recvmmsg(int socket, struct mmsghdr *to, unsigned count, int flags);
+int call_sendmmsg(int socket, struct mmsghdr *from, unsigned count, int flags);
+int call_epoll_wait(int file, struct epoll_event *events, int count, int milliseconds);
+
 /* ---- link.c: LINK, the network device below ---- */
 
 struct link {

@@ -199,7 +199,7 @@ enum outcome link_read(struct link *l, struct unfinished frames[BATCH], unsigned
     prepare(headers, used);
     *count = 0;
     do
-        got = recvmmsg(l->socket, headers, BATCH, MSG_DONTWAIT, NULL);
+        got = call_recvmmsg(l->socket, headers, BATCH, MSG_DONTWAIT);
     while (got < 0 && errno == EINTR);
     used = got < 0 ? 1 : got < BATCH ? (unsigned)got + 1 : BATCH;
     if (got < 0) {
@@ -258,7 +258,7 @@ static int send_waiting(const struct link *l) {
         parts[i][1] = (struct iovec){ waiting[at], waiting_length[at] };
         headers[i] = (struct mmsghdr){ .msg_hdr = { .msg_iov = parts[i], .msg_iovlen = 2 } };
     }
-    return sendmmsg(l->socket, headers, waiting_count, MSG_DONTWAIT);
+    return call_sendmmsg(l->socket, headers, waiting_count, MSG_DONTWAIT);
 }
 
 enum outcome link_flush(struct link *l, struct counts *c) {

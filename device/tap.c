@@ -92,7 +92,7 @@ enum outcome tap_read(struct tap *t, struct frame *frame) {
     uint8_t *buffer = buffers[next_buffer];
     ssize_t length;
     do
-        length = read(t->file, buffer, sizeof buffers[0]);
+        length = call_read(t->file, buffer, sizeof buffers[0]);
     while (length < 0 && errno == EINTR);
     if (length < 0)
         return is_gone(errno) ? GONE : BUSY;
@@ -105,7 +105,7 @@ enum outcome tap_read(struct tap *t, struct frame *frame) {
 enum outcome tap_write(struct tap *t, const uint8_t *octets, size_t length, struct counts *c) {
     ssize_t written;
     do
-        written = write(t->file, octets, length);
+        written = call_write(t->file, octets, length);
     while (written < 0 && errno == EINTR);
     if (written >= 0) {
         c->tap_out++;
