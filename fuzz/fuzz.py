@@ -213,7 +213,11 @@ def report(options, tally, seconds):
 
 
 def show(options):
-    case = case_of(options.seed, options.only, Corpus())
+    try:
+        case = case_of(options.seed, options.only, Corpus())
+    except promises.Broken as broken:
+        print(f"expected.py: {broken}, in the script\n{broken.script.decode(errors='backslashreplace')}")
+        return 1
     print(f"words: {case.words}\nstandard input: {case.stdin!r}")
     for name, octets in case.files.items():
         print(f"{name}: {octets!r}")

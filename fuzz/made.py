@@ -44,6 +44,9 @@ class Maker:
         else:
             self.text += expected.lines_told(self.watch, len(self.lines), keyword, end, values)
 
+    def script(self):
+        return "".join(it + "\n" for it in self.lines).encode()
+
     # The initial ends.
 
     def create_ends(self):
@@ -460,8 +463,12 @@ WEIGHTS = {
 def made_script(rng):
     """A script without a fault, its text, and how often the premises of each promise were met in its run."""
     maker = Maker(rng)
-    for act in rng.choices(list(WEIGHTS), list(WEIGHTS.values()), k=rng.randrange(1, 40)):
-        act(maker)
-    for line in ("A numbers", "A counters", "B numbers", "B counters"):
-        maker.add(line)
-    return "".join(it + "\n" for it in maker.lines).encode(), expected.text_of(maker.text), maker.watch.met
+    try:
+        for act in rng.choices(list(WEIGHTS), list(WEIGHTS.values()), k=rng.randrange(1, 40)):
+            act(maker)
+        for line in ("A numbers", "A counters", "B numbers", "B counters"):
+            maker.add(line)
+    except promises.Broken as broken:
+        broken.script = maker.script()
+        raise
+    return maker.script(), expected.text_of(maker.text), maker.watch.met

@@ -20,6 +20,8 @@ Sent = collections.namedtuple("Sent", "end key an number client")
 class Broken(Exception):
     """The promise that a run breaks, and what was seen."""
 
+    script = b""  # which breaks it, if that is known
+
     def __str__(self):
         return f"promise `{self.args[0]}`: {self.args[1]}"
 
@@ -214,5 +216,9 @@ def checked_run(script, model=expected):
         watches.append(Watch(ends, model))
         return watches[0]
 
-    answer = model.run_script(script, watch)
+    try:
+        answer = model.run_script(script, watch)
+    except Broken as broken:
+        broken.script = script
+        raise
     return answer, watches[0].met if watches else collections.Counter()
