@@ -250,7 +250,7 @@ static void remove_waiting(unsigned count) {
 /* Sends what waits, as far as the system takes it. Nothing is left to a network card. Returns what sendmmsg does. */
 static int send_waiting(const struct link *l) {
     static struct virtio_net_hdr complete;
-    struct mmsghdr headers[BATCH]; /* of so many are used, and no others written to */
+    struct mmsghdr headers[BATCH]; /* only those that are used are written */
     struct iovec parts[BATCH][2];
     for (unsigned i = 0; i < waiting_count; i++) {
         unsigned at = (waiting_first + i) % BATCH;
