@@ -228,6 +228,9 @@ static int read_records(struct journal *journal, off_t length, size_t limit, str
         return failed(fault, JOURNAL_LENGTH, EFBIG);
     journal->length = (size_t)length / MACSEC_RECORD_LENGTH * MACSEC_RECORD_LENGTH;
     journal->own = journal->length;
+    /* What an earlier process failed to make durable, a name too, a later synchronization does not make up for. So the
+     * first call writes the whole journal into a new file. */
+    journal->in_doubt = true;
     journal->room = journal->length < limit ? limit : journal->length;
     journal->octets = malloc(journal->room);
     journal->spare = malloc(journal->room);

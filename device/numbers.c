@@ -112,6 +112,7 @@ int numbers_open(struct numbers **n, const char *name, bool ahead, struct counts
     the_numbers.counts = counts;
     the_numbers.ahead = ahead;
     the_numbers.amount = JOURNAL_AMOUNT_MIN;
+    the_numbers.anew = true; /* as journal_open says */
     if (!journals_path(path, sizeof path, name))
         return ENDS_WRONG;
     if (journal_open(&the_numbers.journal, path, NUMBERS_FILE_LENGTH, &fault) == 0) {
@@ -263,6 +264,7 @@ static void reserve_for(struct numbers *n, macsec_endpoint *e, uint8_t an) {
     name = names_find(&n->names, record.octets);
     if (name != NULL && name->is_durable) {
         grant(e, &name->durable);
+        (void)names_note(&n->names, &name->durable, sa.key, true); /* as in accept_for */
         if (macsec_reserve_wanted(e, an, n->amount, &record) != MACSEC_OK)
             return;
     }
@@ -299,7 +301,7 @@ static bool accept_for(struct numbers *n, macsec_endpoint *e, const uint8_t sci[
     uint64_t amount = paces_amount(paces_of(&n->paces, sci), n->slow);
     macsec_rx_sa sa;
     macsec_record record;
-    const struct name *name;
+    struct name *name;
     if (macsec_get_rx_sa(e, sci, an, &sa) != MACSEC_OK ||
         macsec_reserve_to_accept(e, sci, an, amount, pn, &record) != MACSEC_OK)
         return false;
@@ -307,6 +309,7 @@ static bool accept_for(struct numbers *n, macsec_endpoint *e, const uint8_t sci[
     if (name != NULL && name->is_durable && (names_cover(name, &record) || !may_accept(e, sci, an))) {
         grant(e, &name->durable);
         n->grants++;
+        (void)names_note(&n->names, &name->durable, sa.key, true); /* its key is installed: it is not given up */
         if (macsec_reserve_to_accept(e, sci, an, amount, pn, &record) != MACSEC_OK)
             return false;
     }

@@ -7,6 +7,7 @@ ghost use Rattle.macsec_rx.specs.Channels.{rx_row};
 ghost use Rattle.macsec_rx.specs.Limits.{max_row_count};
 ghost use Rattle.macsec_secy.specs.Answers.{output_of_command};
 ghost use Rattle.macsec_secy.specs.Jobs.{OpensFrame};
+ghost use Rattle.macsec_secy.specs.Sound.{IsSound};
 ghost use Rattle.macsec_secy.specs.Step.{client_frame, link_frame, operator_command};
 ghost use Rattle.macsec_reserve.specs.Answers.{output_of_kept};
 ghost use Rattle.macsec_reserve.specs.Entries.{raised_by};
@@ -135,6 +136,15 @@ impl AheadKeeper {
         ensures { result.now ≡ self.now.k }
     {
         &self.keeper
+    }
+
+    /// The endpoint is sound, whichever calls were made before: the premise of the laws over restarts at this moment. The
+    /// call does nothing.
+    pub fn is_sound(&self)
+        ensures { IsSound self.now.k.secy }
+    {
+        // For the prover only: it learns from `Secy::send_uncontrolled` that the endpoint is sound.
+        let _ = self.keeper.secy().send_uncontrolled(&[]);
     }
 
     /// Says whether key streams are to be made 16 blocks at once, as `Secy::prefer_wide`.

@@ -142,10 +142,10 @@ forgets_alike_alone laws begins config inputs sound = runs_alike laws inputs (al
 
 -- ---- over all runs
 
-abbrev IsSoundForgetting : Run → Type 0
+abbrev pub IsSoundForgetting : Run → Type 0
 IsSoundForgetting run = StaysSoundForgetting (opening run) run.inputs
 
-seals_in_all : KeyLaws → StartAgrees → (runs : List Run) → All IsSoundForgetting runs → sealed_forgetting_in_all runs ≡ sealed_in_all (map without_forgetting runs)
+pub seals_in_all : KeyLaws → StartAgrees → (runs : List Run) → All IsSoundForgetting runs → sealed_forgetting_in_all runs ≡ sealed_in_all (map without_forgetting runs)
 seals_in_all laws begins [] sounds = refl
 seals_in_all laws begins (run ∷ runs) sounds =
     ap₂ (λ (uses more : List CipherUse). uses ++ more)
@@ -163,13 +163,13 @@ one_more_report : (input : KeepingInput) (inputs inputs' : List KeepingInput) �
 one_more_report (endpoint_input input) inputs inputs' same = same
 one_more_report (now_durable r) inputs inputs' same = ap (λ (rs : List Reservation). r ∷ rs) same
 
-reports_kept : (inputs : List KeepingInput) (f : Keeping) → reported_in (others f inputs) ≡ reported_in inputs
+pub reports_kept : (inputs : List KeepingInput) (f : Keeping) → reported_in (others f inputs) ≡ reported_in inputs
 reports_kept [] f = refl
 reports_kept (input ∷ inputs) f =
     let f' = (forgetting_step f input).1 in
     reports_if (installs_retired f input) f input (others f' inputs) refl ∙ one_more_report input inputs (others f' inputs) (reports_kept inputs f')
 
-pairs-map : {X Y : Type 0} (f : X → Y) (R : Y → Y → Type 0) (xs : List X) → AllPairs (λ x y. R (f x) (f y)) xs → AllPairs R (map f xs)
+pub pairs-map : {X Y : Type 0} (f : X → Y) (R : Y → Y → Type 0) (xs : List X) → AllPairs (λ x y. R (f x) (f y)) xs → AllPairs R (map f xs)
 pairs-map f R [] pairs = no_pairs R
 pairs-map f R (x ∷ xs) pairs =
     AllPairs-cons R (f x) (map f xs) (All-map (R (f x)) f xs (pairs-head (λ y z. R (f y) (f z)) x xs pairs)) (pairs-map f R xs (pairs-tail (λ y z. R (f y) (f z)) x xs pairs))

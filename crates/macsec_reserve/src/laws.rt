@@ -12,6 +12,7 @@ ghost use Rattle.macsec_secy.specs.State.{State};
 ghost use Rattle.macsec_secy.specs.Step.{Input};
 ghost use Rattle.macsec_suite.specs.declared.key_row.NewKey.{NewKey};
 ghost use Rattle.macsec_reserve.specs.Forgotten.{BecomesKnown, ForgetsAlike, IsAsBefore, RefusesKnown, RepeatsNoIvForgetting, StaysKnown};
+ghost use Rattle.macsec_reserve.specs.OfKeys.{RepeatsNoIvOfKeys, RepeatsNoIvOfKeysForgetting};
 ghost use Rattle.macsec_reserve.specs.Keeping.{Keeping, KeepingInput, alone};
 ghost use Rattle.macsec_reserve.specs.Replay.{DeliversAbove, NeverDeliversAgain, NeverDeliversAgainUnder, SavesAccepted};
 ghost use Rattle.macsec_reserve.specs.Transparent.{IsTheMachine, IsTheMachineAlone};
@@ -132,6 +133,21 @@ pub fn refuses_forgotten_keys()
 /// the same key octets and the same IV.
 pub fn repeats_no_iv_forgetting()
     ensures { (runs : List Run) → RepeatsNoIvForgetting runs }
+{
+    // Laws that the proof cites; the calls do nothing.
+    equal_ivs();
+    keys_stay();
+    protects_frames();
+    retired_keys_decide_nothing();
+    rows_agree();
+}
+
+/// The first promise with a weaker premise: a later run reads what was reported durable under the names of its own keys. So
+/// names of keys that no later run has may leave the journal. It is of endpoints that forget no key (`kept`), and of those that
+/// forget the keys that they retire (`forgetting`).
+pub fn repeats_no_iv_of_keys()
+    ensures kept { (runs : List Run) → RepeatsNoIvOfKeys runs }
+    ensures forgetting { (runs : List Run) → RepeatsNoIvOfKeysForgetting runs }
 {
     // Laws that the proof cites; the calls do nothing.
     equal_ivs();

@@ -38,7 +38,7 @@ gone s after t row there none =
 -- ---- a key that is given up
 
 -- a key that a step of the keeping endpoint retires is given up
-retires : (k : Keeping) (n : ℕ) → is_done (keeping_step k (endpoint_input (operator_command (Retire n)))).0 ≡ true →
+pub retires : (k : Keeping) (n : ℕ) → is_done (keeping_step k (endpoint_input (operator_command (Retire n)))).0 ≡ true →
     IsGivenUp (keeping_step k (endpoint_input (operator_command (Retire n)))).1.secy n
 retires k n done' = by_both (is_below_floor k (operator_command (Retire n))) (may_go k (operator_command (Retire n))) done'
   where
@@ -57,7 +57,7 @@ retires k n done' = by_both (is_below_floor k (operator_command (Retire n))) (ma
     by_both false false is = cc
     by_both false true is = gives_up k.secy n (is_it_done (step k.secy (operator_command (Retire n))).0 is)
 
-keeps_given_up : (k : Keeping) (input : KeepingInput) (n : ℕ) → IsGivenUp k.secy n → IsGivenUp (keeping_step k input).1.secy n
+pub keeps_given_up : (k : Keeping) (input : KeepingInput) (n : ℕ) → IsGivenUp k.secy n → IsGivenUp (keeping_step k input).1.secy n
 keeps_given_up k (now_durable r) n up = up
 keeps_given_up k (endpoint_input input) n up = by_both (is_below_floor k input) (may_go k input)
   where
@@ -84,16 +84,20 @@ abbrev pub StaysUnless : Ahead → Ahead → ℕ → Sci → ℕ → Type 0
 StaysUnless a after key sci an = IsGivenUp after.k.secy key ⊎ (end_of a.ended key sci an ≤ end_of after.ended key sci an)
 
 -- the key that a command retires is given up
-abbrev GivesUpBy : Command → KeepingOutput × Keeping → Type 0
+abbrev pub GivesUpBy : Command → KeepingOutput × Keeping → Type 0
 GivesUpBy (Retire n) answer = is_done answer.0 ≡ true → IsGivenUp answer.1.secy n
 GivesUpBy c answer = Unit {0}
 
-after_command : (c : Command) (again : Bool) (it : Standing) (a : Ahead) (key : ℕ) (sci : Sci) (an : ℕ) →
-    StaysUnless a (ahead_by again it a (operator_command c) (keeping_step a.k (endpoint_input (operator_command c)))).1 key sci an
-after_command c true it a key sci an = inr (omega arith)
-after_command c false (not_yet at) a key sci an = inr (omega arith)
-after_command c false (before_this_run at) a key sci an = inr (omega arith)
-after_command c false passes a key sci an = by_keeps a.k.keeps c (keeping_step a.k (endpoint_input (operator_command c))) (retires_by c)
+retires_by : (k : Keeping) (c : Command) → GivesUpBy c (keeping_step k (endpoint_input (operator_command c)))
+retires_by k (Retire n) = retires k n
+retires_by k c = tt
+
+pub after_command : (c : Command) (answer : KeepingOutput × Keeping) → GivesUpBy c answer → (again : Bool) (it : Standing) (a : Ahead) (key : ℕ) (sci : Sci) (an : ℕ) →
+    StaysUnless a (ahead_by again it a (operator_command c) answer).1 key sci an
+after_command c answer gives true it a key sci an = inr (omega arith)
+after_command c answer gives false (not_yet at) a key sci an = inr (omega arith)
+after_command c answer gives false (before_this_run at) a key sci an = inr (omega arith)
+after_command c answer gives false passes a key sci an = by_keeps a.k.keeps c answer gives
   where
     grown : (answer : KeepingOutput × Keeping) → end_of a.ended key sci an ≤ end_of (with_ends (ended_by a.k.secy answer.1.secy) a.ended) key sci an
     grown answer = ends_more (ended_by a.k.secy answer.1.secy) a.ended key sci an
@@ -107,25 +111,6 @@ after_command c false passes a key sci an = by_keeps a.k.keeps c (keeping_step a
         IsGivenUp answer.1.secy key ⊎ (end_of a.ended key sci an ≤ end_of (if done' then without_key n (with_ends (ended_by a.k.secy answer.1.secy) a.ended) else with_ends (ended_by a.k.secy answer.1.secy) a.ended) key sci an)
     by_done answer n true up = by_key answer n (up refl) (key == n) refl
     by_done answer n false up = inr (grown answer)
-
-    retires_by : (c' : Command) → GivesUpBy c' (keeping_step a.k (endpoint_input (operator_command c')))
-    retires_by (Retire n) = retires a.k n
-    retires_by (Protect on) = tt
-    retires_by (Validate mode) = tt
-    retires_by (Replay protect window) = tt
-    retires_by (Tag form) = tt
-    retires_by (Key key') = tt
-    retires_by (TxSa an' key' next conf) = tt
-    retires_by (TxOn an') = tt
-    retires_by (TxOff an') = tt
-    retires_by (TxDel an') = tt
-    retires_by (RxSc sci') = tt
-    retires_by (RxScDel sci') = tt
-    retires_by (RxSa sci' an' key' ssci lowest) = tt
-    retires_by (RxOn sci' an') = tt
-    retires_by (RxOff sci' an') = tt
-    retires_by (RxLow sci' an' pn) = tt
-    retires_by (RxDel sci' an') = tt
 
     by_command : (c' : Command) (answer : KeepingOutput × Keeping) → GivesUpBy c' answer →
         IsGivenUp answer.1.secy key ⊎ (end_of a.ended key sci an ≤ end_of (after_retiring c' (is_done answer.0) (with_ends (ended_by a.k.secy answer.1.secy) a.ended)) key sci an)
@@ -159,9 +144,10 @@ after_frame false (not_yet at) a input answer same key sci an = inr (omega arith
 after_frame false (before_this_run at) a input answer same key sci an = inr (omega arith)
 after_frame false passes a input answer same key sci an = inr (subst (λ (t : Ends). end_of a.ended key sci an ≤ end_of t key sci an) (sym same) (omega arith))
 
-ends_step : (a : Ahead) (input : KeepingInput) (key : ℕ) (sci : Sci) (an : ℕ) → StaysUnless a (ahead_step a input).1 key sci an
+pub ends_step : (a : Ahead) (input : KeepingInput) (key : ℕ) (sci : Sci) (an : ℕ) → StaysUnless a (ahead_step a input).1 key sci an
 ends_step a (now_durable r) key sci an = inr (omega arith)
-ends_step a (endpoint_input (operator_command c)) key sci an = after_command c (begins_again a (operator_command c)) (standing a (operator_command c)) a key sci an
+ends_step a (endpoint_input (operator_command c)) key sci an =
+    after_command c (keeping_step a.k (endpoint_input (operator_command c))) (retires_by a.k c) (begins_again a (operator_command c)) (standing a (operator_command c)) a key sci an
 ends_step a (endpoint_input (client_frame frame)) key sci an = after_frame false passes a (client_frame frame) (keeping_step a.k (endpoint_input (client_frame frame))) refl key sci an
 ends_step a (endpoint_input (uncontrolled_frame frame)) key sci an = after_frame false passes a (uncontrolled_frame frame) (keeping_step a.k (endpoint_input (uncontrolled_frame frame))) refl key sci an
 ends_step a (endpoint_input (link_frame frame)) key sci an =
@@ -183,7 +169,7 @@ keeps_ends (input ∷ inputs) a key sci an = by_step (ends_step a input key sci 
 -- ---- an SA that a step deletes
 
 -- a step of the endpoint keeps each SA, unless it is a command
-row_kept : (k : Keeping) (input : KeepingInput) (sci : Sci) (an n : ℕ) → KeepsAssociation sci an input → IsAbove k.secy.rx.rows sci an n → IsAbove (keeping_step k input).1.secy.rx.rows sci an n
+pub row_kept : (k : Keeping) (input : KeepingInput) (sci : Sci) (an n : ℕ) → KeepsAssociation sci an input → IsAbove k.secy.rx.rows sci an n → IsAbove (keeping_step k input).1.secy.rx.rows sci an n
 row_kept k (now_durable r) sci an n stays above = above
 row_kept k (endpoint_input input) sci an n stays above = by_both (is_below_floor k input) (may_go k input)
   where
@@ -192,45 +178,37 @@ row_kept k (endpoint_input input) sci an n stays above = by_both (is_below_floor
     by_both false true = rx_rows_stay k.secy input sci an n stays above
     by_both false false = above
 
-not_gone : (k : Keeping) (input : KeepingInput) (row : RxRow) → KeepsAssociation row.sci row.an input → rx_row k.secy.rx.rows row.sci row.an ≡ Some row →
+pub not_gone : (k : Keeping) (input : KeepingInput) (row : RxRow) → KeepsAssociation row.sci row.an input → rx_row k.secy.rx.rows row.sci row.an ≡ Some row →
     rx_row (keeping_step k input).1.secy.rx.rows row.sci row.an ≡ None → ⊥
 not_gone k input row stays there none =
     let above = row_kept k input row.sci row.an 0 stays (record { row = row; there = there; above = omega arith }) in
     let no = sym above.there ∙ none in cc
 
-remembers_command : (a : Ahead) (row : RxRow) → rx_row a.k.secy.rx.rows row.sci row.an ≡ Some row → (c : Command) →
-    rx_row (keeping_step a.k (endpoint_input (operator_command c))).1.secy.rx.rows row.sci row.an ≡ None →
-    let answer = keeping_step a.k (endpoint_input (operator_command c)) in
-    end_of_row row ≤ end_of (after_retiring c (is_done answer.0) (with_ends (ended_by a.k.secy answer.1.secy) a.ended)) row.key row.sci row.an
-remembers_command a row there (Retire n) none = absurd (not_gone a.k (endpoint_input (operator_command (Retire n))) row refl there none)
-remembers_command a row there (Protect on) none = gone a.k.secy (keeping_step a.k (endpoint_input (operator_command (Protect on)))).1.secy a.ended row there none
-remembers_command a row there (Validate mode) none = gone a.k.secy (keeping_step a.k (endpoint_input (operator_command (Validate mode)))).1.secy a.ended row there none
-remembers_command a row there (Replay protect window) none = gone a.k.secy (keeping_step a.k (endpoint_input (operator_command (Replay protect window)))).1.secy a.ended row there none
-remembers_command a row there (Tag form) none = gone a.k.secy (keeping_step a.k (endpoint_input (operator_command (Tag form)))).1.secy a.ended row there none
-remembers_command a row there (Key key') none = gone a.k.secy (keeping_step a.k (endpoint_input (operator_command (Key key')))).1.secy a.ended row there none
-remembers_command a row there (TxSa an' key' next conf) none = gone a.k.secy (keeping_step a.k (endpoint_input (operator_command (TxSa an' key' next conf)))).1.secy a.ended row there none
-remembers_command a row there (TxOn an') none = gone a.k.secy (keeping_step a.k (endpoint_input (operator_command (TxOn an')))).1.secy a.ended row there none
-remembers_command a row there (TxOff an') none = gone a.k.secy (keeping_step a.k (endpoint_input (operator_command (TxOff an')))).1.secy a.ended row there none
-remembers_command a row there (TxDel an') none = gone a.k.secy (keeping_step a.k (endpoint_input (operator_command (TxDel an')))).1.secy a.ended row there none
-remembers_command a row there (RxSc sci') none = gone a.k.secy (keeping_step a.k (endpoint_input (operator_command (RxSc sci')))).1.secy a.ended row there none
-remembers_command a row there (RxScDel sci') none = gone a.k.secy (keeping_step a.k (endpoint_input (operator_command (RxScDel sci')))).1.secy a.ended row there none
-remembers_command a row there (RxSa sci' an' key' ssci lowest) none = gone a.k.secy (keeping_step a.k (endpoint_input (operator_command (RxSa sci' an' key' ssci lowest)))).1.secy a.ended row there none
-remembers_command a row there (RxOn sci' an') none = gone a.k.secy (keeping_step a.k (endpoint_input (operator_command (RxOn sci' an')))).1.secy a.ended row there none
-remembers_command a row there (RxOff sci' an') none = gone a.k.secy (keeping_step a.k (endpoint_input (operator_command (RxOff sci' an')))).1.secy a.ended row there none
-remembers_command a row there (RxLow sci' an' pn) none = gone a.k.secy (keeping_step a.k (endpoint_input (operator_command (RxLow sci' an' pn)))).1.secy a.ended row there none
-remembers_command a row there (RxDel sci' an') none = gone a.k.secy (keeping_step a.k (endpoint_input (operator_command (RxDel sci' an')))).1.secy a.ended row there none
+-- a command that retires a key deletes no SA
+abbrev pub KeepsByRetiring : Command → KeepingOutput × Keeping → RxRow → Type 0
+KeepsByRetiring (Retire n) answer row = rx_row answer.1.secy.rx.rows row.sci row.an ≡ None → ⊥
+KeepsByRetiring c answer row = Unit {0}
 
-remembers_by : (c : Command) (again : Bool) (it : Standing) (a : Ahead) (row : RxRow) → a.k.keeps ≡ true → rx_row a.k.secy.rx.rows row.sci row.an ≡ Some row →
-    let after = (ahead_by again it a (operator_command c) (keeping_step a.k (endpoint_input (operator_command c)))).1 in
-    rx_row after.k.secy.rx.rows row.sci row.an ≡ None → end_of_row row ≤ end_of after.ended row.key row.sci row.an
-remembers_by c true it a row keeps there none = let no = sym there ∙ none in cc
-remembers_by c false (not_yet at) a row keeps there none = let no = sym there ∙ none in cc
-remembers_by c false (before_this_run at) a row keeps there none = let no = sym there ∙ none in cc
-remembers_by c false passes a row keeps there none =
-    let answer = keeping_step a.k (endpoint_input (operator_command c)) in
+remembers_command : (a : Ahead) (row : RxRow) → rx_row a.k.secy.rx.rows row.sci row.an ≡ Some row → (c : Command) (answer : KeepingOutput × Keeping) → KeepsByRetiring c answer row →
+    rx_row answer.1.secy.rx.rows row.sci row.an ≡ None →
+    end_of_row row ≤ end_of (after_retiring c (is_done answer.0) (with_ends (ended_by a.k.secy answer.1.secy) a.ended)) row.key row.sci row.an
+remembers_command a row there (Retire n) answer keeps none = absurd (keeps none)
+remembers_command a row there c answer keeps none = gone a.k.secy answer.1.secy a.ended row there none
+
+keeps_by_retiring : (k : Keeping) (row : RxRow) → rx_row k.secy.rx.rows row.sci row.an ≡ Some row → (c : Command) → KeepsByRetiring c (keeping_step k (endpoint_input (operator_command c))) row
+keeps_by_retiring k row there (Retire n) = not_gone k (endpoint_input (operator_command (Retire n))) row refl there
+keeps_by_retiring k row there c = tt
+
+pub remembers_by : (c : Command) (answer : KeepingOutput × Keeping) (again : Bool) (it : Standing) (a : Ahead) (row : RxRow) → KeepsByRetiring c answer row → a.k.keeps ≡ true →
+    rx_row a.k.secy.rx.rows row.sci row.an ≡ Some row → rx_row (ahead_by again it a (operator_command c) answer).1.k.secy.rx.rows row.sci row.an ≡ None →
+    end_of_row row ≤ end_of (ahead_by again it a (operator_command c) answer).1.ended row.key row.sci row.an
+remembers_by c answer true it a row by keeps there none = let no = sym there ∙ none in cc
+remembers_by c answer false (not_yet at) a row by keeps there none = let no = sym there ∙ none in cc
+remembers_by c answer false (before_this_run at) a row by keeps there none = let no = sym there ∙ none in cc
+remembers_by c answer false passes a row by keeps there none =
     let more = after_retiring c (is_done answer.0) (with_ends (ended_by a.k.secy answer.1.secy) a.ended) in
     let all : ended_after a (operator_command c) answer ≡ more = ap (λ (b : Bool). if b then more else a.ended) keeps in
-    subst (λ (t : Ends). end_of_row row ≤ end_of t row.key row.sci row.an) (sym all) (remembers_command a row there c none)
+    subst (λ (t : Ends). end_of_row row ≤ end_of t row.key row.sci row.an) (sym all) (remembers_command a row there c answer by none)
 
 -- a step that is no command deletes no SA
 remembers_frame : (again : Bool) (it : Standing) (a : Ahead) (input : Input) (row : RxRow) → KeepsAssociation row.sci row.an (endpoint_input input) → rx_row a.k.secy.rx.rows row.sci row.an ≡ Some row →
@@ -243,7 +221,7 @@ remembers_frame false passes a input row stays there none = not_gone a.k (endpoi
 pub remembers_end : (a : Ahead) (input : KeepingInput) (row : RxRow) → RemembersEnd a input row
 remembers_end a (now_durable r) row keeps there none = let no = sym there ∙ none in cc
 remembers_end a (endpoint_input (operator_command c)) row keeps there none =
-    remembers_by c (begins_again a (operator_command c)) (standing a (operator_command c)) a row keeps there none
+    remembers_by c (keeping_step a.k (endpoint_input (operator_command c))) (begins_again a (operator_command c)) (standing a (operator_command c)) a row (keeps_by_retiring a.k row there c) keeps there none
 remembers_end a (endpoint_input (client_frame frame)) row keeps there none = absurd (remembers_frame false passes a (client_frame frame) row refl there none)
 remembers_end a (endpoint_input (uncontrolled_frame frame)) row keeps there none = absurd (remembers_frame false passes a (uncontrolled_frame frame) row refl there none)
 remembers_end a (endpoint_input (link_frame frame)) row keeps there none = absurd (remembers_frame false (standing a (link_frame frame)) a (link_frame frame) row refl there none)

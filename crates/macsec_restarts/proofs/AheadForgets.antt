@@ -122,10 +122,10 @@ takes_step l (endpoint_input input) is =
     let it = takes_by (begins_again l input) (standing l input) l input (forgetting_step l.k (endpoint_input input)) is in
     record { output = ap (λ (x : AheadOutput × Ahead). x.0) (forgetting_is l input) ∙ it.0; after = ap (λ (x : AheadOutput × Ahead). x.1.k) (forgetting_is l input) ∙ it.1 }
 
-forgets_inside : (l : Ahead) (input : KeepingInput) → lets_through l input ≡ true → (ahead_forgetting_step l input).1.k ≡ (forgetting_step l.k input).1
+pub forgets_inside : (l : Ahead) (input : KeepingInput) → lets_through l input ≡ true → (ahead_forgetting_step l input).1.k ≡ (forgetting_step l.k input).1
 forgets_inside l input is = (takes_step l input is).after
 
-forgetting_stays : (l : Ahead) (input : KeepingInput) → lets_through l input ≡ false → (ahead_forgetting_step l input).1 ≡ l
+pub forgetting_stays : (l : Ahead) (input : KeepingInput) → lets_through l input ≡ false → (ahead_forgetting_step l input).1 ≡ l
 forgetting_stays l (now_durable r) is = cc
 forgetting_stays l (endpoint_input input) is =
     ap (λ (x : AheadOutput × Ahead). x.1) (forgetting_is l input) ∙ stays_by (begins_again l input) (standing l input) l input (forgetting_step l.k (endpoint_input input)) is
@@ -135,7 +135,7 @@ steps_forgetting l input = record { takes = takes_step l input; stays = forgetti
 
 -- ---- what no step changes
 
-forgets_field : {X : Type 0} (g : Keeping → X) → ((k : Keeping) (n : ℕ) → g (forgetting k n) ≡ g k) → (o : Option ℕ) (answer : KeepingOutput × Keeping) → g (then_forget o answer).1 ≡ g answer.1
+pub forgets_field : {X : Type 0} (g : Keeping → X) → ((k : Keeping) (n : ℕ) → g (forgetting k n) ≡ g k) → (o : Option ℕ) (answer : KeepingOutput × Keeping) → g (then_forget o answer).1 ≡ g answer.1
 forgets_field g same None answer = refl
 forgets_field g same (Some n) answer = by_both (is_done answer.0 && can_forget answer.1 n)
   where

@@ -105,7 +105,7 @@ none_sent a (endpoint_input (client_frame frame)) is = cc
 none_sent a (endpoint_input (uncontrolled_frame frame)) is = refl
 none_sent a (endpoint_input (link_frame frame)) is = refl
 
-sent_inside : (inputs : List KeepingInput) (a : Ahead) → sent_from a.k (through a inputs) ≡ sent_from_with a inputs
+pub sent_inside : (inputs : List KeepingInput) (a : Ahead) → sent_from a.k (through a inputs) ≡ sent_from_with a inputs
 sent_inside [] a = refl
 sent_inside (input ∷ inputs) a = by_test (lets_through a input) refl (sent_inside inputs (ahead_step a input).1)
   where
@@ -121,7 +121,7 @@ sent_inside (input ∷ inputs) a = by_test (lets_through a input) refl (sent_ins
         ap (λ (k : Keeping). sent_from k (through after inputs)) (sym (step_inside a input false is)) ∙ rest
         ∙ ap (λ xs. xs ++ sent_from_with after inputs) (sym (none_sent a input is))
 
-delivered_inside : (inputs : List KeepingInput) (a : Ahead) → delivered_from a.k (through a inputs) ≡ delivered_from_with a inputs
+pub delivered_inside : (inputs : List KeepingInput) (a : Ahead) → delivered_from a.k (through a inputs) ≡ delivered_from_with a inputs
 delivered_inside [] a = refl
 delivered_inside (input ∷ inputs) a = by_test (lets_through a input) refl (delivered_inside inputs (ahead_step a input).1)
   where
@@ -167,7 +167,7 @@ carried a input same (endpoint_output (received verdict (Some place) shown None)
 carried a input same (endpoint_output (received verdict (Some place) shown (Some delivered))) it =
     record { delivery = it.delivery; one = same ∙ it.one; of_sci = it.of_sci; of_an = it.of_an; of_frame = it.of_frame }
 
-matches_by : (a : Ahead) (input : KeepingInput) (given : Input) (again : Bool) (it : Standing) (answer : KeepingOutput × Keeping) → lets_through a input ≡ is_through again it →
+pub matches_by : (a : Ahead) (input : KeepingInput) (given : Input) (again : Bool) (it : Standing) (answer : KeepingOutput × Keeping) → lets_through a input ≡ is_through again it →
     MatchesDeliveries a.k input answer.0 → MatchesDeliveriesWith a input (ahead_by again it a given answer).0
 matches_by a input given true it answer same matches = ap (λ (b : Bool). if b then newly_delivered a.k input else []) same
 matches_by a input given false (not_yet at) answer same matches = ap (λ (b : Bool). if b then newly_delivered a.k input else []) same

@@ -83,12 +83,12 @@ keeps_step : (a : Ahead) (input : KeepingInput) → (ahead_step a input).1.k.kee
 keeps_step a (now_durable r) = refl
 keeps_step a (endpoint_input input) = keeps_by (begins_again a input) (standing a input) a input (keeping_step a.k (endpoint_input input)) (keeps_stays a.k (endpoint_input input))
 
-keeps_after : (inputs : List KeepingInput) (a : Ahead) → (ahead_after a inputs).k.keeps ≡ a.k.keeps
+pub keeps_after : (inputs : List KeepingInput) (a : Ahead) → (ahead_after a inputs).k.keeps ≡ a.k.keeps
 keeps_after [] a = refl
 keeps_after (input ∷ inputs) a = keeps_after inputs (ahead_step a input).1 ∙ keeps_step a input
 
 -- what was reported to a run is reported to it with one more input
-reported-push : (inputs : List KeepingInput) (input : KeepingInput) (name : List ℕ) → highest (reported_in inputs) name ≤ highest (reported_in (inputs ++ input ∷ [])) name
+pub reported-push : (inputs : List KeepingInput) (input : KeepingInput) (name : List ℕ) → highest (reported_in inputs) name ≤ highest (reported_in (inputs ++ input ∷ [])) name
 reported-push [] input name = omega arith
 reported-push (now_durable r ∷ inputs) input name =
     omega (arith, reported-push inputs input name, highest-append (r ∷ []) (reported_in inputs) name, highest-append (r ∷ []) (reported_in (inputs ++ input ∷ [])) name)
@@ -102,7 +102,7 @@ last_of_map f (run ∷ []) = refl
 last_of_map f (run ∷ later ∷ more) = last_of_map f (later ∷ more)
 
 -- the run inside of a run with one more input
-inside_pushed : (ahead : Bool) (input : KeepingInput) (run : Run) →
+pub inside_pushed : (ahead : Bool) (input : KeepingInput) (run : Run) →
     run_inside ahead (with_input input run) ≡ (if lets_through (closing_with ahead run) input then with_input input (run_inside ahead run) else run_inside ahead run)
 inside_pushed ahead input run =
     ap (λ (is : List KeepingInput). record run { inputs = is }) (through-push run.inputs (opening_with ahead run) input) ∙ by_test (lets_through (closing_with ahead run) input)

@@ -45,7 +45,7 @@ others-push (i ∷ inputs) a input = by_test (installs_retired a.k i) (others-pu
     by_test true rest = rest
     by_test false rest = ap (λ (is : List KeepingInput). i ∷ is) rest
 
-remembering_pushed : (ahead : Bool) (input : KeepingInput) (run : Run) →
+pub remembering_pushed : (ahead : Bool) (input : KeepingInput) (run : Run) →
     remembering ahead (with_input input run) ≡
     (if not (installs_retired (closing_forgetting ahead run).k input) then with_input input (remembering ahead run) else remembering ahead run)
 remembering_pushed ahead input run =
@@ -62,7 +62,7 @@ gives_is : (ahead : Bool) (input : KeepingInput) (o : Option Run) → gives ahea
 gives_is ahead input None = refl
 gives_is ahead input (Some run) = refl
 
-runs_given : (ahead : End → Bool) (e : End) (events : List Happening) → runs_of e (given ahead events) ≡ map (remembering (ahead e)) (runs_of e events)
+pub runs_given : (ahead : End → Bool) (e : End) (events : List Happening) → runs_of e (given ahead events) ≡ map (remembering (ahead e)) (runs_of e events)
 runs_given ahead e events =
     runs_passing (is_given ahead) (λ f. remembering (ahead f)) (λ f input run. not (installs_retired (closing_forgetting (ahead f) run).k input)) (λ before f config journal. refl)
     (λ before f input. gives_is (ahead f) input (last_run (runs_of f before))) (λ f config journal. refl) (λ f input run. remembering_pushed (ahead f) input run) e events
@@ -70,13 +70,13 @@ runs_given ahead e events =
 -- ---- what they send and deliver
 
 module _ (alike : KeepersAlike) (ahead : Bool) where
-  sends_same : (runs : List Run) → All (IsSoundForgetting ahead) runs → sent_in_all_with ahead (map (remembering ahead) runs) ≡ sent_in_all_forgetting ahead runs
+  pub sends_same : (runs : List Run) → All (IsSoundForgetting ahead) runs → sent_in_all_with ahead (map (remembering ahead) runs) ≡ sent_in_all_forgetting ahead runs
   sends_same [] sounds = refl
   sends_same (run ∷ runs) sounds =
       let it = ahead_forgets_alike alike ahead run (All-head (IsSoundForgetting ahead) run runs sounds) in
       ap₂ (λ (xs more : List SentIn). xs ++ more) (sym it.sends) (sends_same runs (All-tail (IsSoundForgetting ahead) run runs sounds))
 
-  delivers_same : (runs : List Run) → All (IsSoundForgetting ahead) runs → delivered_in_all_with ahead (map (remembering ahead) runs) ≡ delivered_in_all_forgetting ahead runs
+  pub delivers_same : (runs : List Run) → All (IsSoundForgetting ahead) runs → delivered_in_all_with ahead (map (remembering ahead) runs) ≡ delivered_in_all_forgetting ahead runs
   delivers_same [] sounds = refl
   delivers_same (run ∷ runs) sounds =
       let it = ahead_forgets_alike alike ahead run (All-head (IsSoundForgetting ahead) run runs sounds) in
@@ -90,7 +90,7 @@ all_less P input less (run ∷ []) all = All-cons P run [] (less run (All-head P
 all_less P input less (run ∷ later ∷ more) all =
     All-cons P run (later ∷ more) (All-head P run (with_last input (later ∷ more)) all) (all_less P input less (later ∷ more) (All-tail P run (with_last input (later ∷ more)) all))
 
-sound_less : (ahead : Bool) (input : KeepingInput) (run : Run) → IsSoundForgetting ahead (with_input input run) → IsSoundForgetting ahead run
+pub sound_less : (ahead : Bool) (input : KeepingInput) (run : Run) → IsSoundForgetting ahead (with_input input run) → IsSoundForgetting ahead run
 sound_less ahead input run sound n =
     let it = taken n run.inputs input in
     subst (λ (is : List KeepingInput). IsSound (ahead_forgetting_after (opening_with ahead run) is).k.secy) (sym it.1) (sound it.0)

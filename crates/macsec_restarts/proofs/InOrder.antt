@@ -51,7 +51,7 @@ use Rattle.macsec_restarts.proofs.SoundRuns.{IsSoundRun, closing_sound}
 abbrev pub Fresh : Type 0
 Fresh = (run : Run) (inputs : List KeepingInput) (frame : List ℕ) (row : RxRow) (delivered : List ℕ) → DeliversAbove run inputs frame row delivered
 
-all_pass : {X : Type 0} (p : X → Bool) (xs : List X) → All (λ x. p x ≡ true) (filter p xs)
+pub all_pass : {X : Type 0} (p : X → Bool) (xs : List X) → All (λ x. p x ≡ true) (filter p xs)
 all_pass p [] = All-nil (λ x. p x ≡ true)
 all_pass p (x ∷ xs) = by_test (p x) refl (all_pass p xs)
   where
@@ -64,6 +64,64 @@ same_is A A same = refl
 same_is B B same = refl
 same_is A B same = cc
 same_is B A same = cc
+
+-- ---- deliveries in rising order
+
+abbrev pub Before : Delivery → Delivery → Type 0
+Before g h = g.number < h.number
+
+pub all_there : {X : Type 0} (gs : List X) → All (IsMember gs) gs
+all_there [] = All-nil (IsMember [])
+all_there (g ∷ gs) = All-cons (IsMember (g ∷ gs)) g gs (inl refl) (All-weaker (IsMember gs) (IsMember (g ∷ gs)) (λ x p. inr p) gs (all_there gs))
+
+pub at_most_one : (k : Keeping) (input : KeepingInput) → AllPairs Before (newly_delivered k input)
+at_most_one k (now_durable r) = no_pairs Before
+at_most_one k (endpoint_input (operator_command c)) = no_pairs Before
+at_most_one k (endpoint_input (client_frame frame)) = no_pairs Before
+at_most_one k (endpoint_input (uncontrolled_frame frame)) = no_pairs Before
+at_most_one k (endpoint_input (link_frame frame)) = by_delivery (frame_fault frame) (judgement_of k.secy frame).row (judgement_of k.secy frame).delivered
+  where
+    by_delivery : (f : Option FrameFault) (o : Option RxRow) (d : Option (List ℕ)) → AllPairs Before (delivered_by k.secy (judgement_of k.secy frame) f o d)
+    by_delivery (Some f) o d = no_pairs Before
+    by_delivery None None d = no_pairs Before
+    by_delivery None (Some row) None = no_pairs Before
+    by_delivery None (Some row) (Some delivered) =
+        one_alone Before (record { bytes = (the_key k.secy.keys row.key).bytes; sci = row.sci; an = row.an; number = (judgement_of k.secy frame).number; frame = delivered })
+
+-- ---- a subsequence of what was sent under a key
+
+module _ (bytes : List ℕ) where
+  abbrev is_under : SentIn → Bool
+  is_under x = same_octets x.seal.key bytes
+
+  pub rising : (sends : List SentIn) → AllPairs Rises sends → AllPairs (λ (x y : SentIn). x.number < y.number) (sent_under bytes sends)
+  rising sends pairs i j d less within =
+      let kept = AllPairs-filter Rises is_under sends pairs in
+      let pass = all_pass is_under sends in
+      let key : (k : ℕ) → k < length (sent_under bytes sends) → (get_or (sent_under bytes sends) k d).seal.key ≡ bytes =
+      λ k within'. (bytes_eq-Decides (get_or (sent_under bytes sends) k d).seal.key bytes).0 (pass k d within') in
+      kept i j d less within (key i (omega (arith, less, within)) ∙ sym (key j within))
+
+  found : (sends : List SentIn) (g : Delivery) → WasSent sends bytes g.frame g.number →
+      (p : ℕ) × IsAt (λ (x : SentIn). x.number) numbered_sent (sent_under bytes sends) g.number (numbered_delivery g) p
+  found sends g it =
+      let passes : is_under it.send ≡ true = ap (λ (b : List ℕ). same_octets b bytes) it.under ∙ same_octets-refl bytes in
+      let there = contained (sent_under bytes sends) it.send (left_member is_under sends it.send (member sends it.send it.among) passes) in (
+        there.0,
+        record {
+          within = there.1;
+          item = it.send;
+          there = λ d. get_or_default (sent_under bytes sends) there.0 d it.send there.1 ∙ there.2;
+          of_number = it.of_number;
+          of_frame = ap (λ (n : ℕ). n ∷ it.send.frame) it.of_number ∙ ap (λ (f : List ℕ). g.number ∷ f) it.of_frame;
+        },
+      )
+
+  pub each_found : (sends : List SentIn) (ds : List Delivery) → All (λ d. WasSent sends bytes d.frame d.number) ds →
+      EachIs (λ (d : Delivery) (f : List ℕ). (p : ℕ) × IsAt (λ (x : SentIn). x.number) numbered_sent (sent_under bytes sends) d.number f p) ds (map numbered_delivery ds)
+  each_found sends [] all = tt
+  each_found sends (d ∷ ds) all =
+      (found sends d (All-head (λ x. WasSent sends bytes x.frame x.number) d ds all), each_found sends ds (All-tail (λ x. WasSent sends bytes x.frame x.number) d ds all))
 
 module _ (laws : EndpointLaws) (grammar : Grammar) (fresh : Fresh) (e : End) (bytes : List ℕ) (sci : Sci) (an : ℕ) where
   abbrev is_ours : Delivery → Bool
@@ -87,13 +145,6 @@ module _ (laws : EndpointLaws) (grammar : Grammar) (fresh : Fresh) (e : End) (by
   -- the run accepts no number up to this one any more: its journal had saved it, or its SA is above it
   abbrev IsPast : Run → Delivery → Type 0
   IsPast run g = (g.number ≤ highest (reservations run.journal) (name_in run.journal)) ⊎ (IsBelowNext (closing run).secy bytes sci an g.number × IsMember (delivered_in run bytes sci an) g)
-
-  all_there : (gs : List Delivery) → All (IsMember gs) gs
-  all_there [] = All-nil (IsMember [])
-  all_there (g ∷ gs) = All-cons (IsMember (g ∷ gs)) g gs (inl refl) (All-weaker (IsMember gs) (IsMember (g ∷ gs)) (λ x p. inr p) gs (all_there gs))
-
-  abbrev Before : Delivery → Delivery → Type 0
-  Before g h = g.number < h.number
 
   abbrev WasSentBy : List Happening → Delivery → Type 0
   WasSentBy before g = WasSent (sent_in_all (runs_of (other_end e) before)) bytes g.frame g.number
@@ -191,20 +242,6 @@ module _ (laws : EndpointLaws) (grammar : Grammar) (fresh : Fresh) (e : End) (by
               All-cons P g [] (delivery before peers run last sound (order g (contained (delivered_at bytes sci an (newly_delivered (closing run) (endpoint_input (link_frame frame)))) g (there ours))) frame row delivered
               (λ strict. comes_from_other laws grammar before peers e run frame row delivered is.orderly.octets is.orderly.genuine last strict of_row delivers)
               fits of_row delivers ((bytes_eq-Decides g.bytes bytes).0 octets.0) place.0 place.1) (All-nil P)
-
-  at_most_one : (k : Keeping) (input : KeepingInput) → AllPairs Before (newly_delivered k input)
-  at_most_one k (now_durable r) = no_pairs Before
-  at_most_one k (endpoint_input (operator_command c)) = no_pairs Before
-  at_most_one k (endpoint_input (client_frame frame)) = no_pairs Before
-  at_most_one k (endpoint_input (uncontrolled_frame frame)) = no_pairs Before
-  at_most_one k (endpoint_input (link_frame frame)) = by_delivery (frame_fault frame) (judgement_of k.secy frame).row (judgement_of k.secy frame).delivered
-    where
-      by_delivery : (f : Option FrameFault) (o : Option RxRow) (d : Option (List ℕ)) → AllPairs Before (delivered_by k.secy (judgement_of k.secy frame) f o d)
-      by_delivery (Some f) o d = no_pairs Before
-      by_delivery None None d = no_pairs Before
-      by_delivery None (Some row) None = no_pairs Before
-      by_delivery None (Some row) (Some delivered) =
-          one_alone Before (record { bytes = (the_key k.secy.keys row.key).bytes; sci = row.sci; an = row.an; number = (judgement_of k.secy frame).number; frame = delivered })
 
   -- ---- one more happening
 
@@ -349,40 +386,6 @@ module _ (laws : EndpointLaws) (grammar : Grammar) (fresh : Fresh) (e : End) (by
   at_start : OrderNow []
   at_start = record { rise = no_pairs Before; sent = All-nil (WasSentBy []); past = tt }
 
-  -- ---- a subsequence
-
-  abbrev is_under : SentIn → Bool
-  is_under x = same_octets x.seal.key bytes
-
-  rising : (sends : List SentIn) → AllPairs Rises sends → AllPairs (λ (x y : SentIn). x.number < y.number) (sent_under bytes sends)
-  rising sends pairs i j d less within =
-      let kept = AllPairs-filter Rises is_under sends pairs in
-      let pass = all_pass is_under sends in
-      let key : (k : ℕ) → k < length (sent_under bytes sends) → (get_or (sent_under bytes sends) k d).seal.key ≡ bytes =
-      λ k within'. (bytes_eq-Decides (get_or (sent_under bytes sends) k d).seal.key bytes).0 (pass k d within') in
-      kept i j d less within (key i (omega (arith, less, within)) ∙ sym (key j within))
-
-  found : (sends : List SentIn) (g : Delivery) → WasSent sends bytes g.frame g.number →
-      (p : ℕ) × IsAt (λ (x : SentIn). x.number) numbered_sent (sent_under bytes sends) g.number (numbered_delivery g) p
-  found sends g it =
-      let passes : is_under it.send ≡ true = ap (λ (b : List ℕ). same_octets b bytes) it.under ∙ same_octets-refl bytes in
-      let there = contained (sent_under bytes sends) it.send (left_member is_under sends it.send (member sends it.send it.among) passes) in (
-        there.0,
-        record {
-          within = there.1;
-          item = it.send;
-          there = λ d. get_or_default (sent_under bytes sends) there.0 d it.send there.1 ∙ there.2;
-          of_number = it.of_number;
-          of_frame = ap (λ (n : ℕ). n ∷ it.send.frame) it.of_number ∙ ap (λ (f : List ℕ). g.number ∷ f) it.of_frame;
-        },
-      )
-
-  each_found : (sends : List SentIn) (ds : List Delivery) → All (λ d. WasSent sends bytes d.frame d.number) ds →
-      EachIs (λ (d : Delivery) (f : List ℕ). (p : ℕ) × IsAt (λ (x : SentIn). x.number) numbered_sent (sent_under bytes sends) d.number f p) ds (map numbered_delivery ds)
-  each_found sends [] all = tt
-  each_found sends (d ∷ ds) all =
-      (found sends d (All-head (λ x. WasSent sends bytes x.frame x.number) d ds all), each_found sends ds (All-tail (λ x. WasSent sends bytes x.frame x.number) d ds all))
-
   history : (events : List Happening) → ArePeers events → (f : End) → IsHistory (runs_of f events)
   history events peers A = peers.a
   history events peers B = peers.b
@@ -392,8 +395,8 @@ module _ (laws : EndpointLaws) (grammar : Grammar) (fresh : Fresh) (e : End) (by
       let now : OrderNow events = always [] events (with_peers [] events each peers) at_start in
       let sends = sent_in_all (runs_of (other_end e) events) in
       is_subsequence (λ (x : SentIn). x.number) numbered_sent (sent_under bytes sends)
-      (rising sends (numbers_rise laws (runs_of (other_end e) events) (history events peers (other_end e)))) (λ (d : Delivery). d.number)
-      (delivered_so_far e bytes sci an events) (map numbered_delivery (delivered_so_far e bytes sci an events)) now.rise (each_found sends (delivered_so_far e bytes sci an events) now.sent)
+      (rising bytes sends (numbers_rise laws (runs_of (other_end e) events) (history events peers (other_end e)))) (λ (d : Delivery). d.number)
+      (delivered_so_far e bytes sci an events) (map numbered_delivery (delivered_so_far e bytes sci an events)) now.rise (each_found bytes sends (delivered_so_far e bytes sci an events) now.sent)
 
 pub comes_in_order_once : EndpointLaws → Grammar → Fresh → (events : List Happening) → ComesInOrderOnce events
 comes_in_order_once laws grammar fresh events e bytes sci an each peers k =

@@ -25,3 +25,14 @@ mod AheadForgets
 mod ForgettingAccepts
 mod ForgettingOrder
 mod Examples
+mod ForgettingSends
+mod OtherIvs
+mod AcceptsKept
+mod ForgettingOrigin
+mod RunsWith
+mod KeptRises
+mod KeptOrder
+mod ForgettingEnds
+mod StrictLists
+mod KeptWeaker
+mod KeptPeers

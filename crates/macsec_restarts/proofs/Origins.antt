@@ -34,6 +34,7 @@ use Rattle.macsec_restarts.specs.Happenings.{Happening, comes_in, last_run, runs
 use Rattle.macsec_restarts.specs.Origin.{AlwaysComesFromOther, ComesFromOther, WasSent}
 use Rattle.macsec_restarts.specs.Peers.{ArePeers, IsGenuineAt, IsSameEnd}
 use Rattle.macsec_restarts.specs.Sent.{SentIn, sent_in_all}
+use Rattle.macsec_restarts.specs.Used.{ArePeersAtAll, ComesFromOtherAtAll, IsSoundHistory}
 use Rattle.macsec_restarts.proofs.Lists.{at_end, either_list, in_front}
 use Rattle.macsec_restarts.proofs.Prefixes.{peers_taken}
 use Rattle.macsec_restarts.proofs.Sends.{IsSentIn, by_runs, last_member, last_or_before, seal_of_sent, seals_of_runs}
@@ -87,17 +88,17 @@ sealed_before runs others s frame row delivered of_row it genuine =
 -- ---- one end, and the other
 
 -- the runs of an end and of the other one
-record AreRuns (runs others : List Run) : Type 0 where
-  own : IsHistory runs
-  other : IsHistory others
-  one : AllPairs IsSameEnd runs
-  agree : (run : Run) → IsMember runs run → (q : Run) → IsMember others q → (x y : InstalledKey) →
+pub record AreRuns (runs others : List Run) : Type 0 where
+  pub own : IsSoundHistory runs
+  pub other : IsSoundHistory others
+  pub one : AllPairs IsSameEnd runs
+  pub agree : (run : Run) → IsMember runs run → (q : Run) → IsMember others q → (x y : InstalledKey) →
       Contains (closing run).secy.keys x → Contains (closing q).secy.keys y → x.bytes ≡ y.bytes → AgreeOnKey y x
 
 abbrev IsPair : Run → Run → Type 0
 IsPair run later = AgreeOnKeys run later × IsSameEnd run later
 
-comes : EndpointLaws → Grammar → (runs others : List Run) → AreRuns runs others → (run : Run) → last_run runs ≡ Some run →
+pub comes : EndpointLaws → Grammar → (runs others : List Run) → AreRuns runs others → (run : Run) → last_run runs ≡ Some run →
     (frame : List ℕ) → AreOctets frame → (row : RxRow) (delivered : List ℕ) →
     let s = (closing run).secy in
     IfSome (use_opened s frame) (Contains (sealed_in_all runs ++ sealed_in_all others)) →
@@ -192,10 +193,10 @@ comes laws grammar runs others are run last frame octets row delivered genuine s
 
 -- ---- both ends
 
-turned : {x y : InstalledKey} → AgreeOnKey x y → AgreeOnKey y x
+pub turned : {x y : InstalledKey} → AgreeOnKey x y → AgreeOnKey y x
 turned it = record { suite = sym it.suite; salt = λ xpn. sym (it.salt (ap is_xpn it.suite ∙ xpn)) }
 
-at_a : (before : List Happening) → ArePeers before → AreRuns (runs_of A before) (runs_of B before)
+at_a : (before : List Happening) → ArePeersAtAll before → AreRuns (runs_of A before) (runs_of B before)
 at_a before peers = record {
   own = peers.a;
   other = peers.b;
@@ -208,7 +209,7 @@ at_a before peers = record {
       turned (both x y here here' bytes);
 }
 
-at_b : (before : List Happening) → ArePeers before → AreRuns (runs_of B before) (runs_of A before)
+at_b : (before : List Happening) → ArePeersAtAll before → AreRuns (runs_of B before) (runs_of A before)
 at_b before peers = record {
   own = peers.b;
   other = peers.a;
@@ -222,7 +223,7 @@ at_b before peers = record {
 }
 
 -- what was sealed at either end, in the other order
-swapped : {X : Type 0} (xs ys : List X) (o : Option X) → IfSome o (Contains (xs ++ ys)) → IfSome o (Contains (ys ++ xs))
+pub swapped : {X : Type 0} (xs ys : List X) (o : Option X) → IfSome o (Contains (xs ++ ys)) → IfSome o (Contains (ys ++ xs))
 swapped xs ys None there = there
 swapped xs ys (Some x) there = contained (ys ++ xs) x (by_list (either_list xs ys x (member (xs ++ ys) x there)))
   where
@@ -235,12 +236,27 @@ genuine_now : (before : List Happening) (e : End) (run : Run) (frame : List ℕ)
 genuine_now before e run frame last genuine =
     subst (λ (o : Option Run). IfSome o (λ q. IfSome (use_opened (closing q).secy frame) (Contains (sealed_in_all (runs_of A before) ++ sealed_in_all (runs_of B before))))) last genuine
 
-pub comes_from_other : EndpointLaws → Grammar → (before : List Happening) → ComesFromOther before
-comes_from_other laws grammar before peers A run frame row delivered octets genuine last strict of_row delivers =
+pub comes_from_other_at_all : EndpointLaws → Grammar → (before : List Happening) → ComesFromOtherAtAll before
+comes_from_other_at_all laws grammar before peers A run frame row delivered octets genuine last strict of_row delivers =
     comes laws grammar (runs_of A before) (runs_of B before) (at_a before peers) run last frame octets row delivered (genuine_now before A run frame last genuine) strict of_row delivers
-comes_from_other laws grammar before peers B run frame row delivered octets genuine last strict of_row delivers =
+comes_from_other_at_all laws grammar before peers B run frame row delivered octets genuine last strict of_row delivers =
     comes laws grammar (runs_of B before) (runs_of A before) (at_b before peers) run last frame octets row delivered
     (swapped (sealed_in_all (runs_of A before)) (sealed_in_all (runs_of B before)) (use_opened (closing run).secy frame) (genuine_now before B run frame last genuine)) strict of_row delivers
+
+without_journal : (runs : List Run) → IsHistory runs → IsSoundHistory runs
+without_journal runs is = record { sound = is.sound; agree = is.agree }
+
+at_all : (before : List Happening) → ArePeers before → ArePeersAtAll before
+at_all before peers = record {
+  a = without_journal (runs_of A before) peers.a;
+  b = without_journal (runs_of B before) peers.b;
+  agree = peers.agree;
+  one_a = peers.one_a;
+  one_b = peers.one_b;
+}
+
+pub comes_from_other : EndpointLaws → Grammar → (before : List Happening) → ComesFromOther before
+comes_from_other laws grammar before peers = comes_from_other_at_all laws grammar before (at_all before peers)
 
 pub always_comes_from_other : EndpointLaws → Grammar → (events : List Happening) → AlwaysComesFromOther events
 always_comes_from_other laws grammar events genuine peers k e run frame row delivered octets happens last strict of_row delivers =

@@ -34,13 +34,13 @@ module _ (laws : EndpointLaws) (input : KeepingInput) where
   key_stays run sound x there =
       subst (λ (k : Keeping). KeyStaysIn k.secy.keys x) (sym (closing-input input run)) ((keys_stay laws (closing run) input (closing_sound run sound)).keys x there)
 
-  agree_before : (run later : Run) → IsSoundRun later → AgreeOnKeys run (with_input input later) → AgreeOnKeys run later
+  pub agree_before : (run later : Run) → IsSoundRun later → AgreeOnKeys run (with_input input later) → AgreeOnKeys run later
   agree_before run later sound agree x y here there bytes =
       let it = key_stays later sound y there in
       let both = agree x it.later here it.there (bytes ∙ sym it.is_later.bytes) in
       record { suite = both.suite ∙ it.is_later.suite; salt = λ xpn. both.salt xpn ∙ it.is_later.salt }
 
-  same_before : (run later : Run) → IsSoundRun later → IsSameEnd run (with_input input later) → IsSameEnd run later
+  pub same_before : (run later : Run) → IsSoundRun later → IsSameEnd run (with_input input later) → IsSameEnd run later
   same_before run later sound same = record {
     sci = same.sci;
     ssci = λ x y here there bytes xpn.
@@ -49,7 +49,7 @@ module _ (laws : EndpointLaws) (input : KeepingInput) where
   }
 
   -- at the other end
-  agree_before' : (run other : Run) → IsSoundRun run → AgreeOnKeys (with_input input run) other → AgreeOnKeys run other
+  pub agree_before' : (run other : Run) → IsSoundRun run → AgreeOnKeys (with_input input run) other → AgreeOnKeys run other
   agree_before' run other sound agree x y here there bytes =
       let it = key_stays run sound x here in
       let both = agree it.later y it.there there (it.is_later.bytes ∙ bytes) in
@@ -64,14 +64,14 @@ module _ (laws : EndpointLaws) (input : KeepingInput) where
       All-cons IsSoundRun run (later ∷ more) (All-head IsSoundRun run (with_last input (later ∷ more)) sounds)
       (sounds_before (later ∷ more) (All-tail IsSoundRun run (with_last input (later ∷ more)) sounds))
 
-  all_before : (P : Run → Type 0) → ((run : Run) → IsSoundRun run → P (with_input input run) → P run) → (runs : List Run) → All IsSoundRun runs → All P (with_last input runs) → All P runs
+  pub all_before : (P : Run → Type 0) → ((run : Run) → IsSoundRun run → P (with_input input run) → P run) → (runs : List Run) → All IsSoundRun runs → All P (with_last input runs) → All P runs
   all_before P weaker [] sounds all = All-nil P
   all_before P weaker (run ∷ []) sounds all = All-cons P run [] (weaker run (All-head IsSoundRun run [] sounds) (All-head P (with_input input run) [] all)) (All-nil P)
   all_before P weaker (run ∷ later ∷ more) sounds all =
       All-cons P run (later ∷ more) (All-head P run (with_last input (later ∷ more)) all)
       (all_before P weaker (later ∷ more) (All-tail IsSoundRun run (later ∷ more) sounds) (All-tail P run (with_last input (later ∷ more)) all))
 
-  pairs_before : (R : Run → Run → Type 0) → ((run later : Run) → IsSoundRun later → R run (with_input input later) → R run later) → (runs : List Run) → All IsSoundRun runs →
+  pub pairs_before : (R : Run → Run → Type 0) → ((run later : Run) → IsSoundRun later → R run (with_input input later) → R run later) → (runs : List Run) → All IsSoundRun runs →
       AllPairs R (with_last input runs) → AllPairs R runs
   pairs_before R weaker [] sounds pairs = no_pairs R
   pairs_before R weaker (run ∷ []) sounds pairs = one_alone R run
@@ -97,7 +97,7 @@ pub first_all : {X : Type 0} (P : X → Type 0) (xs ys : List X) → All P (xs +
 first_all P [] ys all = All-nil P
 first_all P (x ∷ xs) ys all = All-cons P x xs (All-head P x (xs ++ ys) all) (first_all P xs ys (All-tail P x (xs ++ ys) all))
 
-first_pairs : {X : Type 0} (R : X → X → Type 0) (xs ys : List X) → AllPairs R (xs ++ ys) → AllPairs R xs
+pub first_pairs : {X : Type 0} (R : X → X → Type 0) (xs ys : List X) → AllPairs R (xs ++ ys) → AllPairs R xs
 first_pairs R [] ys pairs = no_pairs R
 first_pairs R (x ∷ xs) ys pairs =
     AllPairs-cons R x xs (first_all (R x) xs ys (pairs-head R x (xs ++ ys) pairs)) (first_pairs R xs ys (pairs-tail R x (xs ++ ys) pairs))

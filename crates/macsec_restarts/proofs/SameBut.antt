@@ -125,7 +125,7 @@ sends_by options frame row key =
 module _ (s t : State) (same : AreSameBut s t) (unused : AreUnused s) where
   -- ---- the keys of SAs
 
-  rx_key : (row : RxRow) → IsMember s.rx.rows row → key_row t.keys row.key ≡ key_row s.keys row.key
+  pub rx_key : (row : RxRow) → IsMember s.rx.rows row → key_row t.keys row.key ≡ key_row s.keys row.key
   rx_key row there = same.keys row.key (by_test (is_retired s.keys row.key) refl)
     where
       by_test : (b : Bool) → is_retired s.keys row.key ≡ b → b ≡ false

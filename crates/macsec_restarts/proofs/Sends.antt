@@ -59,7 +59,7 @@ by_input laws k (endpoint_input (link_frame frame)) sound = All-nil (IsSentBy (k
 
 -- ---- a run
 
-by_inputs : EndpointLaws → (inputs : List KeepingInput) (k : Keeping) → StaysSound k inputs → All (IsSentBy (keeping_after k inputs).secy) (sent_from k inputs)
+pub by_inputs : EndpointLaws → (inputs : List KeepingInput) (k : Keeping) → StaysSound k inputs → All (IsSentBy (keeping_after k inputs).secy) (sent_from k inputs)
 by_inputs laws [] k sound = All-nil (IsSentBy k.secy)
 by_inputs laws (input ∷ inputs) k sound =
     let after = (keeping_step k input).1 in

@@ -1,5 +1,5 @@
 -- The packet numbers of what an end sends under the same key octets rise over all its runs.
-use Rattle.std.proofs.Common.{◌≡◌, ℕ, suc, ◌<◌, ◌≤◌, Bool, true, false, List, [], ◌∷◌, refl, ap, sym, subst, ◌∙◌, arith, All, AllPairs, Contains}
+use Rattle.std.proofs.Common.{◌≡◌, ℕ, suc, ◌<◌, ◌≤◌, Bool, true, false, List, [], ◌∷◌, ◌++◌, refl, ap, sym, subst, ◌∙◌, arith, All, AllPairs, Contains}
 use Rattle.std.specs.Prelude.{◌||◌, not, nat_lt, nat_le, max, if◌then◌else◌, Option, Some, None}
 use Rattle.std.specs.List.{list_any}
 use Rattle.std.proofs.lemmas.Bool.{and_parts, leb-true, ltb-true}
@@ -23,6 +23,7 @@ use Rattle.macsec_reserve.proofs.Pairs.{no_pairs, one_alone, pairs-append, pairs
 use Rattle.macsec_reserve.proofs.Reduced.{reduced_reserves}
 use Rattle.macsec_reserve.proofs.Steps.{before_stays, granted_reported, keeps_stays, salt_stays}
 use Rattle.macsec_restarts.specs.Sent.{NumbersRise, Rises, SentIn, newly_sent, sent_by, sent_from, sent_in_all}
+use Rattle.macsec_restarts.specs.Used.{Covers, IsWeaker, KeepsUsed, RisesIfUsedIsKept}
 use Rattle.macsec_restarts.proofs.Sends.{IsSentBy, by_input, sent_at}
 use Rattle.macsec_restarts.proofs.SoundRuns.{IsSoundRun, keys_stay}
 
@@ -74,7 +75,7 @@ new_pairs k (endpoint_input (client_frame frame)) = one_at_most k.secy frame (fr
 new_pairs k (endpoint_input (uncontrolled_frame frame)) = no_pairs Rises
 new_pairs k (endpoint_input (link_frame frame)) = no_pairs Rises
 
-in_run : EndpointLaws → (inputs : List KeepingInput) (k : Keeping) → StaysSound k inputs → AllPairs Rises (sent_from k inputs)
+pub in_run : EndpointLaws → (inputs : List KeepingInput) (k : Keeping) → StaysSound k inputs → AllPairs Rises (sent_from k inputs)
 in_run laws [] k sound = no_pairs Rises
 in_run laws (input ∷ inputs) k sound =
     let after = (keeping_step k input).1 in
@@ -84,9 +85,9 @@ in_run laws (input ∷ inputs) k sound =
 
 -- ---- over runs: a number is above what earlier runs reserved, and at most what was reported to its own
 
-record IsLeased (before : List Reservation) (salt : List ℕ) (most : List ℕ → ℕ) (x : SentIn) : Type 0 where
-  above : highest before (sending_name salt x.seal.key) < x.number
-  within : x.number ≤ most (sending_name salt x.seal.key)
+pub record IsLeased (before : List Reservation) (salt : List ℕ) (most : List ℕ → ℕ) (x : SentIn) : Type 0 where
+  pub above : highest before (sending_name salt x.seal.key) < x.number
+  pub within : x.number ≤ most (sending_name salt x.seal.key)
 
 only_one : (keeps b : Bool) → keeps ≡ true → not keeps || not (not b || false) ≡ true → b ≡ true
 only_one true true is go = refl
@@ -128,7 +129,7 @@ most_step : (k : Keeping) (input : KeepingInput) (inputs : List KeepingInput) (n
 most_step k (now_durable r) inputs name = omega (arith, granted_reported (now_durable r ∷ []) k name, highest-append (r ∷ []) (reported_in inputs) name)
 most_step k (endpoint_input input) inputs name = omega (arith, granted_reported (endpoint_input input ∷ []) k name)
 
-leased : (inputs : List KeepingInput) (k : Keeping) → k.keeps ≡ true → All (IsLeased k.before k.salt (most_of k inputs)) (sent_from k inputs)
+pub leased : (inputs : List KeepingInput) (k : Keeping) → k.keeps ≡ true → All (IsLeased k.before k.salt (most_of k inputs)) (sent_from k inputs)
 leased [] k keeps = All-nil (IsLeased k.before k.salt (most_of k []))
 leased (input ∷ inputs) k keeps =
     let after = (keeping_step k input).1 in
@@ -143,7 +144,7 @@ leased (input ∷ inputs) k keeps =
     record { above = here.above; within = omega (arith, here.within, most_step k input inputs (sending_name k.salt x.seal.key)) })
     (sent_from after inputs) (leased inputs after (keeps_stays k input ∙ keeps)))
 
-abbrev IsLeasedIn : Run → SentIn → Type 0
+abbrev pub IsLeasedIn : Run → SentIn → Type 0
 IsLeasedIn run x = IsLeased (reduced (reservations run.journal)) (salt_of run.journal) (most_of (opening run) run.inputs) x
 
 between : (run later : Run) → SameSalt run later → KeepsDurable run later → (x y : SentIn) → IsLeasedIn run x → IsLeasedIn later y → Rises x y
@@ -173,3 +174,50 @@ sends_rise laws (run ∷ runs) sound salt durable =
 
 pub numbers_rise : EndpointLaws → (runs : List Run) → NumbersRise runs
 numbers_rise laws runs is = sends_rise laws runs is.sound is.salt is.durable
+
+-- ---- if a later run reads what was used, under the names under which it sends
+
+pub both : {X : Type 0} (P Q R : X → Type 0) → ((x : X) → P x → Q x → R x) → (xs : List X) → All P xs → All Q xs → All R xs
+both P Q R f [] ps qs = All-nil R
+both P Q R f (x ∷ xs) ps qs = All-cons R x xs (f x (All-head P x xs ps) (All-head Q x xs qs)) (both P Q R f xs (All-tail P x xs ps) (All-tail Q x xs qs))
+
+pub all_of : {X : Type 0} (P : X → Type 0) → ((x : X) → P x) → (xs : List X) → All P xs
+all_of P f [] = All-nil P
+all_of P f (x ∷ xs) = All-cons P x xs (f x) (all_of P f xs)
+
+above_used : (later : Run) (x y : SentIn) → Covers later x y → IsLeasedIn later y → Rises x y
+above_used later x y covers second bytes =
+    omega (arith, covers bytes, second.above, reduced_reserves (reservations later.journal) (sending_name (salt_of later.journal) y.seal.key))
+
+pub rises_in : (run q : Run) → KeepsUsed run q → All (λ x. All (Rises x) (sent_from (opening q) q.inputs)) (sent_from (opening run) run.inputs)
+rises_in run q keeps =
+    All-weaker (λ x. All (Covers q x) (sent_from (opening q) q.inputs)) (λ x. All (Rises x) (sent_from (opening q) q.inputs))
+    (λ x covers. both (Covers q x) (IsLeasedIn q) (Rises x) (λ y. above_used q x y) (sent_from (opening q) q.inputs) covers (leased q.inputs (opening q) refl))
+    (sent_from (opening run) run.inputs) keeps
+
+used_to_later : (run : Run) (later : List Run) → All (KeepsUsed run) later → All (λ x. All (Rises x) (sent_in_all later)) (sent_from (opening run) run.inputs)
+used_to_later run [] keeps = all_of (λ x. All (Rises x) []) (λ x. All-nil (Rises x)) (sent_from (opening run) run.inputs)
+used_to_later run (q ∷ qs) keeps =
+    both (λ x. All (Rises x) (sent_from (opening q) q.inputs)) (λ x. All (Rises x) (sent_in_all qs)) (λ x. All (Rises x) (sent_from (opening q) q.inputs ++ sent_in_all qs))
+    (λ x a b. All-append (Rises x) (sent_from (opening q) q.inputs) (sent_in_all qs) a b) (sent_from (opening run) run.inputs)
+    (rises_in run q (All-head (KeepsUsed run) q qs keeps)) (used_to_later run qs (All-tail (KeepsUsed run) q qs keeps))
+
+pub rises_if_used_is_kept : EndpointLaws → (runs : List Run) → RisesIfUsedIsKept runs
+rises_if_used_is_kept laws [] sound keeps = no_pairs Rises
+rises_if_used_is_kept laws (run ∷ runs) sound keeps =
+    pairs-append Rises (sent_from (opening run) run.inputs) (sent_in_all runs) (in_run laws run.inputs (opening run) (All-head IsSoundRun run runs sound))
+    (rises_if_used_is_kept laws runs (All-tail IsSoundRun run runs sound) (pairs-tail KeepsUsed run runs keeps))
+    (used_to_later run runs (pairs-head KeepsUsed run runs keeps))
+
+covered : (run later : Run) → SameSalt run later → KeepsDurable run later → (x : SentIn) → IsLeasedIn run x → (y : SentIn) → Covers later x y
+covered run later salt durable x first y bytes =
+    let name = sending_name (salt_of run.journal) x.seal.key in
+    let here : x.number ≤ highest (reservations later.journal) name = omega (arith, first.within, durable name) in
+    subst (λ (s : List ℕ). x.number ≤ highest (reservations later.journal) (sending_name s y.seal.key)) (sym salt)
+    (subst (λ (key : List ℕ). x.number ≤ highest (reservations later.journal) (sending_name (salt_of run.journal) key)) bytes here)
+
+pub is_weaker : (run later : Run) → IsWeaker run later
+is_weaker run later salt durable =
+    All-weaker (IsLeasedIn run) (λ x. All (Covers later x) (sent_from (opening later) later.inputs))
+    (λ x first. all_of (Covers later x) (covered run later salt durable x first) (sent_from (opening later) later.inputs)) (sent_from (opening run) run.inputs)
+    (leased run.inputs (opening run) refl)

@@ -77,6 +77,7 @@ AcceptsReserved run = (d : Delivery) → Contains (accepted_in run) d → IsRese
 
 -- two deliveries under the same key octets, from the same SCI and association number (AN)
 pub record AreOfOneSa (d e : Delivery) : Type 0 where
+  -- their client frames may differ
   pub bytes : d.bytes ≡ e.bytes
   pub sci : d.sci ≡ e.sci
   pub an : d.an ≡ e.an

@@ -10,3 +10,7 @@ pub mod AheadRuns
 pub mod AheadOrder
 pub mod AheadForgetting
 pub mod ForgettingOrder
+pub mod Used
+pub mod Kept
+pub mod ForgettingEnds
+pub mod StrictLists

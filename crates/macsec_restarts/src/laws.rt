@@ -22,8 +22,12 @@ ghost use Rattle.macsec_restarts.specs.Happenings.{Happening};
 ghost use Rattle.macsec_restarts.specs.Order.{ComesInOrderOnce};
 ghost use Rattle.macsec_restarts.specs.Origin.{AlwaysComesFromOther, ComesFromOther};
 ghost use Rattle.macsec_restarts.specs.Sent.{ListsEachUse, NumbersRise, SealsEachFrame};
+ghost use Rattle.macsec_restarts.specs.ForgettingEnds.{KeepsEndsForgetting, NeverDeliversAgainUnderWith, NeverDeliversAgainWith, RefusesBelowEndForgetting, RemembersEndForgetting};
+ghost use Rattle.macsec_restarts.specs.Kept.{ComesInOrderIfKept, ComesInOrderIfRead, IsWeakerToDeliver, IsWeakerToSend, PeersAtEach, RunWith};
+ghost use Rattle.macsec_restarts.specs.StrictLists.{DeliversEachListedForgetting, DeliversFromSasForgetting, DeliversFromSasWith};
+ghost use Rattle.macsec_restarts.specs.Used.{AcceptsAboveIfKept, ComesFromOtherAtAll, ComesFromOtherForgetting, IsWeaker, IsWeakerToAccept, NoIvAtBothForgetting, NumbersRiseForgetting, RisesIfUsedIsKept, NoIvIfUsedIsKept, NoIvIfUsedIsKeptForgetting};
 
-use macsec_reserve::laws::{delivers_above, forgets_alike};
+use macsec_reserve::laws::{delivers_above, forgets_alike, repeats_no_iv_at_both, saves_accepted};
 use macsec_secy::laws::{accepts_sent, delivers_in_time, keys_stay, protects_frames, rx_rows_stay};
 use macsec_suite::laws::equal_ivs;
 use macsec_tag::laws::reads_by_grammar;
@@ -198,3 +202,149 @@ pub fn comes_in_order_once_forgetting()
     delivers_above();
     forgets_alike();
 }
+
+/// `numbers_rise`, if each later run reads what was used before, under the names under which it sends (`kept`). This asks less
+/// than `numbers_rise` (`weaker`).
+pub fn numbers_rise_if_used_is_kept()
+    ensures kept { (runs : List Run) → RisesIfUsedIsKept runs }
+    ensures weaker { (run later : Run) → IsWeaker run later }
+{
+    // Laws that the proof cites; the calls do nothing.
+    equal_ivs();
+    keys_stay();
+    rx_rows_stay();
+    protects_frames();
+    delivers_in_time();
+}
+
+/// `numbers_rise` for ends whose endpoints forget retired keys.
+pub fn numbers_rise_forgetting()
+    ensures { (ahead : Bool) (runs : List Run) → NumbersRiseForgetting ahead runs }
+{
+    // Laws that the proof cites; the calls do nothing.
+    equal_ivs();
+    keys_stay();
+    rx_rows_stay();
+    protects_frames();
+    delivers_in_time();
+    forgets_alike();
+}
+
+/// No IV at both ends, for ends whose endpoints forget retired keys.
+pub fn no_iv_at_both_forgetting()
+    ensures { (ahead other : Bool) (runs others : List Run) → NoIvAtBothForgetting ahead other runs others }
+{
+    // Laws that the proof cites; the calls do nothing.
+    repeats_no_iv_at_both();
+    forgets_alike();
+}
+
+/// Origin, whatever the journals are: `comes_from_other` without a premise on what later runs read.
+pub fn comes_from_other_at_all()
+    ensures { (before : List Happening) → ComesFromOtherAtAll before }
+{
+    // Laws that the proof cites; the calls do nothing.
+    reads_by_grammar();
+    equal_ivs();
+    keys_stay();
+    rx_rows_stay();
+    protects_frames();
+    delivers_in_time();
+}
+
+/// No IV twice, if each later run reads what was used before, under the names under which it sends (`kept`); also where
+/// retired keys are forgotten, with `ahead` and without it (`forgetting`).
+pub fn no_iv_if_used_is_kept()
+    ensures kept { (runs : List Run) → NoIvIfUsedIsKept runs }
+    ensures forgetting { (ahead : Bool) (runs : List Run) → NoIvIfUsedIsKeptForgetting ahead runs }
+{
+    // Laws that the proof cites; the calls do nothing.
+    equal_ivs();
+    keys_stay();
+    rx_rows_stay();
+    protects_frames();
+    delivers_in_time();
+    forgets_alike();
+}
+
+/// `accepts_above_forgetting`, if each later run reads what was accepted before, of the SAs from which it accepts (`kept`). This
+/// asks less (`weaker`).
+pub fn accepts_above_if_kept()
+    ensures kept { (runs : List Run) → AcceptsAboveIfKept runs }
+    ensures weaker { (run later : Run) → IsWeakerToAccept run later }
+{}
+
+/// Origin, for ends whose endpoints forget retired keys: each frame that an end delivered on an SA was sent by the other end,
+/// under the same key octets and with the same packet number.
+pub fn comes_from_other_forgetting()
+    ensures { (ahead : End → Bool) (events : List Happening) → ComesFromOtherForgetting ahead events }
+{
+    // Laws that the proof cites; the calls do nothing.
+    reads_by_grammar();
+    equal_ivs();
+    keys_stay();
+    rx_rows_stay();
+    protects_frames();
+    delivers_in_time();
+    forgets_alike();
+}
+
+/// `comes_in_order_once_forgetting` with weaker premises on journals (`kept`): each later run of the receiver reads what was
+/// delivered before from the SA, if it delivers from it, and each later run of the sender reads what was sent before under the
+/// key octets, if it sends under them. What was reported durable need not be read; but it suffices
+/// (`sends`, `delivers`), for any two runs, of the receiver if the earlier one had the option (`read`). Nothing is asked of other names, so a journal may lose the names of keys that do not come
+/// again, and an endpoint that takes over may begin below what the one before it had reserved. Each run has the option to
+/// reserve ahead of receiving, or it does not. No ICV is forged, there is strict order, and the ends are peers so far, wherever the end
+/// delivers from the SA; for the last of these it is enough that they are peers in the end (`peers`).
+pub fn comes_in_order_if_kept()
+    ensures kept { (ahead : End → ℕ → Bool) (events : List Happening) → ComesInOrderIfKept ahead events }
+    ensures read { (ahead : End → ℕ → Bool) (events : List Happening) → ComesInOrderIfRead ahead events }
+    ensures sends { (bytes : List ℕ) (r later : RunWith) → IsWeakerToSend bytes r later }
+    ensures delivers { (bytes : List ℕ) (sci : Sci) (an : ℕ) (r later : RunWith) → IsWeakerToDeliver bytes sci an r later }
+    ensures peers { (ahead : End → ℕ → Bool) (events : List Happening) → PeersAtEach ahead events }
+{
+    // Laws that the proof cites; the calls do nothing.
+    reads_by_grammar();
+    equal_ivs();
+    keys_stay();
+    rx_rows_stay();
+    protects_frames();
+    delivers_in_time();
+    delivers_above();
+    forgets_alike();
+}
+
+/// `begins_above_its_end` for endpoints that forget retired keys.
+pub fn begins_above_its_end_forgetting()
+    ensures remembers { (a : Ahead) (input : KeepingInput) (row : RxRow) → RemembersEndForgetting a input row }
+    ensures keeps { (a : Ahead) (inputs : List KeepingInput) (key : ℕ) (sci : Sci) (an : ℕ) → KeepsEndsForgetting a inputs key sci an }
+    ensures refuses { (a : Ahead) (sci : Sci) (an key ssci lowest : ℕ) → RefusesBelowEndForgetting a sci an key ssci lowest }
+{}
+
+/// What a run accepted before it saved the SA's number, at replay window 0, is not delivered again by a later run that drops
+/// late frames. This is `macsec_reserve::laws::never_delivers_again` for endpoints that can reserve ahead of receiving, those
+/// that forget retired keys (`forgets`) and those that forget none, each run with the option or without it. It holds for an
+/// SA of that name (`named`) or, if the journal keeps its salt, of those key octets (`keyed`). The later run need only read what
+/// was reported durable under this one name.
+pub fn never_delivers_again_with()
+    ensures named { (forgets ahead other : Bool) (run later : Run) (name : List ℕ) (n : ℕ) → NeverDeliversAgainWith forgets ahead other run later name n }
+    ensures keyed { (forgets ahead other : Bool) (run later : Run) (bytes : List ℕ) (sci : Sci) (an n : ℕ) → NeverDeliversAgainUnderWith forgets ahead other run later bytes sci an n }
+{
+    // Laws that the proof cites; the calls do nothing.
+    equal_ivs();
+    keys_stay();
+    rx_rows_stay();
+    protects_frames();
+    delivers_in_time();
+    delivers_above();
+    saves_accepted();
+    forgets_alike();
+}
+
+/// `lists_each_delivery_ahead` for endpoints that forget retired keys (`listed`). In the mode Strict no frame is delivered at
+/// the controlled port without an SA, by such an endpoint (`strict`) and by one that forgets none (`strict_ahead`).
+pub fn lists_each_delivery_forgetting()
+    ensures listed { (a : Ahead) (input : KeepingInput) → DeliversEachListedForgetting a input }
+    ensures strict { (a : Ahead) (input : KeepingInput) → DeliversFromSasForgetting a input }
+    ensures strict_ahead { (a : Ahead) (input : KeepingInput) → DeliversFromSasWith a input }
+{}

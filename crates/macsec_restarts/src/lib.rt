@@ -25,6 +25,13 @@
 //! - `forgets_alike_ahead`: it answers alike, and sends, delivers and accepts the same, as one that forgets none.
 //! - `accepts_above_forgetting`, `comes_in_order_once_forgetting`: the laws above, of runs in which keys are retired.
 //!
+//! Proved of endpoints with the option or without it, where a later run reads what was used, delivered or saved before, under the
+//! names that it uses. Other names and what was only reserved may be lost:
+//! - `comes_in_order_if_kept`: order and once of endpoints that forget keys, where each run has the option or not.
+//! - `never_delivers_again_with`: what was saved is not delivered again.
+//!
+//! Proved of each step of endpoints that forget keys: `lists_each_delivery_forgetting`, `begins_above_its_end_forgetting`.
+//!
 //! `proofs/Examples/` has runs that meet all premises, with the lists of what was sent and delivered. For each premise of
 //! order, except that link frames are octets, it has a run that breaks order without it. It uses the worked runs of
 //! `macsec_counterexamples`.

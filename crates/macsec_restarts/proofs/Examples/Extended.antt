@@ -2,10 +2,10 @@
 -- that A never sent with that packet number: B has another own SSCI in its second run, or another salt, and receives the
 -- frame that it sent in its first one; the key has another salt at B, under which the frame has the IV of another packet
 -- number; or the salt has no octets at both ends, which are not sound, so that all packet numbers have one IV.
-use Rattle.std.proofs.Common.{◌≡◌, ◌≢◌, ℕ, zero, suc, ◌<◌, ◌≤◌, ◌+◌, Bool, true, false, List, [], ◌∷◌, ◌++◌, map, take, refl, ap, sym, subst, ◌∙◌, arith, Contains}
-use Rattle.std.specs.Prelude.{◌^◌, ◌*◌, ◌||◌, ◌&&◌, not, nat_le, max, replicate, slice_get, if◌then◌else◌, Some, None, IfSome}
+use Rattle.std.proofs.Common.{◌≡◌, ◌≢◌, ℕ, zero, suc, ◌<◌, ◌≤◌, ◌+◌, Bool, true, false, List, [], ◌∷◌, ◌++◌, map, take, refl, ap, sym, subst, ◌∙◌, arith, Contains, All, AllPairs, length}
+use Rattle.std.specs.Prelude.{◌^◌, ◌*◌, ◌||◌, ◌&&◌, not, nat_le, max, replicate, slice_get, if◌then◌else◌, Some, None, IfSome, Option}
 use Rattle.std.proofs.lemmas.Bool.{lt-ltb}
-use Rattle.std.proofs.lemmas.List.Elements.{All-append, All-nil}
+use Rattle.std.proofs.lemmas.List.Elements.{All-append, All-nil, All-cons}
 use Rattle.macsec_aes.specs.Aes.{add_round_key, added_word, aes, after_rounds, key_expansion, key_words, mix_columns, rot_word, round_key, shift_rows}
 use Rattle.macsec_aes.specs.Aes.{sub_bytes, sub_word, sum_of_words}
 use Rattle.macsec_aes.specs.Field.{affine_transformation, byte_product, inverse, polynomial_product, remainder, s_box, sum_below}
@@ -15,11 +15,11 @@ use Rattle.macsec_tag.specs.Laws.{AreOctets}
 use Rattle.macsec_tag.specs.Table.{parts_at}
 use Rattle.macsec_tag.specs.declared.identifiers.Sci.{Sci}
 use Rattle.macsec_suite.specs.CipherUses.{CipherUse, cipher_use}
-use Rattle.macsec_suite.specs.KeyRows.{AreKeyRows, InstalledKey}
+use Rattle.macsec_suite.specs.KeyRows.{AreKeyRows, InstalledKey, keys_replacing}
 use Rattle.macsec_suite.specs.Suites.{is_xpn, iv_of}
 use Rattle.macsec_suite.specs.declared.suite.Suite.TheVariants.{Xpn128}
 use Rattle.macsec_commands.specs.Scis.{IsSci}
-use Rattle.macsec_commands.specs.declared.command.Command.TheVariants.{Key, RxOn, RxSa, RxSc, TxOn, TxSa}
+use Rattle.macsec_commands.specs.declared.command.Command.TheVariants.{Key, RxOn, RxSa, RxSc, TxOn, TxSa, RxDel, Retire}
 use Rattle.macsec_commands.specs.declared.config.EndConfig.{EndConfig}
 use Rattle.macsec_commands.specs.declared.event.End.TheVariants.{A, B}
 use Rattle.macsec_commands.specs.declared.form.TagForm.TheVariants as form
@@ -31,18 +31,18 @@ use Rattle.macsec_rx.specs.declared.RxRow.{RxRow}
 use Rattle.macsec_rx.specs.declared.Verdict.TheVariants.{Passed}
 use Rattle.macsec_rx.specs.Judge.{Judgement, at_row, judge_opened}
 use Rattle.macsec_rx.specs.Rows.{AreChannels}
-use Rattle.macsec_secy.specs.Commands.{effect}
+use Rattle.macsec_secy.specs.Commands.{effect, refusal, unless_refused}
 use Rattle.macsec_secy.specs.Reception.{judgement_of, state_after_receiving}
-use Rattle.macsec_secy.specs.Sound.{IsSound}
+use Rattle.macsec_secy.specs.Sound.{IsSound, IsReady}
 use Rattle.macsec_secy.specs.State.{State, no_tx_counters, rx_options, start, tx_options}
-use Rattle.macsec_secy.specs.Step.{client_frame, frame_fault, link_frame, sending_of, step}
+use Rattle.macsec_secy.specs.Step.{client_frame, frame_fault, link_frame, sending_of, step, operator_command}
 use Rattle.macsec_secy.proofs.StaysSound.{after_client_frame, after_effect, at_start}
 use Rattle.macsec_link.specs.Genuine.{use_opened}
 use Rattle.macsec_link.specs.Origin.{IsSubsequence}
 use Rattle.macsec_reserve.specs.declared.reservation.Reservation.{Reservation}
-use Rattle.macsec_reserve.specs.Histories.{Run, StaysSound, closing, opening, sealed_in_all}
-use Rattle.macsec_reserve.specs.Journal.{highest, sending_name}
-use Rattle.macsec_reserve.specs.Keeping.{Keeping, KeepingInput, endpoint_input, keeping_after, keeping_step, may_go, now_durable}
+use Rattle.macsec_reserve.specs.Histories.{Run, StaysSound, closing, opening, sealed_in_all, AgreeOnKey, AgreeOnKeys}
+use Rattle.macsec_reserve.specs.Journal.{highest, sending_name, receiving_name}
+use Rattle.macsec_reserve.specs.Keeping.{Keeping, KeepingInput, endpoint_input, keeping_after, keeping_step, may_go, now_durable, KeepingOutput}
 use Rattle.macsec_reserve.proofs.HighestOf.{highest_of_one}
 use Rattle.macsec_reserve.proofs.Written.{same_octets-refl}
 use Rattle.macsec_counterexamples.proofs.Link.Exchange.{client}
@@ -54,15 +54,38 @@ use Rattle.macsec_counterexamples.proofs.Restarts.Journals.{journal, salt}
 use Rattle.macsec_counterexamples.proofs.Restarts.Receivers.{channels_are, name_of}
 use Rattle.macsec_counterexamples.proofs.Restarts.Senders.{kept, none_are, other_sci, own_sci, row_at}
 use Rattle.macsec_restarts.specs.Delivered.{Delivery, delivered_at, delivered_by, delivered_from, delivered_in_all, newly_delivered}
-use Rattle.macsec_restarts.specs.Order.{SavedIn}
-use Rattle.macsec_restarts.specs.Sent.{SentIn, newly_sent, sent_by, sent_from}
+use Rattle.macsec_restarts.specs.Order.{SavedIn, HasStrictOrder, numbered_delivery, numbered_sent}
+use Rattle.macsec_restarts.specs.Sent.{SentIn, newly_sent, sent_by, sent_from, sent_under}
 use Rattle.macsec_restarts.proofs.Examples.Blocks.{AreOwn, AreSteps, EndRun, after_own, blocks, no_step, step_next}
-use Rattle.macsec_restarts.proofs.Examples.Histories.{nothing_saved, one_run_each, refuted, seals_are}
+use Rattle.macsec_restarts.proofs.Examples.Histories.{MeetsAll, meets_all, nothing_saved, one_run_each, refuted, seals_are}
 use Rattle.macsec_restarts.proofs.Examples.NotSent.{names_differ, not_of_none, two_runs_of_b}
-use Rattle.macsec_restarts.proofs.Examples.Premises.{AgreeAtBothBut, AgreeOnKeyBut, ArePeersBut, HasOneSalt, HasOneSuite, HasStrictOrderBut, KeepsSalt, KeepsSsci, KeepsSuite, LawWithout, Premise, StaysSoundAlways}
+use Rattle.macsec_restarts.proofs.Examples.Premises.{AgreeAtBothBut, AgreeOnKeyBut, ArePeersBut, HasOneSalt, HasOneSuite, HasStrictOrderBut, KeepsSalt, KeepsSsci, KeepsSuite, LawWithout, NoPremise, Premise, StaysSoundAlways}
 use Rattle.macsec_restarts.proofs.Examples.Receivers.{heard_sound, tables}
 use Rattle.macsec_restarts.proofs.Examples.Tags.{are_small, small, small_at, tag_is}
 use Rattle.macsec_restarts.proofs.Examples.TwoRunsEach.{is_durable, is_free, none_is, reads, reserved_2, reserved_is}
+use Rattle.macsec_commands.specs.declared.command.Command.{Command}
+use Rattle.macsec_reserve.specs.Forgetting.{forgetting_step, fingerprint, forgetting}
+use Rattle.macsec_reserve.specs.Forgotten.{installs_retired}
+use Rattle.macsec_ahead.specs.Ahead.{Ahead, ahead_by, ahead_step, begins_again, ended_after, lets_through, opening_with, passes, through, is_through, standing_by}
+use Rattle.macsec_ahead.specs.Ends.{Ends, no_ends}
+use Rattle.macsec_restarts.specs.AheadForgetting.{ahead_forgetting_after, ahead_forgetting_step, delivered_from_forgetting, others_with, sent_from_forgetting}
+use Rattle.macsec_restarts.specs.AheadRuns.{newly_delivered_with}
+use Rattle.macsec_restarts.specs.Used.{inner, seal_of}
+use Rattle.sha2.specs.Sha256.{compress, digest_bytes, first_words, hash_after, rounds, schedule, sha256}
+use Rattle.macsec_tag.specs.Limits.{max_frame_len}
+use Rattle.macsec_suite.specs.Replacing.{can_replace}
+use Rattle.macsec_commands.specs.declared.event.End.{End}
+use Rattle.macsec_secy.specs.GivenUp.{replacing}
+use Rattle.macsec_secy.proofs.KeyReplaced.{ready_by_keys}
+use Rattle.macsec_reserve.proofs.Pairs.{one_alone}
+use Rattle.macsec_link.proofs.Members.{member}
+use Rattle.macsec_restarts.specs.Happenings.{AtEach, comes_in}
+use Rattle.macsec_restarts.specs.Kept.{ArePeerRuns, IsFair, IsFairHere, IsGenuineFrom, IsSoundWith, KeepsDelivered, KeepsSent, RunWith, closing_of, delivered_of_all, inside_of, runs_at, sent_of_all}
+use Rattle.macsec_restarts.specs.Peers.{IsSameEnd}
+use Rattle.macsec_restarts.proofs.Examples.InsideBlocks.{goes_on}
+use Rattle.macsec_restarts.proofs.Pushed.{run_with}
+use Rattle.macsec_aes.specs.declared.Key.TheVariants.{K128}
+use Rattle.macsec_suite.specs.declared.refusal.Refusal.{Refusal}
 
 -- a configuration in which no sent frame carries the SCI
 abbrev config_of : Sci → EndConfig
@@ -690,3 +713,461 @@ soundness_needed =
     (ends_agree StaysSoundAlways Unsalted (record { suite = λ d. refl; salt = λ d xpn. refl })))
     (ap (λ (xs : List SentIn). xs ++ []) (does_a Unsalted).sends) (ap (λ (xs : List Delivery). xs ++ []) (does_b Unsalted).delivers)
     (not_of_other (2 ^ 32 + 1) 1 (client 1) (client 1) (λ same. omega (arith, same)))
+
+-- ---- the key has the same salt at both ends, and another own SSCI: all premises are met, and B delivers what A sent
+
+pub extended_meets : MeetsAll (shifted Same) ((1 ∷ client 1) ∷ []) ((1 ∷ client 1) ∷ [])
+extended_meets =
+    meets_all (shifted Same) (sent_1 Zeros ∷ []) (delivery Same ∷ [])
+    (own_a, (((λ d. nothing_saved (run_b Same).journal), receiver_steps [] free_b NoPremise Same (run_b Same) refl (sealed_in_all (run_a Same ∷ []) ++ sealed_in_all []) (sealed_a Same)), tt))
+    (one_run_each NoPremise (run_a Same) (run_b Same) (λ d. sender_sound sci_a own_sci) (λ d. receiver_sound [] free_b Same refl)
+    (ends_agree NoPremise Same (record { suite = λ d. refl; salt = λ d xpn. refl })))
+    (ap (λ (xs : List SentIn). xs ++ []) (does_a Same).sends) (ap (λ (xs : List Delivery). xs ++ []) (does_b Same).delivers)
+
+-- ---- then B deletes the SA and retires the key, its endpoint forgets the key, and it has an SA under another key
+
+abbrev a_of : Keeping → Ahead
+a_of k = record { k = k; ahead = false; taken = []; ended = no_ends }
+
+record DoesWith (a : Ahead) (inputs : List KeepingInput) (xs : List SentIn) (ds : List Delivery) (last : Ahead) : Type 0 where
+  sends : sent_from_forgetting a inputs ≡ xs
+  delivers : delivered_from_forgetting a inputs ≡ ds
+  ends : ahead_forgetting_after a inputs ≡ last
+  sound : (n : ℕ) → IsSound (ahead_forgetting_after a (take n inputs)).k.secy
+
+with_end : (a : Ahead) → IsSound a.k.secy → DoesWith a [] [] [] a
+with_end a sound = record { sends = refl; delivers = refl; ends = refl; sound = at_each }
+  where
+    at_each : (n : ℕ) → IsSound (ahead_forgetting_after a (take n [])).k.secy
+    at_each zero = sound
+    at_each (suc n) = sound
+
+with_next : (a after last : Ahead) (input : KeepingInput) (inputs : List KeepingInput) (now sends : List SentIn) (new ds : List Delivery) → IsSound a.k.secy → newly_sent a.k input ≡ now →
+    newly_delivered_with a input ≡ new → (ahead_forgetting_step a input).1 ≡ after → DoesWith after inputs sends ds last → DoesWith a (input ∷ inputs) (now ++ sends) (new ++ ds) last
+with_next a after last input inputs now sends new ds sound is_now is_new is_after rest = record {
+  sends = ap (λ xs. xs ++ sent_from_forgetting (ahead_forgetting_step a input).1 inputs) is_now ∙ ap (λ x. now ++ sent_from_forgetting x inputs) is_after ∙ ap (λ xs. now ++ xs) rest.sends;
+  delivers = ap (λ xs. xs ++ delivered_from_forgetting (ahead_forgetting_step a input).1 inputs) is_new ∙ ap (λ x. new ++ delivered_from_forgetting x inputs) is_after ∙ ap (λ xs. new ++ xs) rest.delivers;
+  ends = ap (λ x. ahead_forgetting_after x inputs) is_after ∙ rest.ends;
+  sound = at_each;
+}
+  where
+    at_each : (n : ℕ) → IsSound (ahead_forgetting_after a (take n (input ∷ inputs))).k.secy
+    at_each zero = sound
+    at_each (suc n) = subst (λ (x : Ahead). IsSound (ahead_forgetting_after x (take n inputs)).k.secy) (sym is_after) (rest.sound n)
+
+-- all inputs come to the endpoint that forgets none, and to the keeping endpoint inside
+record IsWhole (a : Ahead) (inputs : List KeepingInput) : Type 0 where
+  given : others_with a inputs ≡ inputs
+  reaches : through a inputs ≡ inputs
+
+whole_end : (a : Ahead) → IsWhole a []
+whole_end a = record { given = refl; reaches = refl }
+
+whole_next : (a after : Ahead) (input : KeepingInput) (inputs : List KeepingInput) → installs_retired a.k input ≡ false → lets_through a input ≡ true → (ahead_forgetting_step a input).1 ≡ after →
+    (ahead_step a input).1 ≡ after → IsWhole after inputs → IsWhole a (input ∷ inputs)
+whole_next a after input inputs new lets forgets goes' rest = record {
+  given = ap (λ (b : Bool). if b then others_with (ahead_forgetting_step a input).1 inputs else input ∷ others_with (ahead_forgetting_step a input).1 inputs) new
+      ∙ ap (λ (x : Ahead). input ∷ others_with x inputs) forgets ∙ ap (λ (is : List KeepingInput). input ∷ is) rest.given;
+  reaches = ap (λ (b : Bool). if b then input ∷ through (ahead_step a input).1 inputs else through (ahead_step a input).1 inputs) lets
+      ∙ ap (λ (x : Ahead). input ∷ through x inputs) goes' ∙ ap (λ (is : List KeepingInput). input ∷ is) rest.reaches;
+}
+
+inside_whole : (run : Run) → IsWhole (opening_with false run) run.inputs → inner false run ≡ run
+inside_whole run it =
+    ap (λ (is : List KeepingInput). record run { inputs = through (opening_with false run) is }) it.given ∙ ap (λ (is : List KeepingInput). record run { inputs = is }) it.reaches
+
+-- a command that forgets nothing
+command_goes : (k k' : Keeping) (ended : Ends) (c : Command) → begins_again (a_of k) (operator_command c) ≡ false → forgetting_step k (command c) ≡ keeping_step k (command c) →
+    (keeping_step k (command c)).1 ≡ k' → ended_after (a_of k) (operator_command c) ((keeping_step k (command c)).0, k') ≡ ended → (ahead_forgetting_step (a_of k) (command c)).1 ≡ record (a_of k') { ended = ended }
+command_goes k k' ended c again same is ends =
+    ap (λ (b : Bool). (ahead_by b passes (a_of k) (operator_command c) (forgetting_step k (command c))).1) again
+    ∙ ap (λ (x : KeepingOutput × Keeping). (ahead_by false passes (a_of k) (operator_command c) x).1) same
+    ∙ ap (λ (x : Keeping). record (a_of x) { ended = ended_after (a_of k) (operator_command c) ((keeping_step k (command c)).0, x) }) is
+    ∙ ap (λ (e : Ends). record (a_of k') { ended = e }) ends
+
+command_goes_on : (k k' : Keeping) (c : Command) → begins_again (a_of k) (operator_command c) ≡ false → (keeping_step k (command c)).1 ≡ k' →
+    ended_after (a_of k) (operator_command c) ((keeping_step k (command c)).0, k') ≡ no_ends → (ahead_step (a_of k) (command c)).1 ≡ a_of k'
+command_goes_on k k' c again is ends =
+    ap (λ (b : Bool). (ahead_by b passes (a_of k) (operator_command c) (keeping_step k (command c))).1) again
+    ∙ ap (λ (x : Keeping). record (a_of x) { ended = ended_after (a_of k) (operator_command c) ((keeping_step k (command c)).0, x) }) is
+    ∙ ap (λ (e : Ends). record (a_of k') { ended = e }) ends
+
+-- A's run
+
+abbrev a_sends : List KeepingInput
+a_sends = sends Zeros
+
+abbrev key_a : Command
+key_a = Key (new_key no_salt 1)
+
+keys_a : (ahead_forgetting_step (a_of (k_begun sci_a)) (command key_a)).1 ≡ a_of (k_key sci_a Zeros)
+keys_a = command_goes (k_begun sci_a) (k_key sci_a Zeros) no_ends key_a refl refl (installs sci_a Zeros) refl
+
+makes_a : (ahead_forgetting_step (a_of (k_key sci_a Zeros)) sa_in).1 ≡ a_of (k_sa sci_a Zeros false)
+makes_a = command_goes (k_key sci_a Zeros) (k_sa sci_a Zeros false) no_ends (TxSa 0 0 1 false) refl refl (makes sci_a Zeros) refl
+
+turns_a : (ahead_forgetting_step (a_of (k_sa sci_a Zeros false)) on_in).1 ≡ a_of (k_sa sci_a Zeros true)
+turns_a = command_goes (k_sa sci_a Zeros false) (k_sa sci_a Zeros true) no_ends (TxOn 0) refl refl (turns_on sci_a Zeros) refl
+
+reserves_a : (ahead_step (a_of (k_sa sci_a Zeros true)) report_in).1 ≡ a_of (k_reserved sci_a Zeros)
+reserves_a = ap a_of (reserves sci_a Zeros)
+
+sends_a : (ahead_step (a_of (k_reserved sci_a Zeros)) frame_in).1 ≡ a_of (k_sent sci_a Zeros)
+sends_a = ap a_of (frame_step (k_reserved sci_a Zeros) (client 1) (goes sci_a Zeros))
+
+a_does : DoesWith (a_of (k_begun sci_a)) a_sends (sent_1 Zeros ∷ []) [] (a_of (k_sent sci_a Zeros))
+a_does =
+    let last = a_of (k_sent sci_a Zeros) in
+    let ones = sent_1 Zeros ∷ [] in
+    with_next (a_of (k_begun sci_a)) (a_of (k_key sci_a Zeros)) last (command key_a) (sa_in ∷ on_in ∷ report_in ∷ frame_in ∷ []) [] ones [] [] (start_sound sci_a own_sci) refl refl keys_a
+    (with_next (a_of (k_key sci_a Zeros)) (a_of (k_sa sci_a Zeros false)) last sa_in (on_in ∷ report_in ∷ frame_in ∷ []) [] ones [] [] (key_sound sci_a own_sci) refl refl makes_a
+    (with_next (a_of (k_sa sci_a Zeros false)) (a_of (k_sa sci_a Zeros true)) last on_in (report_in ∷ frame_in ∷ []) [] ones [] [] (sa_sound sci_a own_sci) refl refl turns_a
+    (with_next (a_of (k_sa sci_a Zeros true)) (a_of (k_reserved sci_a Zeros)) last report_in (frame_in ∷ []) [] ones [] [] (on_sound sci_a own_sci) refl refl reserves_a
+    (with_next (a_of (k_reserved sci_a Zeros)) last last frame_in [] ones [] [] [] (on_sound sci_a own_sci) (lists sci_a Zeros) refl sends_a (with_end last (sent_sound sci_a own_sci))))))
+
+a_whole : IsWhole (a_of (k_begun sci_a)) a_sends
+a_whole =
+    whole_next (a_of (k_begun sci_a)) (a_of (k_key sci_a Zeros)) (command key_a) (sa_in ∷ on_in ∷ report_in ∷ frame_in ∷ []) refl refl keys_a
+    (command_goes_on (k_begun sci_a) (k_key sci_a Zeros) key_a refl (installs sci_a Zeros) refl)
+    (whole_next (a_of (k_key sci_a Zeros)) (a_of (k_sa sci_a Zeros false)) sa_in (on_in ∷ report_in ∷ frame_in ∷ []) refl refl makes_a
+    (command_goes_on (k_key sci_a Zeros) (k_sa sci_a Zeros false) (TxSa 0 0 1 false) refl (makes sci_a Zeros) refl)
+    (whole_next (a_of (k_sa sci_a Zeros false)) (a_of (k_sa sci_a Zeros true)) on_in (report_in ∷ frame_in ∷ []) refl refl turns_a
+    (command_goes_on (k_sa sci_a Zeros false) (k_sa sci_a Zeros true) (TxOn 0) refl (turns_on sci_a Zeros) refl)
+    (whole_next (a_of (k_sa sci_a Zeros true)) (a_of (k_reserved sci_a Zeros)) report_in (frame_in ∷ []) refl refl reserves_a reserves_a
+    (whole_next (a_of (k_reserved sci_a Zeros)) (a_of (k_sent sci_a Zeros)) frame_in [] refl refl sends_a sends_a (whole_end (a_of (k_sent sci_a Zeros)))))))
+
+-- B's run: the commands, the frame, then the SA is deleted and the key retired, and another key is installed and used
+
+abbrev b_at : State → Keeping
+b_at s = at [] free_b s
+
+abbrev key_b : Command
+key_b = Key (new_key no_salt 2)
+
+abbrev deletes : KeepingInput
+deletes = command (RxDel sci_a 0)
+
+abbrev retires : KeepingInput
+retires = command (Retire 0)
+
+-- the second key
+abbrev octets_2 : List ℕ
+octets_2 = replicate 16 9
+
+abbrev key_2 : Command
+key_2 = Key (record (new_key no_salt 2) { number = 1; bytes = K128 octets_2 })
+
+abbrev sa_2 : Command
+sa_2 = RxSa sci_a 0 1 1 1
+
+abbrev then_on : List KeepingInput
+then_on = deletes ∷ retires ∷ command key_2 ∷ command sa_2 ∷ []
+
+abbrev run_f : Run
+run_f = record { journal = journal false []; config = config_of sci_b; inputs = commands Same ++ link Same ∷ then_on }
+
+keys_b : (ahead_forgetting_step (a_of (b_at (start (config_of sci_b)))) (key_in Same)).1 ≡ a_of (b_at (with_key Same))
+keys_b = command_goes (b_at (start (config_of sci_b))) (b_at (with_key Same)) no_ends key_b refl refl (keyed [] free_b Same) refl
+
+channels_b : (ahead_forgetting_step (a_of (b_at (with_key Same))) sc_in).1 ≡ a_of (b_at (with_sc Same))
+channels_b = command_goes (b_at (with_key Same)) (b_at (with_sc Same)) no_ends (RxSc sci_a) refl refl (channelled [] free_b Same) refl
+
+creates_b : (ahead_forgetting_step (a_of (b_at (with_sc Same))) (rx_sa_in Same)).1 ≡ a_of (b_at (with_sa Same))
+creates_b = command_goes (b_at (with_sc Same)) (b_at (with_sa Same)) no_ends (RxSa sci_a 0 0 1 1) refl refl (creates [] free_b Same) refl
+
+enables_b : (ahead_forgetting_step (a_of (b_at (with_sa Same))) rx_on_in).1 ≡ a_of (b_at (ready Same))
+enables_b = command_goes (b_at (with_sa Same)) (b_at (ready Same)) no_ends (RxOn sci_a 0) refl refl (enables [] free_b Same) refl
+
+lets_b : lets_through (a_of (b_at (ready Same))) (link Same) ≡ true
+lets_b = ap (λ (j : Judgement). is_through false (standing_by (a_of (b_at (ready Same))) j None j.row)) (judged Same)
+
+hears_b : (ahead_step (a_of (b_at (ready Same))) (link Same)).1 ≡ a_of (b_at (heard Same))
+hears_b = goes_on (a_of (b_at (ready Same))) (link_frame (f Same)) (b_at (heard Same)) lets_b (hears [] free_b Same)
+
+gives_b : newly_delivered_with (a_of (b_at (ready Same))) (link Same) ≡ delivery Same ∷ []
+gives_b = ap (λ (b : Bool). if b then newly_delivered (b_at (ready Same)) (link Same) else []) lets_b ∙ gives [] free_b Same
+
+abbrev deleted : State
+deleted = effect (heard Same) (RxDel sci_a 0)
+
+abbrev retired : State
+retired = effect deleted (Retire 0)
+
+abbrev ends_b : Ends
+ends_b = record no_ends { entries = record { key = 0; sci = sci_a; an = 0; last = 1 } ∷ [] }
+
+deletes_b : (ahead_forgetting_step (a_of (b_at (heard Same))) deletes).1 ≡ record (a_of (b_at deleted)) { ended = ends_b }
+deletes_b = command_goes (b_at (heard Same)) (b_at deleted) ends_b (RxDel sci_a 0) refl refl (command_step (b_at (heard Same)) (RxDel sci_a 0) refl) refl
+
+-- in the end the key has its fingerprint
+
+abbrev print : List ℕ
+print = fingerprint (salt false) bytes
+
+can_b : can_replace retired.keys 0 print ≡ true
+unfolding first_words schedule rounds compress hash_after digest_bytes sha256
+can_b = refl
+
+long_b : length print ≡ 16
+unfolding first_words schedule rounds compress hash_after digest_bytes sha256
+long_b = refl
+
+abbrev forgotten : State
+forgotten = replacing 0 print retired
+
+deleted_sound : IsSound deleted
+deleted_sound =
+    after_effect (heard Same) (RxDel sci_a 0) refl (record { keys = rx_key_is [] free_b Same refl; tx = tt; rx = channels_are [] tt }) (heard_is_sound [] free_b Same refl)
+
+retired_is : AreKeyRows retired.keys
+retired_is = (record { number = omega arith; bytes = refl; salt = refl; ssci = omega arith; first_unused_least = omega arith; first_unused = omega arith }, refl, tt)
+
+retired_sound : IsSound retired
+retired_sound = after_effect deleted (Retire 0) refl (record { keys = retired_is; tx = tt; rx = channels_are [] tt }) deleted_sound
+
+forgotten_is : AreKeyRows forgotten.keys
+forgotten_is = (record { number = omega arith; bytes = long_b; salt = refl; ssci = omega arith; first_unused_least = omega arith; first_unused = omega arith }, refl, tt)
+
+forgotten_sound : IsSound forgotten
+forgotten_sound =
+    let it : IsReady forgotten max_frame_len =
+    ready_by_keys retired 0 print (keys_replacing retired.keys 0 print) true max_frame_len (sym can_b) refl tt forgotten_is (record { sound = retired_sound; room = refl }) in
+    it.sound
+
+abbrev k_forgot : Keeping
+k_forgot = forgetting (b_at retired) 0
+
+retires_b : (ahead_forgetting_step (record (a_of (b_at deleted)) { ended = ends_b }) retires).1 ≡ a_of k_forgot
+retires_b = ap (λ (b : Bool). a_of (if b then forgetting (b_at retired) 0 else b_at retired)) can_b
+
+-- another key is installed: no key has its octets, nor its fingerprint
+
+not_known : forgetting_step k_forgot (command key_2) ≡ keeping_step k_forgot (command key_2)
+unfolding first_words schedule rounds compress hash_after digest_bytes sha256
+not_known = refl
+
+is_fit : refusal forgotten key_2 ≡ None
+unfolding first_words schedule rounds compress hash_after digest_bytes sha256
+is_fit = refl
+
+abbrev with_two : State
+with_two = effect forgotten key_2
+
+abbrev k_two : Keeping
+k_two = record k_forgot { secy = with_two }
+
+installs_2 : (keeping_step k_forgot (command key_2)).1 ≡ k_two
+installs_2 = command_step k_forgot key_2 refl ∙ ap (λ (r : Option Refusal). record k_forgot { secy = unless_refused r forgotten key_2 }) is_fit
+
+keys_2 : (ahead_forgetting_step (a_of k_forgot) (command key_2)).1 ≡ a_of k_two
+keys_2 = command_goes k_forgot k_two no_ends key_2 refl not_known installs_2 refl
+
+two_are : AreKeyRows with_two.keys
+two_are = (
+  record { number = omega arith; bytes = long_b; salt = refl; ssci = omega arith; first_unused_least = omega arith; first_unused = omega arith },
+  refl,
+  (record { number = omega arith; bytes = refl; salt = refl; ssci = omega arith; first_unused_least = omega arith; first_unused = omega arith }, refl, tt),
+)
+
+two_sound : IsSound with_two
+two_sound = after_effect forgotten key_2 is_fit (record { keys = two_are; tx = tt; rx = channels_are [] tt }) forgotten_sound
+
+-- and an SA under it
+
+abbrev with_sa_2 : State
+with_sa_2 = effect with_two sa_2
+
+abbrev k_last : Keeping
+k_last = record k_two { secy = with_sa_2 }
+
+abbrev name_2 : List ℕ
+name_2 = receiving_name (sending_name (salt false) octets_2) sci_a 0
+
+free_2 : highest (reads []) name_2 < 1
+free_2 = is_free [] name_2 1 none_is (omega arith)
+
+creates_2 : (keeping_step k_two (command sa_2)).1 ≡ k_last
+creates_2 = command_step k_two sa_2 (is_new (reads []) name_2 1 free_2)
+
+sas_2 : (ahead_forgetting_step (a_of k_two) (command sa_2)).1 ≡ a_of k_last
+sas_2 = command_goes k_two k_last no_ends sa_2 refl refl creates_2 refl
+
+last_sound : IsSound with_sa_2
+last_sound =
+    after_effect with_two sa_2 refl
+    (record {
+      keys = two_are;
+      tx = tt;
+      rx = channels_are _ (record { channel = refl; an = omega arith; key = omega arith; ssci = omega arith; next = omega arith; lowest_least = omega arith; lowest = omega arith }, refl, tt);
+    }) two_sound
+
+abbrev last_b : Ahead
+last_b = a_of k_last
+
+b_does_from : (inputs : List KeepingInput) (ds : List Delivery) (last : Ahead) → DoesWith (a_of (b_at (ready Same))) inputs [] ds last →
+    DoesWith (a_of (b_at (start (config_of sci_b)))) (commands Same ++ inputs) [] ds last
+b_does_from inputs ds last rest =
+    with_next (a_of (b_at (start (config_of sci_b)))) (a_of (b_at (with_key Same))) last (key_in Same) (sc_in ∷ rx_sa_in Same ∷ rx_on_in ∷ inputs) [] [] [] ds (rx_start [] free_b) refl refl keys_b
+    (with_next (a_of (b_at (with_key Same))) (a_of (b_at (with_sc Same))) last sc_in (rx_sa_in Same ∷ rx_on_in ∷ inputs) [] [] [] ds (rx_key_sound [] free_b Same refl) refl refl channels_b
+    (with_next (a_of (b_at (with_sc Same))) (a_of (b_at (with_sa Same))) last (rx_sa_in Same) (rx_on_in ∷ inputs) [] [] [] ds (rx_sc_sound [] free_b Same refl) refl refl creates_b
+    (with_next (a_of (b_at (with_sa Same))) (a_of (b_at (ready Same))) last rx_on_in inputs [] [] [] ds (rx_sa_sound [] free_b Same refl) refl refl enables_b rest)))
+
+b_does : DoesWith (a_of (b_at (start (config_of sci_b)))) (commands Same ++ link Same ∷ then_on) [] (delivery Same ∷ []) last_b
+b_does =
+    let a3 = record (a_of (b_at deleted)) { ended = ends_b } in
+    b_does_from (link Same ∷ then_on) (delivery Same ∷ []) last_b
+    (with_next (a_of (b_at (ready Same))) (a_of (b_at (heard Same))) last_b (link Same) then_on [] [] (delivery Same ∷ []) [] (ready_sound [] free_b Same refl) refl gives_b hears_b
+    (with_next (a_of (b_at (heard Same))) a3 last_b deletes (retires ∷ command key_2 ∷ command sa_2 ∷ []) [] [] [] [] (heard_is_sound [] free_b Same refl) refl refl deletes_b
+    (with_next a3 (a_of k_forgot) last_b retires (command key_2 ∷ command sa_2 ∷ []) [] [] [] [] deleted_sound refl refl retires_b
+    (with_next (a_of k_forgot) (a_of k_two) last_b (command key_2) (command sa_2 ∷ []) [] [] [] [] forgotten_sound refl refl keys_2
+    (with_next (a_of k_two) last_b last_b (command sa_2) [] [] [] [] [] two_sound refl refl sas_2 (with_end last_b last_sound))))))
+
+b_commands : DoesWith (a_of (b_at (start (config_of sci_b)))) (commands Same) [] [] (a_of (b_at (ready Same)))
+b_commands = b_does_from [] [] (a_of (b_at (ready Same))) (with_end (a_of (b_at (ready Same))) (ready_sound [] free_b Same refl))
+
+b_whole : IsWhole (a_of (b_at (start (config_of sci_b)))) (commands Same)
+b_whole =
+    whole_next (a_of (b_at (start (config_of sci_b)))) (a_of (b_at (with_key Same))) (key_in Same) (sc_in ∷ rx_sa_in Same ∷ rx_on_in ∷ []) refl refl keys_b
+    (command_goes_on (b_at (start (config_of sci_b))) (b_at (with_key Same)) key_b refl (keyed [] free_b Same) refl)
+    (whole_next (a_of (b_at (with_key Same))) (a_of (b_at (with_sc Same))) sc_in (rx_sa_in Same ∷ rx_on_in ∷ []) refl refl channels_b
+    (command_goes_on (b_at (with_key Same)) (b_at (with_sc Same)) (RxSc sci_a) refl (channelled [] free_b Same) refl)
+    (whole_next (a_of (b_at (with_sc Same))) (a_of (b_at (with_sa Same))) (rx_sa_in Same) (rx_on_in ∷ []) refl refl creates_b
+    (command_goes_on (b_at (with_sc Same)) (b_at (with_sa Same)) (RxSa sci_a 0 0 1 1) refl (creates [] free_b Same) refl)
+    (whole_next (a_of (b_at (with_sa Same))) (a_of (b_at (ready Same))) rx_on_in [] refl refl enables_b
+    (command_goes_on (b_at (with_sa Same)) (b_at (ready Same)) (RxOn sci_a 0) refl (enables [] free_b Same) refl) (whole_end (a_of (b_at (ready Same)))))))
+
+-- ---- all premises of order and origin, of the endpoints that forget
+
+abbrev never : End → ℕ → Bool
+never e n = false
+
+abbrev with_none : Run → RunWith
+with_none run = record { ahead = false; run = run }
+
+abbrev so_far : Run
+so_far = record { journal = journal false []; config = config_of sci_b; inputs = commands Same }
+
+inside_a : inside_of (with_none (run_a Same)) ≡ run_a Same
+inside_a = inside_whole (run_a Same) a_whole
+
+inside_so_far : inside_of (with_none so_far) ≡ so_far
+inside_so_far = inside_whole so_far b_whole
+
+no_command : (l : Ahead) (c : Command) (d : Delivery) → Contains (delivered_at bytes sci_a 0 (newly_delivered_with l (command c))) d → ⊥
+no_command l c d there = by_test (lets_through l (command c)) there
+  where
+    by_test : (b : Bool) → Contains (delivered_at bytes sci_a 0 (if b then [] else [])) d → ⊥
+    by_test true there' = member [] d there'
+    by_test false there' = member [] d there'
+
+keys_of_a : (closing (run_a Same)).secy.keys ≡ key_at no_salt 1 2 ∷ []
+keys_of_a = ap (λ (k : Keeping). k.secy.keys) (does_a Same).ends
+
+keys_so_far : (closing so_far).secy.keys ≡ rx_key Same ∷ []
+keys_so_far = ap (λ (k : Keeping). k.secy.keys) (does_from [] free_b Same [] [] (b_at (ready Same)) (does_end (b_at (ready Same)))).ends
+
+agree_so_far : AgreeOnKeys (run_a Same) so_far
+agree_so_far =
+    of_last (λ x y. x.bytes ≡ y.bytes → AgreeOnKey x y) (run_a Same) so_far (key_at no_salt 1 2) (rx_key Same) keys_of_a keys_so_far (λ same. record { suite = refl; salt = λ xpn. refl })
+
+peers_so_far : ArePeerRuns (with_none (run_a Same) ∷ []) (with_none so_far ∷ [])
+peers_so_far = record {
+  agree_a = one_alone AgreeOnKeys (inside_of (with_none (run_a Same)));
+  agree_b = one_alone AgreeOnKeys (inside_of (with_none so_far));
+  agree = All-cons (λ p. All (AgreeOnKeys p) (inside_of (with_none so_far) ∷ [])) (inside_of (with_none (run_a Same))) []
+      (All-cons (AgreeOnKeys (inside_of (with_none (run_a Same)))) (inside_of (with_none so_far)) []
+      (subst (λ (p : Run). AgreeOnKeys p (inside_of (with_none so_far))) (sym inside_a) (subst (AgreeOnKeys (run_a Same)) (sym inside_so_far) agree_so_far))
+      (All-nil (AgreeOnKeys (inside_of (with_none (run_a Same)))))) (All-nil (λ p. All (AgreeOnKeys p) (inside_of (with_none so_far) ∷ [])));
+  one_a = one_alone IsSameEnd (inside_of (with_none (run_a Same)));
+  one_b = one_alone IsSameEnd (inside_of (with_none so_far));
+}
+
+fair_frame : IsFair (with_none (run_a Same) ∷ []) (with_none so_far ∷ []) (closing_of (with_none so_far)) (comes_in B (link Same)) (link Same)
+fair_frame =
+    let sends : sent_of_all (with_none (run_a Same) ∷ []) ++ sent_of_all (with_none so_far ∷ []) ≡ sent_1 Zeros ∷ [] =
+    ap (λ (xs : List SentIn). (xs ++ []) ++ sent_of_all (with_none so_far ∷ [])) a_does.sends ∙ ap (λ (xs : List SentIn). sent_1 Zeros ∷ (xs ++ [])) b_commands.sends in
+    let there : IfSome (use_opened (ready Same) (f Same)) (Contains (map seal_of (sent_1 Zeros ∷ []))) = genuine [] free_b Same (use_of Zeros ∷ []) (0, omega arith, refl) in
+    let own : IfSome (use_opened (ready Same) (f Same)) (Contains (map seal_of (sent_of_all (with_none (run_a Same) ∷ []) ++ sent_of_all (with_none so_far ∷ [])))) =
+    subst (λ (xs : List SentIn). IfSome (use_opened (ready Same) (f Same)) (Contains (map seal_of xs))) (sym sends) there in
+    record {
+      order = subst (λ (l : Ahead). HasStrictOrder l.k.secy) (sym b_commands.ends) (record { mode = refl; replay = refl; window = refl });
+      octets = octets Zeros;
+      genuine = subst (λ (l : Ahead). IsGenuineFrom (sent_of_all (with_none (run_a Same) ∷ []) ++ sent_of_all (with_none so_far ∷ [])) l (link Same)) (sym b_commands.ends) own;
+      peers = peers_so_far;
+    }
+
+abbrev forgets_its : List EndRun
+forgets_its = (A, run_a Same) ∷ (B, run_f) ∷ []
+
+-- what A sent and B delivered, each client frame after its PN; and the keys of B in the end
+pub record MeetsAllForgetting (its : List EndRun) (sent delivered : List (List ℕ)) : Type 0 where
+  pub sounds : (e : End) → All IsSoundWith (runs_at never e (blocks its))
+  pub fair : AtEach (IsFairHere never B bytes sci_a 0) [] (blocks its)
+  pub kept_sent : AllPairs (KeepsSent bytes) (runs_at never A (blocks its))
+  pub kept_delivered : AllPairs (KeepsDelivered bytes sci_a 0) (runs_at never B (blocks its))
+  pub sends : map numbered_sent (sent_under bytes (sent_of_all (runs_at never A (blocks its)))) ≡ sent
+  pub delivers : map numbered_delivery (delivered_at bytes sci_a 0 (delivered_of_all (runs_at never B (blocks its)))) ≡ delivered
+  pub keys : (closing_of (with_none run_f)).k.secy.keys ≡ record (rx_key Same) { bytes = print; retired = true } ∷ record (rx_key Same) { number = 1; bytes = octets_2 } ∷ []
+
+pub extended_forgets : MeetsAllForgetting forgets_its ((1 ∷ client 1) ∷ []) ((1 ∷ client 1) ∷ [])
+extended_forgets = record {
+  sounds = by_end;
+  fair = (
+    tt,
+    (
+      (λ same. cc),
+      (
+        (λ same. cc),
+        (
+          (λ same. cc),
+          (
+            (λ same. cc),
+            (
+              (λ same. cc),
+              (
+                tt,
+                (
+                  (λ same d there. absurd (no_command (closing_of (with_none (run_with (config_of sci_b) (journal false []) []))) key_b d there)),
+                  (
+                    (λ same d there. absurd (no_command (closing_of (with_none (run_with (config_of sci_b) (journal false []) (key_in Same ∷ [])))) (RxSc sci_a) d there)),
+                    (
+                      (λ same d there. absurd (no_command (closing_of (with_none (run_with (config_of sci_b) (journal false []) (key_in Same ∷ sc_in ∷ [])))) (RxSa sci_a 0 0 1 1) d there)),
+                      (
+                        (λ same d there. absurd (no_command (closing_of (with_none (run_with (config_of sci_b) (journal false []) (key_in Same ∷ sc_in ∷ rx_sa_in Same ∷ [])))) (RxOn sci_a 0) d there)),
+                        (
+                          (λ same d there. fair_frame),
+                          (
+                            (λ same d there. absurd (no_command (closing_of (with_none (run_with (config_of sci_b) (journal false []) (commands Same ++ link Same ∷ [])))) (RxDel sci_a 0) d there)),
+                            (
+                              (λ same d there. absurd (no_command (closing_of (with_none (run_with (config_of sci_b) (journal false []) (commands Same ++ link Same ∷ deletes ∷ [])))) (Retire 0) d there)),
+                              (
+                                (λ same d there. absurd (no_command (closing_of (with_none (run_with (config_of sci_b) (journal false []) (commands Same ++ link Same ∷ deletes ∷ retires ∷ [])))) key_2 d there)),
+                                (
+                                  (λ same d there. absurd (no_command (closing_of (with_none (run_with (config_of sci_b) (journal false []) (commands Same ++ link Same ∷ deletes ∷ retires ∷ command key_2 ∷ [])))) sa_2 d there)),
+                                  tt,
+                                ),
+                              ),
+                            ),
+                          ),
+                        ),
+                      ),
+                    ),
+                  ),
+                ),
+              ),
+            ),
+          ),
+        ),
+      ),
+    ),
+  );
+  kept_sent = one_alone (KeepsSent bytes) (with_none (run_a Same));
+  kept_delivered = one_alone (KeepsDelivered bytes sci_a 0) (with_none run_f);
+  sends = ap (λ (xs : List SentIn). map numbered_sent (sent_under bytes (xs ++ []))) a_does.sends;
+  delivers = ap (λ (ds : List Delivery). map numbered_delivery (delivered_at bytes sci_a 0 (ds ++ []))) b_does.delivers;
+  keys = ap (λ (l : Ahead). l.k.secy.keys) b_does.ends;
+}
+  where
+    by_end : (e : End) → All IsSoundWith (runs_at never e (blocks forgets_its))
+    by_end A = All-cons IsSoundWith (with_none (run_a Same)) [] a_does.sound (All-nil IsSoundWith)
+    by_end B = All-cons IsSoundWith (with_none run_f) [] b_does.sound (All-nil IsSoundWith)

@@ -1,8 +1,8 @@
 -- Two runs of each end, where the endpoints reserve ahead of receiving. B drops the first frame, since its packet number
 -- (PN) is not reserved; once a record is durable it delivers it, and drops its replay as late. Then it deletes the SA, and
 -- refuses to create it again at the same PN. Then both restart. B drops the first frame again, and delivers one with PN 3.
-use Rattle.std.proofs.Common.{◌≡◌, ℕ, ◌<◌, ◌≤◌, Bool, true, false, List, [], ◌∷◌, ◌++◌, map, refl, ap, sym, subst, ◌∙◌, arith, Contains}
-use Rattle.std.specs.Prelude.{max, nat_le, if◌then◌else◌, Option, Some, None, IfSome}
+use Rattle.std.proofs.Common.{◌≡◌, ◌≢◌, get_or, ℕ, ◌<◌, ◌≤◌, Bool, true, false, List, [], ◌∷◌, ◌++◌, map, refl, ap, sym, subst, ◌∙◌, arith, Contains}
+use Rattle.std.specs.Prelude.{◌==◌, max, nat_le, if◌then◌else◌, Option, Some, None, IfSome}
 use Rattle.std.proofs.lemmas.Bool.{lt-leb}
 use Rattle.std.proofs.lemmas.List.Elements.{All-nil}
 use Rattle.macsec_suite.specs.CipherUses.{CipherUse}
@@ -19,7 +19,7 @@ use Rattle.macsec_secy.specs.Step.{link_frame, operator_command, refused, step}
 use Rattle.macsec_secy.proofs.StaysSound.{after_effect}
 use Rattle.macsec_reserve.specs.declared.reservation.Reservation.{Reservation}
 use Rattle.macsec_reserve.specs.Entries.{raised_by}
-use Rattle.macsec_reserve.specs.Histories.{Run, closing, opening}
+use Rattle.macsec_reserve.specs.Histories.{KeepsDurable, Run, SameSalt, closing, opening}
 use Rattle.macsec_reserve.specs.Journal.{highest}
 use Rattle.macsec_reserve.specs.Keeping.{Keeping, KeepingInput, endpoint_output, for_each_key, keeping_after, keeping_step, now_durable}
 use Rattle.macsec_reserve.proofs.Written.{same_octets-refl}
@@ -35,13 +35,14 @@ use Rattle.macsec_ahead.specs.declared.ends.EndedSa.{EndedSa}
 use Rattle.macsec_ahead.specs.Ends.{no_ends}
 use Rattle.macsec_ahead.specs.Ahead.{Ahead, ahead_by, ahead_step, before_this_run, dropped_not_reserved, is_through, kept as an_output, lets_through, not_yet, passes, run_inside, standing_by, wanted_to_accept}
 use Rattle.macsec_restarts.specs.AheadOrder.{IsOrderlyInside, IsStrictInput, delivered_so_far_with, inside}
-use Rattle.macsec_restarts.specs.AheadRuns.{sent_in_all_with}
-use Rattle.macsec_restarts.specs.Delivered.{Delivery, delivered_at, delivered_in_all}
+use Rattle.macsec_restarts.specs.AheadRuns.{AreOfOneSa, accepted_from, accepted_in, is_valid, newly_accepted, newly_delivered_with, sent_in_all_with}
+use Rattle.macsec_restarts.specs.Delivered.{Delivery, delivered_at, delivered_in_all, newly_delivered}
 use Rattle.macsec_restarts.specs.Happenings.{AtEach, Happening, begins, comes_in, last_run, runs_of}
 use Rattle.macsec_restarts.specs.Order.{IsOrderedInput, IsOrderly, numbered_delivery, numbered_sent}
 use Rattle.macsec_restarts.specs.Peers.{ArePeers}
 use Rattle.macsec_restarts.specs.Sent.{SentIn, sent_in_all, sent_under}
-use Rattle.macsec_restarts.proofs.AheadInside.{delivered_in_all_inside, sent_in_all_inside}
+use Rattle.macsec_restarts.proofs.AheadAccepts.{accepts_above_in_all}
+use Rattle.macsec_restarts.proofs.AheadInside.{delivered_in_all_inside, sent_in_all_inside, stays}
 use Rattle.macsec_restarts.proofs.AheadOrder.{runs_inside}
 use Rattle.macsec_restarts.proofs.Examples.Blocks.{AreSteps, EndRun, IsStep, Told, after_own, blocks, no_step, step_next, told_end, told_next}
 use Rattle.macsec_restarts.proofs.Examples.Histories.{MeetsAll, run_told}
@@ -49,7 +50,7 @@ use Rattle.macsec_restarts.proofs.Examples.InsideBlocks.{Through, drops_next, go
 use Rattle.macsec_restarts.proofs.Examples.Premises.{NoPremise}
 use Rattle.macsec_restarts.proofs.Examples.Receivers as receiver
 use Rattle.macsec_restarts.proofs.Examples.Tags.{octets_1, octets_3}
-use Rattle.macsec_restarts.proofs.Examples.TwoRunsEach.{Facts, at_most, facts_a, is_durable, is_free, is_saved, meets, none_is, opens_1, opens_3, reads, reserved_2, reserved_is, run_a, saved_1, saved_is, t, u, use_1, use_3}
+use Rattle.macsec_restarts.proofs.Examples.TwoRunsEach.{Facts, at_most, facts_a, is_durable, is_free, is_saved, meets, none_is, opens_1, opens_3, pair, reads, reserved_2, reserved_is, run_a, saved_1, saved_is, t, u, use_1, use_3}
 
 -- ---- the receiver's states
 
@@ -473,3 +474,119 @@ first_wanted = refl
 -- the SA is not created again at PN 1
 pub last_answer : (ahead_step (last_a false) creates).0 ≡ an_output (endpoint_output (refused PnFloor))
 last_answer = refl
+
+-- ---- what it accepts
+
+record Accepts (a : Ahead) (inputs : List KeepingInput) (ds : List Delivery) : Type 0 where
+  is : accepted_from a inputs ≡ ds
+
+accepts_end : (a : Ahead) → Accepts a [] []
+accepts_end a = record { is = refl }
+
+accepts_next : (a after : Ahead) (input : KeepingInput) (inputs : List KeepingInput) (new ds : List Delivery) → newly_accepted a input ≡ new → (ahead_step a input).1 ≡ after →
+    Accepts after inputs ds → Accepts a (input ∷ inputs) (new ++ ds)
+accepts_next a after input inputs new ds is_new is_after rest = record {
+  is = ap (λ (xs : List Delivery). xs ++ accepted_from (ahead_step a input).1 inputs) is_new ∙ ap (λ (x : Ahead). new ++ accepted_from x inputs) is_after
+      ∙ ap (λ (xs : List Delivery). new ++ xs) rest.is;
+}
+
+-- a valid frame that passes, one that does not, and one that is not valid
+valid_passes : (a : Ahead) (input : KeepingInput) (new : List Delivery) → is_valid a.k.secy input ≡ true → lets_through a input ≡ true → newly_delivered a.k input ≡ new → newly_accepted a input ≡ new
+valid_passes a input new valid lets is =
+    ap (λ (b : Bool). if b then newly_delivered_with a input else []) valid ∙ ap (λ (b : Bool). if b then newly_delivered a.k input else []) lets ∙ is
+
+valid_drops : (a : Ahead) (input : KeepingInput) → is_valid a.k.secy input ≡ true → lets_through a input ≡ false → newly_accepted a input ≡ []
+valid_drops a input valid lets =
+    ap (λ (b : Bool). if b then newly_delivered_with a input else []) valid ∙ ap (λ (b : Bool). if b then newly_delivered a.k input else []) lets
+
+not_valid : (a : Ahead) (input : KeepingInput) → is_valid a.k.secy input ≡ false → newly_accepted a input ≡ []
+not_valid a input is = ap (λ (b : Bool). if b then newly_delivered_with a input else []) is
+
+abbrev number_13 : Judgement → Bool
+number_13 j = j.step == 13
+
+frames_accepted : (again : Bool) → Accepts (a_at again [] [] [] (receiver.ready again)) (comes again) (delivered_b again)
+frames_accepted false =
+    let g = granted_after saved_1 in
+    let taken = saved_1 ∷ [] in
+    let a1 = a_at false [] [] [] (receiver.ready false) in
+    let a2 = a_at false g taken [] (receiver.ready false) in
+    let a3 = a_at false g taken [] (receiver.heard_1 t) in
+    let a4 = a_at false g taken [] (receiver.dropped_1 t) in
+    let a5 = last_a false in
+    let ones = receiver.delivery 1 ∷ [] in
+    accepts_next a1 a1 link_1 (now_durable saved_1 ∷ link_1 ∷ link_1 ∷ deletes ∷ creates ∷ []) [] ones (valid_drops a1 link_1 (ap number_13 (receiver.judged_1 t opens_1)) drops_1) (stays a1 link_1 drops_1)
+    (accepts_next a1 a2 (now_durable saved_1) (link_1 ∷ link_1 ∷ deletes ∷ creates ∷ []) [] ones refl reports_at_1
+    (accepts_next a2 a3 link_1 (link_1 ∷ deletes ∷ creates ∷ []) ones []
+    (valid_passes a2 link_1 ones (ap number_13 (receiver.judged_1 t opens_1)) passes_1 (receiver.delivers a2.k 1 t receiver.accepts_1 (receiver.judged_1 t opens_1)))
+    (goes_on a2 (link_frame (receiver.frame 1 t)) (k_at false g (receiver.heard_1 t)) passes_1 hears_1)
+    (accepts_next a3 a4 link_1 (deletes ∷ creates ∷ []) [] [] (not_valid a3 link_1 (ap number_13 (receiver.late_then t)))
+    (goes_on a3 (link_frame (receiver.frame 1 t)) (k_at false g (receiver.dropped_1 t)) refl hears_2)
+    (accepts_next a4 a5 deletes (creates ∷ []) [] [] refl (goes_on a4 (operator_command (RxDel sci_a 0)) (k_at false g deleted) refl does_delete)
+    (accepts_next a5 a5 creates [] [] [] refl (stays a5 creates refl) (accepts_end a5))))))
+frames_accepted true =
+    let g = granted_after saved_3 in
+    let a1 = a_at true [] [] [] (receiver.ready true) in
+    let a2 = a_at true [] [] [] (receiver.dropped_2 t) in
+    let a3 = a_at true g (saved_3 ∷ []) [] (receiver.dropped_2 t) in
+    let a4 = last_a true in
+    let ones = receiver.delivery 3 ∷ [] in
+    accepts_next a1 a2 link_1 (now_durable saved_3 ∷ link_3 ∷ []) [] ones (not_valid a1 link_1 (ap number_13 (receiver.late_again t)))
+    (goes_on a1 (link_frame (receiver.frame 1 t)) (k_at true [] (receiver.dropped_2 t)) refl hears_again)
+    (accepts_next a2 a3 (now_durable saved_3) (link_3 ∷ []) [] ones refl reports_at_3
+    (accepts_next a3 a4 link_3 [] ones []
+    (valid_passes a3 link_3 ones (ap number_13 (receiver.judged_3 t u opens_3)) passes_3 (receiver.delivers a3.k 3 u receiver.accepts_3 (receiver.judged_3 t u opens_3)))
+    (goes_on a3 (link_frame (receiver.frame 3 u)) (k_at true g (receiver.heard_3 t u)) passes_3 hears_3) (accepts_end a4)))
+
+all_accepted : (again : Bool) → accepted_in (run_b again) ≡ delivered_b again
+all_accepted false =
+    let at = a_at false [] [] [] in
+    let k = k_at false [] in
+    let ones = receiver.delivery 1 ∷ [] in
+    (accepts_next (at (start gcm_b)) (at receiver.with_key) (command (Key (new_key no_salt 2))) (command (RxSc sci_a) ∷ command (RxSa sci_a 0 0 1 1) ∷ command (RxOn sci_a 0) ∷ comes false) [] ones refl
+    (goes_on (at (start gcm_b)) (operator_command (Key (new_key no_salt 2))) (k receiver.with_key) refl (command_step (k (start gcm_b)) (Key (new_key no_salt 2)) refl))
+    (accepts_next (at receiver.with_key) (at receiver.with_sc) (command (RxSc sci_a)) (command (RxSa sci_a 0 0 1 1) ∷ command (RxOn sci_a 0) ∷ comes false) [] ones refl
+    (goes_on (at receiver.with_key) (operator_command (RxSc sci_a)) (k receiver.with_sc) refl (command_step (k receiver.with_key) (RxSc sci_a) refl))
+    (accepts_next (at receiver.with_sc) (at (receiver.with_sa false)) (command (RxSa sci_a 0 0 1 1)) (command (RxOn sci_a 0) ∷ comes false) [] ones refl
+    (goes_on (at receiver.with_sc) (operator_command (RxSa sci_a 0 0 1 1)) (k (receiver.with_sa false)) refl (receiver.creates (salt false) (reads []) false (free false)))
+    (accepts_next (at (receiver.with_sa false)) (at (receiver.ready false)) (command (RxOn sci_a 0)) (comes false) [] ones refl
+    (goes_on (at (receiver.with_sa false)) (operator_command (RxOn sci_a 0)) (k (receiver.ready false)) refl (receiver.enables (salt false) (reads []) false)) (frames_accepted false))))).is
+all_accepted true =
+    let at = a_at true [] [] [] in
+    let k = k_at true [] in
+    let ones = receiver.delivery 3 ∷ [] in
+    (accepts_next (at (start gcm_b)) (at receiver.with_key) (command (Key (new_key no_salt 2))) (command (RxSc sci_a) ∷ command (RxSa sci_a 0 0 1 2) ∷ command (RxOn sci_a 0) ∷ comes true) [] ones refl
+    (goes_on (at (start gcm_b)) (operator_command (Key (new_key no_salt 2))) (k receiver.with_key) refl (command_step (k (start gcm_b)) (Key (new_key no_salt 2)) refl))
+    (accepts_next (at receiver.with_key) (at receiver.with_sc) (command (RxSc sci_a)) (command (RxSa sci_a 0 0 1 2) ∷ command (RxOn sci_a 0) ∷ comes true) [] ones refl
+    (goes_on (at receiver.with_key) (operator_command (RxSc sci_a)) (k receiver.with_sc) refl (command_step (k receiver.with_key) (RxSc sci_a) refl))
+    (accepts_next (at receiver.with_sc) (at (receiver.with_sa true)) (command (RxSa sci_a 0 0 1 2)) (command (RxOn sci_a 0) ∷ comes true) [] ones refl
+    (goes_on (at receiver.with_sc) (operator_command (RxSa sci_a 0 0 1 2)) (k (receiver.with_sa true)) refl (receiver.creates (salt false) (reads (saved_1 ∷ [])) true (free true)))
+    (accepts_next (at (receiver.with_sa true)) (at (receiver.ready true)) (command (RxOn sci_a 0)) (comes true) [] ones refl
+    (goes_on (at (receiver.with_sa true)) (operator_command (RxOn sci_a 0)) (k (receiver.ready true)) refl (receiver.enables (salt false) (reads (saved_1 ∷ [])) true)) (frames_accepted true))))).is
+
+-- the two runs meet the premises of `accepts_above`, and by this law the second one accepts a higher PN than the first, though
+-- the client frames differ
+pub record AcceptsTwo : Type 0 where
+  pub first : accepted_in (run_b false) ≡ receiver.delivery 1 ∷ []
+  pub later : accepted_in (run_b true) ≡ receiver.delivery 3 ∷ []
+  pub salt_is : SameSalt (run_b false) (run_b true)
+  pub durable : KeepsDurable (run_b false) (run_b true)
+  pub other_frames : (receiver.delivery 1).frame ≢ (receiver.delivery 3).frame
+  pub one_sa : AreOfOneSa (receiver.delivery 1) (receiver.delivery 3)
+  pub above : (receiver.delivery 1).number < (receiver.delivery 3).number
+
+pub accepts_two : AcceptsTwo
+accepts_two =
+    let durable : KeepsDurable (run_b false) (run_b true) = is_durable saved_1 saved_is in
+    let one_sa : AreOfOneSa (receiver.delivery 1) (receiver.delivery 3) = record { bytes = refl; sci = refl; an = refl } in
+    record {
+      first = all_accepted false;
+      later = all_accepted true;
+      salt_is = refl;
+      durable = durable;
+      other_frames = λ same. let no = ap (λ (xs : List ℕ). get_or xs 12 0) same in cc;
+      one_sa = one_sa;
+      above = accepts_above_in_all (run_b false ∷ run_b true ∷ []) (pair SameSalt (run_b false) (run_b true) refl) (pair KeepsDurable (run_b false) (run_b true) durable) 0 1 (run_b false) (omega arith) (omega arith)
+          (receiver.delivery 1) (receiver.delivery 3) (subst (λ (ds : List Delivery). Contains ds (receiver.delivery 1)) (sym (all_accepted false)) (0, omega arith, refl))
+          (subst (λ (ds : List Delivery). Contains ds (receiver.delivery 3)) (sym (all_accepted true)) (0, omega arith, refl)) one_sa;
+    }
