@@ -163,18 +163,6 @@ enum { COUNT_OF_COUNTS = sizeof(struct counts) / sizeof(uint64_t) };
 const char *counts_name(size_t index);
 uint64_t counts_value(const struct counts *c, size_t index);
 
-/* ---- calls.c: the system calls that each frame needs ---- */
-
-struct mmsghdr;
-struct epoll_event;
-
-/* As the functions of the C library without `call_`. */
-ssize_t call_read(int file, void *to, size_t length);
-ssize_t call_write(int file, const void *from, size_t length);
-int call_recvmmsg(int socket, struct mmsghdr *to, unsigned count, int flags);
-int call_sendmmsg(int socket, struct mmsghdr *from, unsigned count, int flags);
-int call_epoll_wait(int file, struct epoll_event *events, int count, int milliseconds);
-
 /* ---- link.c: LINK, the network device below ---- */
 
 struct link {
@@ -299,7 +287,7 @@ uint32_t tap_mtu(uint32_t link_mtu, uint32_t max_frame);
 /* Attaches the file to TAP, which gets LINK's address and this MTU. An isolated LINK's TAP has the MTU already. Returns
  * 0, or the exit status after a message. */
 int tap_open(struct tap *t, const struct config *c, const struct link *l);
-/* Reads a frame. It is there until the call after the next one. */
+/* Reads a frame. It is there until the next call. */
 enum outcome tap_read(struct tap *t, struct frame *frame);
 /* Delivers a frame, and counts whether TAP took it. */
 enum outcome tap_write(struct tap *t, const uint8_t *octets, size_t length, struct counts *c);
@@ -773,26 +761,22 @@ int confine_worker(void);
 enum outcome frames_from_client(struct device *d);
 /* Reads a batch of frames from LINK, and delivers what the endpoint makes of them. */
 enum outcome frames_from_link(struct device *d);
-/* What was read of TAP in a batch: frames, those that used a packet number, and those that had none reserved. */
+/* Of the frames that were read of TAP in a batch: those that used a packet number, and those that had none reserved. */
 struct client_batch {
-    unsigned frames, used, lacked;
+    unsigned used, lacked;
 };
 
-/* Parts of the first one. If the last batch had one frame, the first one of this batch is probably alone too: it leaves
- * before the next one is looked for. Returns what became of that. */
-enum outcome frames_batch_begin(struct device *d, struct client_batch *b);
+/* Notes what became of a client frame. */
 void frames_note_fate(struct device *d, struct client_batch *b, uint32_t fate);
-/* To be called when the frames of a batch have left, or are under way. */
-void frames_batch_end(struct device *d, const struct client_batch *b);
 /* Adds to the waiting frames what the endpoint makes of a client frame. Returns its fate. */
 uint32_t frames_send(struct device *d, const struct frame *frame);
 /* Judges a frame of LINK, after those that wait, and delivers it. Returns GONE if TAP is. */
 enum outcome frames_receive(struct device *d, const struct frame *frame);
 /* Judges a frame, and delivers it, or lets it wait for a reservation. */
 enum outcome frames_present(struct device *d, const struct frame *frame);
-/* Parts of these two: what follows from the answer of the endpoint. */
+/* Parts of frames_send and of frames_present: what follows from the answer of the endpoint about a frame. */
 void frames_sent(struct device *d, const macsec_sent *sent);
-enum outcome frames_received(struct device *d, const macsec_received *got);
+enum outcome frames_judged(struct device *d, const macsec_received *got, const struct frame *frame);
 
 /* ---- loop.c: waiting ---- */
 
@@ -816,7 +800,6 @@ struct device {
     struct numbers *numbers;
     struct workers *workers; /* NULL: there are none */
     unsigned under_way[2];   /* frames of each direction that workers have */
-    bool sparse;             /* had the last frames of TAP come one by one? */
     int signals, clock, events;
 };
 

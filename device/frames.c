@@ -39,32 +39,15 @@ static enum outcome deliver(struct device *d, const macsec_received *got) {
 
 void frames_note_fate(struct device *d, struct client_batch *b, uint32_t fate) {
     d->counts.tap_in++;
-    b->frames++;
     b->used += fate == MACSEC_FATE_PROTECTED;
     b->lacked += fate == MACSEC_FATE_NO_RESERVATION;
 }
 
-enum outcome frames_batch_begin(struct device *d, struct client_batch *b) {
-    struct frame frame;
-    enum outcome outcome = d->sparse ? tap_read(&d->tap, &frame) : DONE;
-    if (!d->sparse || outcome != DONE)
-        return outcome;
-    frames_note_fate(d, b, frames_send(d, &frame));
-    return link_flush(&d->link, &d->counts);
-}
-
-void frames_batch_end(struct device *d, const struct client_batch *b) {
-    if (b->frames > 0)
-        d->sparse = b->frames == 1;
-    numbers_used(d->numbers, d->endpoint, b->used, b->lacked > 0);
-}
-
 enum outcome frames_from_client(struct device *d) {
-    struct client_batch b = { 0, 0, 0 };
-    enum outcome outcome, left;
+    struct client_batch b = { 0, 0 };
+    enum outcome outcome = DONE, left;
     if (d->workers != NULL)
         return parallel_from_client(d);
-    outcome = frames_batch_begin(d, &b);
     for (unsigned i = link_waiting(); outcome == DONE && i < BATCH; i++) {
         struct frame frame;
         outcome = tap_read(&d->tap, &frame);
@@ -72,11 +55,12 @@ enum outcome frames_from_client(struct device *d) {
             frames_note_fate(d, &b, frames_send(d, &frame));
     }
     left = outcome == GONE ? GONE : link_flush(&d->link, &d->counts); /* before it is noted, since the peer waits */
-    frames_batch_end(d, &b);
+    numbers_used(d->numbers, d->endpoint, b.used, b.lacked > 0);
     return left;
 }
 
-enum outcome frames_received(struct device *d, const macsec_received *got) {
+/* What follows from the answer of the endpoint. */
+static enum outcome received(struct device *d, const macsec_received *got) {
     enum outcome outcome = got->delivered ? deliver(d, got) : DONE; /* before it is noted, since the client waits */
     d->counts.link_in++;
     count_fault(got->status, &d->counts.link_too_short, &d->counts.link_too_long);
@@ -89,13 +73,17 @@ enum outcome frames_received(struct device *d, const macsec_received *got) {
     return outcome;
 }
 
+enum outcome frames_judged(struct device *d, const macsec_received *got, const struct frame *frame) {
+    if (got->verdict != MACSEC_VERDICT_NO_RESERVATION || !held_keep(d, frame->octets, frame->length))
+        return received(d, got);
+    numbers_received(d->numbers, d->endpoint, got, held_count(d));
+    return DONE;
+}
+
 enum outcome frames_present(struct device *d, const struct frame *frame) {
     macsec_received got;
     (void)macsec_receive(d->endpoint, frame->octets, frame->length, &got); /* the status is in the answer too */
-    if (got.verdict != MACSEC_VERDICT_NO_RESERVATION || !held_keep(d, frame->octets, frame->length))
-        return frames_received(d, &got);
-    numbers_received(d->numbers, d->endpoint, &got, held_count(d));
-    return DONE;
+    return frames_judged(d, &got, frame);
 }
 
 enum outcome frames_receive(struct device *d, const struct frame *frame) {

@@ -199,7 +199,7 @@ enum outcome link_read(struct link *l, struct unfinished frames[BATCH], unsigned
     prepare(headers, used);
     *count = 0;
     do
-        got = call_recvmmsg(l->socket, headers, BATCH, MSG_DONTWAIT);
+        got = recvmmsg(l->socket, headers, BATCH, MSG_DONTWAIT, NULL);
     while (got < 0 && errno == EINTR);
     used = got < 0 ? 1 : got < BATCH ? (unsigned)got + 1 : BATCH;
     if (got < 0) {
@@ -228,10 +228,7 @@ unsigned link_waiting(void) {
 }
 
 void link_append(const uint8_t *octets, size_t length, struct counts *c) {
-    unsigned at;
-    if (waiting_count == 0)
-        waiting_first = 0; /* a frame that comes alone is always at one place, whose memory is warm */
-    at = (waiting_first + waiting_count) % BATCH;
+    unsigned at = (waiting_first + waiting_count) % BATCH;
     if (waiting_count == BATCH) {
         c->link_refused++;
         return;
@@ -258,7 +255,7 @@ static int send_waiting(const struct link *l) {
         parts[i][1] = (struct iovec){ waiting[at], waiting_length[at] };
         headers[i] = (struct mmsghdr){ .msg_hdr = { .msg_iov = parts[i], .msg_iovlen = 2 } };
     }
-    return call_sendmmsg(l->socket, headers, waiting_count, MSG_DONTWAIT);
+    return sendmmsg(l->socket, headers, waiting_count, MSG_DONTWAIT);
 }
 
 enum outcome link_flush(struct link *l, struct counts *c) {

@@ -219,11 +219,11 @@ static int on_event(struct device *d, const struct epoll_event *event) {
 static int wait_for_events(struct device *d, struct epoll_event events[EVENTS]) {
     int count, left = waits_left(d);
     if (d->under_way[SENDING] + d->under_way[RECEIVING] == 0)
-        return call_epoll_wait(d->events, events, EVENTS, left);
-    count = call_epoll_wait(d->events, events, EVENTS, 0);
+        return epoll_wait(d->events, events, EVENTS, left);
+    count = epoll_wait(d->events, events, EVENTS, 0);
     if (count != 0 || workers_help(d->workers))
         return count;
-    count = call_epoll_wait(d->events, events, EVENTS, workers_sleep(d->workers, link_waiting() == 0) ? left : 0);
+    count = epoll_wait(d->events, events, EVENTS, workers_sleep(d->workers, link_waiting() == 0) ? left : 0);
     workers_woke(d->workers);
     return count;
 }

@@ -5,10 +5,10 @@
  * these find what they would find without workers: a frame that was read before is counted, and was judged by what the
  * endpoint was then. */
 #include "workers.h"
+#include <stddef.h>
 #include <string.h>
 
-/* Puts the frame of a free place into a ring. The count beside what each frame needs anyway saves a frame that comes
- * alone the look at the rings, whose memory is cold then. */
+/* Puts the frame of a free place into a ring. */
 static void put(struct device *d, enum direction direction, struct copies *copies) {
     workers_put(d->workers, direction, copies);
     d->under_way[direction]++;
@@ -90,68 +90,55 @@ static enum outcome leave_at_most(struct device *d, unsigned count) {
     return outcome;
 }
 
-/* Reads a batch. Without other frames, and if a key can't be copied, frames are sealed at once. A frame alone needs no
- * copies, so if none is under way they are looked for when the second frame is there. */
+/* Reads a batch. The first frame is sealed at once if none is under way, and all are if a key can't be copied. A frame
+ * alone needs no copies, so they are looked for when the second frame is there. */
 static enum outcome read_client_frames(struct device *d, struct client_batch *b) {
-    struct frame frame, following;
-    bool is_first = d->under_way[SENDING] == 0;
-    bool plans = !is_first && can_plan(d);
-    enum outcome outcome = DONE;
-    if (is_first)
-        outcome = frames_batch_begin(d, b);
-    else if (!plans)
-        outcome = leave_at_most(d, 0);
-    if (outcome == DONE)
+    bool alone = d->under_way[SENDING] == 0, plans = !alone && can_plan(d);
+    enum outcome outcome = alone || plans ? DONE : leave_at_most(d, 0);
+    for (unsigned i = 0; outcome == DONE && i < BATCH; i++) {
+        struct frame frame;
         outcome = tap_read(&d->tap, &frame);
-    while (outcome == DONE) {
-        bool is_last = b->frames + 1 >= BATCH;
-        outcome = is_last ? BUSY : tap_read(&d->tap, &following);
-        if (is_first)
-            plans = outcome != BUSY && can_plan(d);
+        if (outcome != DONE)
+            return outcome;
+        if (alone && i == 1)
+            plans = can_plan(d);
         frames_note_fate(d, b, plans ? plan_client_frame(d, &frame) : frames_send(d, &frame));
-        is_first = false;
-        frame = following;
     }
     return outcome;
 }
 
 enum outcome parallel_from_client(struct device *d) {
-    struct client_batch b = { 0, 0, 0 };
+    struct client_batch b = { 0, 0 };
     enum outcome outcome = leave_at_most(d, RING - BATCH);
     if (outcome == DONE)
         outcome = read_client_frames(d, &b);
     if (outcome != GONE)
         outcome = send_finished(d); /* before it is noted, since the peer waits */
-    frames_batch_end(d, &b);
+    numbers_used(d->numbers, d->endpoint, b.used, b.lacked > 0);
     return outcome;
 }
 
 /* ---- Receiving ---- */
 
+/* The members that both answers have. The library keeps their places in all versions. */
+_Static_assert(sizeof(macsec_received) == offsetof(macsec_received, length) + sizeof(macsec_finished) &&
+                   offsetof(macsec_received, pn) == offsetof(macsec_received, length) + offsetof(macsec_finished, pn),
+               "macsec_received is a frame and the members of macsec_finished");
+
 /* Judges the frame of the first place, which is finished, and delivers it, or lets it wait for a reservation. */
 static enum outcome receive_first(struct device *d, struct ring_place *p) {
     static uint8_t out[MACSEC_FRAME_MAX];
-    macsec_received got = MACSEC_RECEIVED_INIT;
+    macsec_received got = { .frame = out };
     macsec_finished finished;
-    bool waits;
-    if (held_give(d) == GONE)
+    struct frame frame = { p->out, p->length };
+    enum outcome outcome = held_give(d);
+    if (outcome == GONE)
         return GONE;
     (void)macsec_finish_receive(d->endpoint, &p->slot, out, sizeof out, &finished); /* as in macsec_receive */
-    got.frame = out;
-    got.length = finished.length;
-    got.status = finished.status;
-    got.verdict = finished.verdict;
-    memcpy(got.sci, finished.sci, sizeof got.sci);
-    got.an = finished.an;
-    got.has_sa = finished.has_sa;
-    got.delivered = finished.delivered;
-    got.pn = finished.pn;
-    waits = got.verdict == MACSEC_VERDICT_NO_RESERVATION && p->length > 0 && held_keep(d, p->out, p->length);
+    memcpy((uint8_t *)&got + offsetof(macsec_received, length), &finished, sizeof finished);
+    outcome = frames_judged(d, &got, &frame);
     remove_first(d, RECEIVING);
-    if (!waits)
-        return frames_received(d, &got);
-    numbers_received(d->numbers, d->endpoint, &got, held_count(d));
-    return DONE;
+    return outcome;
 }
 
 /* Delivers the finished frames that are first. */

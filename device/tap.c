@@ -11,10 +11,6 @@
 /* Octets of an Ethernet header. */
 enum { HEADER = 14 };
 
-/* The last two frames that were read. */
-static uint8_t buffers[2][MACSEC_FRAME_MAX + 1];
-static unsigned next_buffer;
-
 uint32_t tap_mtu(uint32_t link_mtu, uint32_t max_frame) {
     uint32_t frame = max_frame < MACSEC_FRAME_MAX ? max_frame : MACSEC_FRAME_MAX;
     if (link_mtu + HEADER < frame)
@@ -89,14 +85,13 @@ static bool is_gone(int error) {
 }
 
 enum outcome tap_read(struct tap *t, struct frame *frame) {
-    uint8_t *buffer = buffers[next_buffer];
+    static uint8_t buffer[MACSEC_FRAME_MAX + 1];
     ssize_t length;
     do
-        length = call_read(t->file, buffer, sizeof buffers[0]);
+        length = read(t->file, buffer, sizeof buffer);
     while (length < 0 && errno == EINTR);
     if (length < 0)
         return is_gone(errno) ? GONE : BUSY;
-    next_buffer = 1 - next_buffer;
     frame->octets = buffer;
     frame->length = (size_t)length;
     return DONE;
@@ -105,7 +100,7 @@ enum outcome tap_read(struct tap *t, struct frame *frame) {
 enum outcome tap_write(struct tap *t, const uint8_t *octets, size_t length, struct counts *c) {
     ssize_t written;
     do
-        written = call_write(t->file, octets, length);
+        written = write(t->file, octets, length);
     while (written < 0 && errno == EINTR);
     if (written >= 0) {
         c->tap_out++;

@@ -80,9 +80,9 @@ WRAP(uint32_t, macsec_send_raw, &sealed, length,
      (macsec_endpoint * e, const uint8_t *frame, size_t length, macsec_sent *out), e, frame, length, out)
 WRAP(uint32_t, macsec_receive_raw, &opened, length,
      (macsec_endpoint * e, const uint8_t *frame, size_t length, macsec_received *out), e, frame, length, out)
-WRAP(ssize_t, call_read, NULL, 0, (int file, void *to, size_t length), file, to, length)
-WRAP(ssize_t, call_write, NULL, 0, (int file, const void *from, size_t length), file, from, length)
-WRAP(int, call_recvmmsg, NULL, 0, (int file, struct mmsghdr *to, unsigned count, int flags), file, to, count, flags)
-WRAP(int, call_sendmmsg, NULL, 0, (int file, struct mmsghdr *from, unsigned count, int flags), file, from, count, flags)
-WRAP(int, call_epoll_wait, NULL, 0, (int file, struct epoll_event *events, int count, int limit), file, events, count,
-     limit)
+WRAP(ssize_t, read, NULL, 0, (int file, void *to, size_t length), file, to, length)
+WRAP(ssize_t, write, NULL, 0, (int file, const void *from, size_t length), file, from, length)
+WRAP(int, recvmmsg, NULL, 0, (int file, struct mmsghdr *to, unsigned count, int flags, struct timespec *limit), file,
+     to, count, flags, limit)
+WRAP(int, sendmmsg, NULL, 0, (int file, struct mmsghdr *from, unsigned count, int flags), file, from, count, flags)
+WRAP(int, epoll_wait, NULL, 0, (int file, struct epoll_event *events, int count, int limit), file, events, count, limit)

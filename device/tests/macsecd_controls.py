@@ -14,6 +14,7 @@ from house.reporting import Failed, report
 CONTROLS: dict[str, list[tuple[str, str, str]]] = {
     "traffic": [("frames.c", "d->counts.tap_in++;", "d->counts.tap_in += 2;"),
                 ("parallel.c", "frames_note_fate(d, b, plans", "d->counts.tap_in++, frames_note_fate(d, b, plans"),
+                ("loop.c", "d->counts.tap_out != delivered &&", "d->counts.tap_out + 1 == delivered &&"),
                  ("tap.c", "frame - HEADER - MACSEC_OVERHEAD_MAX;", "frame - HEADER;"),
                 ("show.c", "extended ? UINT64_MAX : UINT32_MAX", "UINT32_MAX")],
     "rekey": [("frames.c", "if (sent->length > 0)", "if (sent->length > 0 && sent->key != 2)")],

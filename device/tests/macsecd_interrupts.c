@@ -30,9 +30,7 @@ INTERRUPT(ssize_t, recv, (int file, void *to, size_t length, int flags), file, t
 INTERRUPT(ssize_t, send, (int file, const void *from, size_t length, int flags), file, from, length, flags)
 INTERRUPT(ssize_t, recvfrom, (int file, void *to, size_t length, int flags, struct sockaddr *from, socklen_t *room),
           file, to, length, flags, from, room)
-INTERRUPT(ssize_t, call_read, (int file, void *to, size_t length), file, to, length)
-INTERRUPT(ssize_t, call_write, (int file, const void *from, size_t length), file, from, length)
-INTERRUPT(int, call_recvmmsg, (int file, struct mmsghdr *to, unsigned count, int flags), file, to, count, flags)
-INTERRUPT(int, call_sendmmsg, (int file, struct mmsghdr *from, unsigned count, int flags), file, from, count, flags)
-INTERRUPT(int, call_epoll_wait, (int file, struct epoll_event *events, int count, int limit), file, events, count,
-          limit)
+INTERRUPT(int, recvmmsg, (int file, struct mmsghdr *to, unsigned count, int flags, struct timespec *limit), file, to,
+          count, flags, limit)
+INTERRUPT(int, sendmmsg, (int file, struct mmsghdr *from, unsigned count, int flags), file, from, count, flags)
+INTERRUPT(int, epoll_wait, (int file, struct epoll_event *events, int count, int limit), file, events, count, limit)

@@ -13,8 +13,7 @@ from macsecd_losses import settled
 from macsecd_world import RX, Stream, World, build, numbers_of
 
 # The calls of macsecd that a signal can interrupt.
-CALLS = ["read", "write", "pread", "pwrite", "recv", "send", "recvfrom"]
-CALLS += ["call_read", "call_write", "call_recvmmsg", "call_sendmmsg", "call_epoll_wait"]
+CALLS = ["read", "write", "pread", "pwrite", "recv", "send", "recvfrom", "recvmmsg", "sendmmsg", "epoll_wait"]
 
 
 def check_end(world: World, number: int, seconds: float) -> None:

@@ -21,8 +21,7 @@ from macsecd_world import End, World, build, inside, tcp
 # The octets of a datagram whose Ethernet frame has 1,400.
 DATAGRAM = 1400 - 14 - 20 - 8
 
-CLOCKED = ["macsec_send_raw", "macsec_receive_raw"]
-CLOCKED += ["call_read", "call_write", "call_recvmmsg", "call_sendmmsg", "call_epoll_wait"]
+CLOCKED = ["macsec_send_raw", "macsec_receive_raw", "read", "write", "recvmmsg", "sendmmsg", "epoll_wait"]
 CLOCK = [*(f"-Wl,--wrap={name}" for name in CLOCKED), str(ROOT / "device/tests/macsecd_clock.c")]
 # macsecd without batches: relay-single takes one frame at a time.
 SINGLE = ("device.h", "enum { BATCH = 64 };", "enum { BATCH = 1 };")

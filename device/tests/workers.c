@@ -16,8 +16,8 @@
 #include <string.h>
 
 /* The wire between the two, the shortest client frame with a number in it, the octets of its header, the most octets of
- * one, and how many devices end early. */
-enum { WIRE = 4 * RING, SHORTEST = 22, HEADER = 14, MOST = 1400, ENDS = 50 };
+ * one, how many frames come alone at the end, and how many devices end early. */
+enum { WIRE = 4 * RING, SHORTEST = 22, HEADER = 14, MOST = 1400, ALONE = 20, ENDS = 50 };
 
 static const uint8_t sender_sci[8] = { 2, 0, 0, 0, 0, 1, 0, 1 };
 
@@ -67,13 +67,13 @@ static size_t make_frame(uint64_t number, uint8_t *frame) {
 }
 
 enum outcome tap_read(struct tap *t, struct frame *frame) {
-    static uint8_t frames[2][MACSEC_FRAME_MAX];
+    static uint8_t octets[MACSEC_FRAME_MAX];
     (void)t;
     if (burst == 0 || sent == to_send)
         return BUSY;
     burst--;
-    frame->octets = frames[sent % 2];
-    frame->length = make_frame(sent, frames[sent % 2]);
+    frame->octets = octets;
+    frame->length = make_frame(sent, octets);
     sent++;
     return DONE;
 }
@@ -317,6 +317,19 @@ static void compare(void) {
               delivered);
 }
 
+/* A frame that comes alone goes through both devices, and no worker has it. */
+static void send_alone(void) {
+    arrive();
+    to_send++;
+    burst = 1;
+    if (parallel_from_client(&a) == GONE || a.under_way[SENDING] != 0)
+        wrong("a client frame that comes alone waits for a worker");
+    while (waiting_count > 0)
+        (void)link_flush(&a.link, &a.counts);
+    if (parallel_from_link(&b) == GONE || b.under_way[RECEIVING] != 0)
+        wrong("a frame of LINK that comes alone waits for a worker");
+}
+
 /* Devices end while frames are under way. */
 static void end_early(unsigned workers) {
     static struct device c;
@@ -355,6 +368,8 @@ int main(int count, char **words) {
     change_key();
     while (sent < to_send)
         turn();
+    for (unsigned i = 0; i < ALONE; i++)
+        send_alone();
     arrive();
     compare();
     workers_close(a.workers);

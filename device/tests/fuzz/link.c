@@ -16,7 +16,7 @@ static struct device *device;
 static struct input input;
 static unsigned given;
 
-int __wrap_call_recvmmsg(int socket, struct mmsghdr *headers, unsigned count, int flags);
+int __wrap_recvmmsg(int socket, struct mmsghdr *headers, unsigned count, int flags, struct timespec *timeout);
 
 /* Gives auxiliary data, as much of them as fits. */
 static void give_control(struct msghdr *header, uint8_t length) {
@@ -53,9 +53,9 @@ static void give_frame(struct mmsghdr *header) {
     input.left -= length;
 }
 
-int __wrap_call_recvmmsg(int socket, struct mmsghdr *headers, unsigned count, int flags) {
+int __wrap_recvmmsg(int socket, struct mmsghdr *headers, unsigned count, int flags, struct timespec *timeout) {
     unsigned got = 0;
-    (void)socket, (void)flags;
+    (void)socket, (void)flags, (void)timeout;
     for (; got < count && input.left > 0; got++)
         give_frame(&headers[got]);
     given += got;
