@@ -14,7 +14,7 @@ import time
 from collections.abc import Iterable
 from typing import NamedTuple
 
-from house import ROOT
+from house import ROOT, ways
 
 # How long a stopped command has to end before it is killed.
 GRACE = 5.0
@@ -155,6 +155,8 @@ class Runner:
         if not job.shown:
             self.say("\n".join(f"  {it}" for it in text.splitlines()[-40:]))
         self.say(f"{job.name} FAILED ({ended.seconds()}), {os.path.relpath(ended.log, ROOT)}")
+        for way in ways.of(job.name, text, next(it for it in job.words if it != "python3")):
+            self.say(f"  {way}")
         return False
 
     def stop(self, running: list[Running]) -> None:
