@@ -17,10 +17,12 @@
  * more would not be in the heap. */
 enum { PIECE = 16 << 20, PIECES = 6, STACK = 512 << 10 };
 
-/* Has blocks be taken from the heap, and makes it large. What is freed stays in it, for the blocks that come. */
+/* Has blocks be taken from the heap, and makes it large. What is freed stays in it, for the blocks that come. It is the
+ * only heap: where it has no block left, the C library would look for another one, by calls that macsecd gives up. */
 static bool reserve_heap(void) {
     void *volatile pieces[PIECES];
-    bool good = mallopt(M_MMAP_THRESHOLD, 2 * PIECE) != 0 && mallopt(M_TRIM_THRESHOLD, INT_MAX) != 0;
+    bool good = mallopt(M_MMAP_THRESHOLD, 2 * PIECE) != 0 && mallopt(M_TRIM_THRESHOLD, INT_MAX) != 0 &&
+                mallopt(M_ARENA_MAX, 1) != 0;
     for (int i = 0; i < PIECES; i++) {
         pieces[i] = malloc(PIECE);
         good = good && pieces[i] != NULL;

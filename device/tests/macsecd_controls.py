@@ -116,6 +116,7 @@ CONTROLS: dict[str, list[tuple[str, str, str]]] = {
              ("handover.c", "macsec_add_tx_sa(e, an, sa->key, sa->next, sa->conf);",
               "macsec_add_tx_sa(e, an, sa->key, 1, sa->conf);"),
              ("handover.c", "size_t count = sent_records(d, records);", "size_t count = 0 * sent_records(d, records);"),
+             ("memory.c", " &&\n                mallopt(M_ARENA_MAX, 1) != 0;", ";"),
              ("macsecctl.c", "    result = load(file, lines);\n", "    result = load(file, lines) & 1;\n"),
              ("macsecctl.c", "length == strlen(faults[i].name) && ", "length > 99 && ")],
     "handover": [("handover.c", "sa.on ? macsec_enable_rx_sa(to, sci, an) : status", "!sa.on ? status : MACSEC_OK"),

@@ -21,6 +21,9 @@ KEYS = 4096
 # After so many changes of keys a journal is so long that rewriting it can take longer than TAP's queue lasts.
 MANY = 1000
 
+# Octets that are enough for one endpoint without workers, and too few for two.
+MEMORY = 34 << 20
+
 
 class Client:
     """A connection to a control socket, for many lines."""
@@ -322,6 +325,20 @@ def check_load(a: End, macsecctl: list[str]) -> None:
         check_good_load(a, load, good)
         check_number_again(a, load, other)
     check_macsecctl(a, macsecctl)
+
+
+def check_no_memory(world: World) -> None:
+    """There is no memory for a copy of the endpoint: the answer says so, nothing changes, and frames go on."""
+    world.prepare()
+    a, b = world.ends
+    a.workers, a.prefix = 0, ["prlimit", f"--data={MEMORY}"]
+    a.write_config()
+    for end in (a, b):
+        end.start()
+    state = state_of(a)
+    got = [a.ask("load\nA txoff 0\nA txon 3") for _ in range(3)]
+    report(got == ["fault Memory\n"] * 3 and state_of(a) == state, f"`load` without memory: {got}")
+    report(a.ask("load\nA txon 0") == "1 ok\n" and ping(a) == 3, "no replies after `load` without memory")
 
 
 def check_number_again(a: End, load: Callable[..., str], key: str) -> None:
