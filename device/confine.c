@@ -122,6 +122,7 @@ static const unsigned of_frames[] = {
     SYS_epoll_wait,
     SYS_epoll_pwait,
     SYS_epoll_ctl,
+    SYS_poll,
     SYS_clock_gettime,
     SYS_futex,
     SYS_restart_syscall,

@@ -88,7 +88,9 @@ static void say_what_is_open(const struct device *d) {
 }
 
 static int run(struct device *d) {
-    int result = loop_block_signals(d);
+    int result;
+    messages_open();
+    result = loop_block_signals(d);
     if (result == 0)
         result = start(d);
     if (result != 0) {

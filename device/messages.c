@@ -1,11 +1,15 @@
 /* What macsecd says, on standard error: a line for what starts, changes, fails and ends, and none for a frame. A client
- * that makes one message again and again must not fill the log. */
-#define _GNU_SOURCE /* clock_gettime */
+ * that makes one message again and again must not fill the log, and nobody who does not read it may stop frames. */
+#define _GNU_SOURCE
 #include "device.h"
 #include <errno.h>
+#include <fcntl.h>
+#include <poll.h>
 #include <stdarg.h>
 #include <stdio.h>
 #include <string.h>
+#include <sys/socket.h>
+#include <sys/stat.h>
 #include <time.h>
 #include <unistd.h>
 
@@ -23,8 +27,50 @@ struct said {
 
 static const char *device_name = "";
 
+/* Where lines go, and what keeps a call from waiting: the descriptor itself, a flag of the call, or a call before it.
+ */
+static int lines = STDERR_FILENO;
+static enum { BY_DESCRIPTOR, BY_FLAG, BY_POLL } way;
+
 void messages_name(const char *name) {
     device_name = name;
+}
+
+/* ---- Without waiting ---- */
+
+/* O_NONBLOCK is set where no other process has it: it belongs to what was opened, and a shell has opened its terminal.
+ * A pipe of another user can't be opened again. A file is written as it is: it would be written from its beginning. */
+void messages_open(void) {
+    struct stat about;
+    int file = open("/dev/null", O_RDWR);
+    while (file >= 0 && file <= STDERR_FILENO)
+        file = dup(file); /* a stream that is closed gets no descriptor that macsecd opens later */
+    if (file >= 0)
+        (void)close(file);
+    if (fstat(STDERR_FILENO, &about) != 0)
+        return;
+    if (S_ISSOCK(about.st_mode))
+        way = BY_FLAG;
+    if (!S_ISFIFO(about.st_mode) && !S_ISCHR(about.st_mode))
+        return;
+    file = open("/proc/self/fd/2", O_WRONLY | O_NONBLOCK | O_NOCTTY | O_CLOEXEC);
+    if (file >= 0)
+        lines = file;
+    else
+        way = BY_POLL;
+}
+
+/* Writes a line by one call, so that lines of several processes do not mix. A pipe that can be written to takes a line
+ * of this length. Returns false if the line is not written. */
+static bool write_line(const char *line, size_t length) {
+    struct pollfd it = { .fd = lines, .events = POLLOUT };
+    ssize_t count;
+    if (way == BY_POLL && poll(&it, 1, 0) != 1)
+        return false;
+    do
+        count = way == BY_FLAG ? send(lines, line, length, MSG_DONTWAIT | MSG_NOSIGNAL) : write(lines, line, length);
+    while (count < 0 && errno == EINTR);
+    return count == (ssize_t)length;
 }
 
 /* Is a message of this form to be printed? Then `left_out` is how many were not. */
@@ -47,14 +93,25 @@ static bool may_print(const char *form, unsigned *left_out) {
     return false;
 }
 
-/* One line is one call of write, so that lines of several processes do not mix. A failure can't be reported. */
+/* Writes a line, and before it how many were not written. */
 static void print_line(char line[LONGEST], size_t end) {
+    static unsigned lost;
+    char note[LONGEST];
+    int length;
     if (end > LONGEST - 1)
         end = LONGEST - 1;
     line[end++] = '\n';
-    if (write(STDERR_FILENO, line, end) < 0)
-        return;
+    if (lost > 0) {
+        length = snprintf(note, sizeof note, "macsecd %s: lines missing here, which standard error did not take: %u\n",
+                          device_name, lost);
+        if (write_line(note, (size_t)length))
+            lost = 0;
+    }
+    if (lost > 0 || !write_line(line, end))
+        lost++;
 }
+
+/* ---- Messages ---- */
 
 static void print(const char *form, va_list arguments, int error) {
     char line[LONGEST];

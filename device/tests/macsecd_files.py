@@ -1,13 +1,18 @@
-"""Files that macsecd needs, and those that it makes."""
+"""Files that macsecd needs, and those that it makes; its standard error."""
 
 from __future__ import annotations
 
+import contextlib
 import grp
 import os
+import re
+import socket
 import stat
+import subprocess
+import termios
 
-from house.reporting import report
-from macsecd_world import End, World, expect, ping_again
+from house.reporting import report, until
+from macsecd_world import End, World, connected, expect, ping, ping_again
 
 # Lines for the device, and with which status and message macsecd ends.
 WRONG_DEVICES = (
@@ -67,6 +72,93 @@ def check_socket_and_tap(a: End) -> None:
     report("10.9.0.1/24" in a.ip("-br", "addr", "show", "macsec0"), "`device persist`: TAP has lost its address")
 
 
+# What standard error can be, and what macsecd is started by. Without this right a pipe of mode 0 can't be opened again.
+STANDARD_ERRORS = (
+    ("a pipe", []),
+    ("a pipe of another user", ["setpriv", "--bounding-set=-dac_override"]),
+    ("a socket", []),
+    ("a terminal", []),
+    ("a stopped terminal", []),
+)
+
+
+def full(kind: str) -> tuple[int, int]:
+    """A standard error that takes no octet: the descriptor to read, and the one to write."""
+    if kind == "a socket":
+        pair = socket.socketpair()
+        with contextlib.suppress(BlockingIOError):
+            while True:
+                pair[1].send(b"x", socket.MSG_DONTWAIT)
+        return pair[0].detach(), pair[1].detach()
+    reader, writer = os.pipe() if "pipe" in kind else os.openpty()
+    if "stopped" in kind:
+        termios.tcflow(writer, termios.TCOOFF)
+    other = os.open(f"/proc/self/fd/{writer}", os.O_WRONLY | os.O_NONBLOCK)
+    with contextlib.suppress(BlockingIOError):
+        while True:
+            os.write(other, b"x")
+    os.close(other)
+    if "user" in kind:
+        os.fchmod(writer, 0)
+    return reader, writer
+
+
+def said(reader: int) -> str:
+    """What can be read now."""
+    got = b""
+    os.set_blocking(reader, False)
+    with contextlib.suppress(BlockingIOError):
+        while True:
+            got += os.read(reader, 1 << 16)
+    return got.decode().lstrip("x")
+
+
+def let_go_owner(a: End) -> None:
+    """Has macsecd say something."""
+    with connected(a.socket, 5) as owner:
+        owner.send(b"own")
+        owner.recv(100)
+    until(lambda: a.ask("port on") == "ok\n")
+
+
+def check_closed(a: End) -> None:
+    """Standard streams that are closed: no device gets one of their numbers, to which messages would go."""
+    words = [*a.enter, "sh", "-c", 'exec "$@" <&- >&- 2>&-', "sh", str(a.program), "macsec0"]
+    a.process = subprocess.Popen(words, env=a.environment)
+    until(a.answers, 5)
+    found = [os.readlink(f"/proc/{a.process.pid}/fd/{it}") for it in range(3)]
+    report(found == ["/dev/null"] * 3, f"in place of closed streams macsecd has {found}")
+    a.stop()
+
+
+def check_standard_errors(a: End) -> None:
+    """A standard error that nobody reads stops no frame, and later lines say how many are missing."""
+    for kind, prefix in STANDARD_ERRORS:
+        reader, writer = full(kind)
+        words = [*a.enter, *prefix, str(a.program), "macsec0"]
+        a.process = subprocess.Popen(words, stdin=subprocess.DEVNULL, stderr=writer, env=a.environment)
+        try:
+            if not until(a.answers, 1):
+                report(False, f"{kind} that is full: macsecd does not start")
+                continue
+            a.start_addresses()
+            let_go_owner(a)
+            sent = a.counters()["device LinkOut"]
+            ping(a, 1, seconds=0.01)
+            report(until(lambda: a.counters()["device LinkOut"] > sent), f"{kind} that is full: no frame is sent")
+            if "stopped" in kind:
+                termios.tcflow(writer, termios.TCOON)
+            said(reader)
+            let_go_owner(a)
+            text = said(reader)
+            missing = re.match(r"macsecd macsec0: lines missing here, which .*: (\d+)\r?\n.*: the owner has gone", text)
+            report(missing is not None and int(missing[1]) > 3, f"{kind} that is read again: {text}")
+        finally:
+            a.stop()
+            os.close(reader)
+            os.close(writer)
+
+
 def check_files(world: World) -> None:
     """What macsecd needs to start, and that it goes on with a TAP that stays."""
     a, b = world.ends
@@ -77,3 +169,6 @@ def check_files(world: World) -> None:
     b.create_journal()
     b.start()
     report(ping_again(a) == 3, "`device persist`: no replies after a restart")
+    a.stop()
+    check_standard_errors(a)
+    check_closed(a)
