@@ -4,9 +4,11 @@
  *     macsecctl [-s SOCKET] NAME load FILE    carries out all lines of a file, or none
  *     macsecctl [-s SOCKET] NAME < FILE       the same
  *     macsecctl [-s SOCKET] NAME watch        each second the counters that have changed
+ *     macsecctl [-s SOCKET] NAME help         lists the requests
  *
  * The exit status is 0, 1 if macsecd can't be reached, or 2 if a request is refused or at fault. */
 #define _GNU_SOURCE
+#include <ctype.h>
 #include <errno.h>
 #include <fcntl.h>
 #include <inttypes.h>
@@ -42,8 +44,19 @@ static int connected(const char *path, const char *name) {
     }
     if (file >= 0 && connect(file, (const struct sockaddr *)&address, sizeof address) == 0)
         return file;
-    (void)fail(address.sun_path);
+    if (errno == ENOENT || errno == ECONNREFUSED)
+        fprintf(stderr, "macsecctl: %s: %s: is macsecd@%s running?\n", address.sun_path, strerror(errno), name);
+    else
+        (void)fail(address.sun_path);
     return -1;
+}
+
+/* Whatever has answered, no octet of it is a command to the terminal. */
+static void make_printable(char *octets, size_t length) {
+    for (size_t i = 0; i < length; i++)
+        if (!isprint((unsigned char)octets[i]) && octets[i] != '\n' && octets[i] != '\t')
+            octets[i] = '?';
+    octets[length] = '\0';
 }
 
 /* Sends the request and reads the answer. The request is wiped: it may be a key. */
@@ -64,7 +77,7 @@ static bool ask(int file, size_t length) {
         fprintf(stderr, "macsecctl: macsecd has closed the connection\n");
         return false;
     }
-    answer[count] = '\0';
+    make_printable(answer, (size_t)count);
     return true;
 }
 
@@ -81,8 +94,8 @@ static void explain(void) {
     static const struct {
         const char *name, *means;
     } faults[] = {
-        { "Word", "a word is not one that can be there: macsecctl(8) has the requests" },
-        { "Count", "there are too many or too few words: macsecctl(8) has the requests" },
+        { "Word", "a word is not one that can be there: the request `help` lists those that can" },
+        { "Count", "there are too many or too few words: the request `help` says how many" },
         { "Hex", "hex digits are expected there, without 0x and colons, as many as the value has" },
         { "Number", "a decimal number is expected there, or it is too large" },
         { "Ends", "it is no line of endpoint A, or one that only a configuration can have" },
@@ -169,9 +182,15 @@ static int load_file(int file, const char *path) {
 
 /* ---- Watching ---- */
 
+/* The line after this one. The last line may have no line feed. */
+static char *next_line(char *line) {
+    line += strcspn(line, "\n");
+    return *line == '\n' ? line + 1 : line;
+}
+
 /* The value that a line of counters had in the earlier answer. A line is a name, a space and a number. */
 static uint64_t earlier_value(const char *line, size_t name, uint64_t otherwise) {
-    for (const char *at = earlier; *at != '\0'; at = strchr(at, '\n') + 1)
+    for (char *at = earlier; *at != '\0'; at = next_line(at))
         if (strncmp(at, line, name) == 0)
             return strtoull(at + name, NULL, 10);
     return otherwise;
@@ -179,7 +198,7 @@ static uint64_t earlier_value(const char *line, size_t name, uint64_t otherwise)
 
 static void print_changes(void) {
     bool any = false;
-    for (char *line = answer; *line != '\0'; line = strchr(line, '\n') + 1) {
+    for (char *line = answer; *line != '\0'; line = next_line(line)) {
         size_t length = strcspn(line, "\n"), name = length;
         uint64_t value, before;
         while (name > 0 && line[name - 1] != ' ')
@@ -209,7 +228,35 @@ static int watch(int file) {
     }
 }
 
-static int run(int file, int count, char **words) {
+/* ---- The whole ---- */
+
+static const char help[] = "A COMMAND ..            a command of macsec(5) for end A\n"
+                           "close                   ends the endpoint\n"
+                           "counters                the counters of the endpoint and of the device\n"
+                           "help                    this list; macsecctl(8) says more\n"
+                           "json                    the whole state, for programs\n"
+                           "link                    what LINK is, and where\n"
+                           "load FILE               carries out the lines of a file, or none of them\n"
+                           "metrics                 counters and packet numbers for Prometheus\n"
+                           "numbers                 the packet numbers of all associations\n"
+                           "numbers tx AN           of one that sends\n"
+                           "numbers rx SCI AN       of one that receives\n"
+                           "open SCI SUITE [FORM]   makes an endpoint without keys\n"
+                           "own                     the connection owns the device\n"
+                           "port [on|off]           the controlled port\n"
+                           "show                    the whole state, for people\n"
+                           "watch                   each second the counters that have changed\n";
+
+/* Carries out the words after NAME. Returns the exit status. */
+static int run(const char *path, const char *name, int count, char **words) {
+    int file;
+    if (count == 1 && strcmp(words[0], "help") == 0) {
+        (void)fputs(help, stdout); /* main looks at what was written */
+        return 0;
+    }
+    file = connected(path, name);
+    if (file < 0)
+        return 1;
     if (count == 0)
         return load(file, STDIN_FILENO);
     if (count == 2 && strcmp(words[0], "load") == 0)
@@ -219,19 +266,16 @@ static int run(int file, int count, char **words) {
 
 int main(int count, char **words) {
     const char *path = NULL;
-    int result, file, first = 1;
+    int result, first = 1;
     if (count > 2 && strcmp(words[1], "-s") == 0) {
         path = words[2];
         first = 3;
     }
     if (count <= first || words[first][0] == '-') {
-        fprintf(stderr, "usage: macsecctl [-s SOCKET] NAME [REQUEST..]\n");
+        fprintf(stderr, "usage: macsecctl [-s SOCKET] NAME [REQUEST..], or macsecctl NAME help\n");
         return 2;
     }
-    file = connected(path, words[first]);
-    if (file < 0)
-        return 1;
-    result = run(file, count - first - 1, words + first + 1);
+    result = run(path, words[first], count - first - 1, words + first + 1);
     if (fflush(stdout) != 0 || ferror(stdout))
         return fail("standard output");
     return result;

@@ -6,13 +6,17 @@ import contextlib
 import grp
 import json
 import os
+import pathlib
 import random
+import re
 import socket
 import subprocess
 import sys
+import threading
 from collections.abc import Iterator
 from typing import Callable
 
+from house import ROOT
 from house.reporting import report, until
 from macsecd_world import IN, OUT, RX, End, connected, ping
 
@@ -191,6 +195,55 @@ def check_crowd(end: End) -> None:
     report(owner.recv(1000) == b"port on\n", "the owner beside 40 connections of root")
     for client in (owner, root, *more):
         client.close()
+
+
+# What whatever is at a control socket answers to a request, what macsecctl prints of it, and its status.
+ODD_ANSWERS = (
+    ("port", [b"port on\n"], "port on\n", 0),
+    ("port", [b"port on"], "port on", 0),
+    ("port", [b"\x1b]0;title\x07port\0on\t\x9b\xff\x7f\n"], "?]0;title?port?on\t???\n", 0),
+    ("port", [b"1 refused\x1b 2\n"], "1 refused? 2\n", 0),
+    ("port", [b"1 fault \x1b[2J"], "1 fault ?[2J", 2),
+    ("watch", [b"a 1\n\n\x1bb 1", b"a 3\n\n\x1bb 2"], "a 3 +2\n?b 2 +1\n\n", 1),
+)
+
+
+def answer(server: socket.socket, answers: list[bytes]) -> None:
+    """Accepts a connection, and answers its requests."""
+    with contextlib.suppress(OSError), server.accept()[0] as client:
+        for each in answers:
+            client.recv(1000)
+            client.send(each)
+
+
+def check_odd_answers(macsecctl: pathlib.Path, folder: pathlib.Path) -> None:
+    """macsecctl with any answer: it ends well, and prints nothing that a terminal takes for a command."""
+    path = str(folder / "odd.sock")
+    for request, answers, printed, status in ODD_ANSWERS:
+        with socket.socket(socket.AF_UNIX, socket.SOCK_SEQPACKET) as server:
+            server.settimeout(20)
+            server.bind(path)
+            server.listen()
+            thread = threading.Thread(target=answer, args=(server, answers))
+            thread.start()
+            told = subprocess.run([macsecctl, "-s", path, "macsec0", request], capture_output=True, text=True)
+            thread.join()
+        os.unlink(path)
+        shown = told.stdout, told.returncode
+        report(shown == (printed, status), f"macsecctl {request} with the answers {answers}: {shown}")
+        report(told.stderr.isascii() and "\x1b" not in told.stderr, f"macsecctl {request}: {told.stderr!r}")
+
+
+def check_help(macsecctl: pathlib.Path) -> None:
+    """`help` has each request that shells complete, without macsecd, and another one asks whether that runs."""
+    told = subprocess.run([macsecctl, "macsec9", "help"], capture_output=True, text=True)
+    listed = [line.split()[0] for line in told.stdout.splitlines()]
+    wanted = re.findall(r'^REQUESTS = "(.*)"$', (ROOT / "tools/completions").read_text(), re.M)[0].split()
+    report(told.returncode == 0 and list(dict.fromkeys(listed)) == wanted, f"macsecctl help: {told}, and not {wanted}")
+    told = subprocess.run([macsecctl, "macsec9", "port"], capture_output=True, text=True)
+    report(
+        told.returncode == 1 and "is macsecd@macsec9 running?\n" in told.stderr, f"macsecctl without macsecd: {told}"
+    )
 
 
 def check_log(end: End) -> None:

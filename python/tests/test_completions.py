@@ -81,9 +81,9 @@ class Completions(unittest.TestCase):
                 self.assertEqual((missing, len(options) > 3), ([], True), path)
 
     def test_every_request_is_there(self) -> None:
-        """Offered are the requests of requests.c, the `A` of lines for the endpoint, `load`, and macsecctl's `watch`."""
+        """Offered are the requests of requests.c, the `A` of lines for the endpoint, `load`, and macsecctl's own."""
         answered = (ROOT / "device/requests.c").read_text()
-        names = set(re.findall(r'words_(?:is\(w, 0|are\(w, 2), "(\w+)"', answered)) | {"A", "load", "watch"}
+        names = set(re.findall(r'words_(?:is\(w, 0|are\(w, 2), "(\w+)"', answered)) | {"A", "load", "watch", "help"}
         text = (self.folder / "share/bash-completion/completions/macsecctl").read_text()
         (offered,) = re.findall(r'compgen -W "([\w ]+)"', text)
         self.assertEqual((set(offered.split()), len(names) > 10), (names, True))
