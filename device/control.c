@@ -150,9 +150,12 @@ static int make_place(struct device *d, bool for_root) {
 int control_accept(struct device *d) {
     struct control *k = &d->control;
     int octets = ANSWER, at, client = accept4(k->listener, NULL, NULL, SOCK_NONBLOCK | SOCK_CLOEXEC);
-    bool root = client >= 0 && is_root(client);
+    bool root = client >= 0 && is_root(client), was_held_up = k->held_up;
+    k->held_up = client < 0 && errno != EAGAIN && errno != ECONNABORTED && errno != EINTR;
+    if (k->held_up && !was_held_up)
+        message_of_errno("a connection to the control socket can't be accepted yet");
     if (client < 0)
-        return -1; /* it has gone again, or there are too many files: the next one is tried again */
+        return -1; /* it is held up, or has gone again */
     at = make_place(d, root);
     if (at < 0) {
         (void)close(client); /* there are as many as there can be */

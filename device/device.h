@@ -678,12 +678,14 @@ struct control {
     bool is_root[CLIENTS];
     uint64_t used[CLIENTS]; /* which use of the socket was a client's last one */
     uint64_t uses;
+    bool held_up; /* could the system not give a descriptor for a connection? Then it is tried again each second. */
 };
 
 /* Opens the socket. It stays when macsecd ends, and the next start replaces it. Returns 0, or the exit status after a
  * message. */
 int control_open(struct control *k, const char *name, const struct config *c);
-/* Accepts a connection, for which an idle one may end. Returns its index, or -1. */
+/* Accepts a connection, for which an idle one may end. Returns its index, or -1. If the system has no descriptor for
+ * it, the connection is held up. */
 int control_accept(struct device *d);
 /* Answers a request of a client. Returns false if the connection has ended; it is closed then. */
 bool control_answer(struct device *d, int index);

@@ -120,6 +120,13 @@ static int on_signal(struct device *d) {
     return GOES_ON; /* the others mean nothing here */
 }
 
+/* A connection that is held up would be reported without end. So the listener is not watched until the next second. */
+static int watch_listener(struct device *d, uint32_t events) {
+    if (!d->control.held_up)
+        return GOES_ON;
+    return watch(d, EPOLL_CTL_MOD, d->control.listener, events, LISTENER) == 0 ? GOES_ON : ENDS_FAILED;
+}
+
 static int on_clock(struct device *d) {
     uint64_t times;
     if (read(d->clock, &times, sizeof times) != (ssize_t)sizeof times)
@@ -132,7 +139,7 @@ static int on_clock(struct device *d) {
     floods_end(d);
     port_tick(d);
     service_notify("WATCHDOG=1");
-    return life_tick(d) ? GOES_ON : ENDS_FAILED;
+    return life_tick(d) ? watch_listener(d, EPOLLIN) : ENDS_FAILED;
 }
 
 /* While a client's answer waits, its next request is not read. */
@@ -176,7 +183,7 @@ static int send_answers(struct device *d) {
 static int on_listener(struct device *d) {
     int index = control_accept(d);
     if (index < 0)
-        return GOES_ON;
+        return watch_listener(d, 0);
     d->waits.clients[index].unwatched = false;
     return watch(d, EPOLL_CTL_ADD, d->control.clients[index], EPOLLIN, CLIENT + (uint32_t)index) == 0 ? GOES_ON
                                                                                                       : ENDS_FAILED;

@@ -98,6 +98,8 @@ CONTROLS: dict[str, list[tuple[str, str, str]]] = {
                 ("control.c", "k->used[i] < k->used[j]", "k->used[i] > k->used[j]"),
                 ("control.c", "j < 0 || !k->is_root[i];", "j < 0;"),
                 ("messages.c", "if (s->count++ < OFTEN)", "if (s->count++ < OFTEN || true)"),
+                ("loop.c", "        return watch_listener(d, 0);", "        return GOES_ON;"),
+                ("loop.c", "life_tick(d) ? watch_listener(d, EPOLLIN)", "life_tick(d) ? GOES_ON"),
                 ("macsecctl.c", "return *line == '\\n' ? line + 1 : line;", "return strchr(line, '\\n') + 1;"),
                 ("macsecctl.c", "    make_printable(answer, (size_t)count);\n",
                  "    (void)make_printable;\n    answer[count] = '\\0';\n"),

@@ -9,10 +9,12 @@ import os
 import pathlib
 import random
 import re
+import resource
 import socket
 import subprocess
 import sys
 import threading
+import time
 from collections.abc import Iterator
 from typing import Callable
 
@@ -135,6 +137,31 @@ def check_clients(end: End) -> None:
             lazy.send(b"json")
     report(end.ask("A txon 0") == "ok\n" and ping(end) == 3, "no answer while a client does not read")
     lazy.close()
+
+
+def processor_seconds(pid: int) -> float:
+    """How long a process has had a processor."""
+    fields = pathlib.Path(f"/proc/{pid}/stat").read_text().rpartition(")")[2].split()
+    return sum(map(int, fields[11:13])) / os.sysconf("SC_CLK_TCK")
+
+
+def check_held_up(end: End) -> None:
+    """A connection for which no descriptor is free: macsecd does not run in circles, and accepts it later."""
+    assert end.process is not None
+    pid = end.process.pid
+    limits = resource.prlimit(pid, resource.RLIMIT_NOFILE)
+    resource.prlimit(pid, resource.RLIMIT_NOFILE, (3, limits[1]))  # it has the descriptors 0 to 2
+    with connected(end.socket, 5) as it:
+        it.send(b"port")
+        before = processor_seconds(pid)
+        time.sleep(1.5)
+        took = processor_seconds(pid) - before
+        report(
+            took < 0.2 and ping(end) == 3, f"a connection without a descriptor: {took:.2f} s of a processor in 1.5 s"
+        )
+        resource.prlimit(pid, resource.RLIMIT_NOFILE, limits)
+        report(it.recv(100) == b"port on\n", "a connection that had no descriptor is not answered")
+    report(end.log().count("can't be accepted yet: Too many open files") == 1, f"no message, or several: {end.log()}")
 
 
 # One that other users may run.
