@@ -320,6 +320,8 @@ static void look_ahead(struct check *c) {
     while ((line = words_line(&text, &left, &length)) != NULL) {
         struct words w;
         uint64_t key;
+        if (config_zero(line, length) != NULL)
+            continue;
         words_split(&w, line, length);
         if (words_is(&w, 0, "device"))
             (void)config_take(&c->config, &w); /* a fault is reported with its line */
@@ -336,8 +338,12 @@ static void look_ahead(struct check *c) {
 static void check_line(struct check *c, unsigned number, const char *line, size_t length) {
     struct words w;
     bool begins = !c->begun;
+    const char *wrong = config_zero(line, length);
     words_split(&w, line, length);
-    if (words_is(&w, 0, "device")) {
+    if (wrong != NULL) {
+        fault(c, number, "%s", wrong);
+        memset(c->config.text + (line - (const char *)c->config.text), '#', length); /* as below */
+    } else if (words_is(&w, 0, "device")) {
         check_device_line(c, number, &w);
         c->config.text[w.at[0] - (const char *)c->config.text] = '#'; /* for the calls that look at the others */
     } else if (w.count > 0 && w.at[0][0] != '#' && carry_out(c, number, line, length, &w)) {
@@ -440,6 +446,9 @@ int check_configuration(const char *name) {
         fault(c, 0, "%s", wrong);
     if (c->config.text == NULL)
         return finish(c);
+    wrong = config_take_mark(&c->config);
+    if (wrong != NULL)
+        fault(c, 1, "%s", wrong);
     look_ahead(c);
     find_link(c);
     check_lines(c);

@@ -200,22 +200,35 @@ const char *config_take(struct config *c, const struct words *w) {
            "shared, landlock or allow";
 }
 
+const char *config_take_mark(struct config *c) {
+    static const uint8_t mark[] = { 0xef, 0xbb, 0xbf };
+    if (c->length < sizeof mark || memcmp(c->text, mark, sizeof mark) != 0)
+        return NULL;
+    memset(c->text, ' ', sizeof mark);
+    return "the file begins with a byte order mark (EF BB BF); save it without one";
+}
+
+const char *config_zero(const char *line, size_t length) {
+    return memchr(line, '\0', length) == NULL ? NULL : "the line has a zero octet; save the file as plain text";
+}
+
 /* Takes the lines of the device, and makes comments of them, so that the others keep their numbers. */
 static int take_lines(struct config *c) {
-    const char *text = (const char *)c->text, *line;
+    const char *text = (const char *)c->text, *line, *wrong = config_take_mark(c);
     size_t left = c->length, length;
     for (unsigned number = 1; (line = words_line(&text, &left, &length)) != NULL; number++) {
-        const char *wrong;
         struct words w;
         words_split(&w, line, length);
-        if (!words_is(&w, 0, "device"))
-            continue;
-        wrong = config_take(c, &w);
+        if (wrong == NULL)
+            wrong = config_zero(line, length);
+        if (wrong == NULL && words_is(&w, 0, "device")) {
+            wrong = config_take(c, &w);
+            c->text[w.at[0] - (const char *)c->text] = '#';
+        }
         if (wrong != NULL) {
             message("%s: line %u: %s", c->path, number, wrong);
             return ENDS_WRONG;
         }
-        c->text[w.at[0] - (const char *)c->text] = '#';
     }
     return 0;
 }

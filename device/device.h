@@ -121,6 +121,10 @@ void config_wipe(struct config *c);
  * file that macsecd does not take: `fault` is why, or NULL. A name with a slash is a path. Returns 0, or the exit
  * status after a message. */
 int config_look(struct config *c, const char *name, const char **fault);
+/* Takes a byte order mark out of the first line. Returns what is wrong with it, or NULL. */
+const char *config_take_mark(struct config *c);
+/* Says what is wrong with a line that has a zero, or NULL. It would hide from some readers what others see. */
+const char *config_zero(const char *line, size_t length);
 /* Takes a line of the device. Returns what is wrong with it, or NULL. */
 const char *config_take(struct config *c, const struct words *w);
 /* Says what is wrong with the lines of the device together, or NULL. */

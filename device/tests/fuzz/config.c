@@ -18,6 +18,7 @@ int LLVMFuzzerTestOneInput(const uint8_t *octets, size_t length) {
         return 0;
     fuzz_require(config_is_name(c->link) && config_is_name(c->tap), "no device can have this name");
     fuzz_require(strcmp(c->link, c->tap) != 0, "LINK and TAP have one name");
+    fuzz_require(memchr(c->text, '\0', length) == NULL, "a zero is taken");
     fuzz_require(c->length == length && c->text[length] == '\0', "the text has another length than the file");
     if (endpoint_configure(device, (const char *)c->text, c->length, &line) == MACSEC_OK)
         fuzz_require(line <= length + 1, "there are more lines than octets");
