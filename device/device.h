@@ -710,8 +710,9 @@ void port_set_carrier(struct device *d);
 void port_set(struct device *d, bool on);
 /* To be called each second. */
 void port_tick(struct device *d);
-/* May a client change something? Then it may become the owner. */
+/* May a client change something? Then it may become the owner, and so may root if the owner is not root. */
 bool port_may_change(const struct device *d, int client);
+bool port_may_own(const struct device *d, int client);
 bool port_has_owner(const struct device *d);
 void port_own(struct device *d, int client);
 /* To be called when a connection has ended. */

@@ -1,5 +1,6 @@
 /* The controlled port, as a key agreement uses it: frames pass while it is on. If a client owns the device, only this
- * client may change something. The port goes off when it has gone, since then nobody installs new keys. */
+ * client may change something, until root takes the device. The port goes off when the owner has gone, since then
+ * nobody installs new keys. */
 #include "device.h"
 
 /* How many ticks the port is off before TAP loses carrier. A port that is off for some milliseconds, as when a key
@@ -41,7 +42,13 @@ bool port_has_owner(const struct device *d) {
     return d->port.owner >= 0;
 }
 
+bool port_may_own(const struct device *d, int client) {
+    return port_may_change(d, client) || (d->control.is_root[client] && !d->control.is_root[d->port.owner]);
+}
+
 void port_own(struct device *d, int client) {
+    if (!port_may_change(d, client))
+        message("root has taken the device from its owner");
     d->port.owner = client;
 }
 

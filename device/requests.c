@@ -68,10 +68,14 @@ static struct result switch_port(struct device *d, bool on) {
     return r;
 }
 
+static bool is_own(const struct words *w) {
+    return w->count == 1 && words_is(w, 0, "own");
+}
+
 /* Carries out a request of one line. */
 static struct result change(struct device *d, int client, const struct words *w, const char *line, size_t length) {
     struct result r = { NULL, MACSEC_OK, 0 };
-    if (w->count == 1 && words_is(w, 0, "own"))
+    if (is_own(w))
         port_own(d, client);
     else if (words_are(w, 2, "port", "on") || words_are(w, 2, "port", "off"))
         return switch_port(d, words_is(w, 1, "on"));
@@ -111,7 +115,7 @@ bool requests_answer(struct device *d, struct text *t, int client, char *request
     else if (!reads) {
         if (loads && length > REQUEST_MAX)
             r.fault = "LoadLong";
-        else if (port_may_change(d, client))
+        else if (is_own(&w) ? port_may_own(d, client) : port_may_change(d, client))
             r = change(d, client, &w, request, length);
         answer_result(t, &r);
     }

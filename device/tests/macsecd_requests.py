@@ -187,16 +187,72 @@ sys.stdin.read()
 """
 
 
+# As another user: a connection. It makes each request that it is given, and prints the answer.
+OTHER = """
+import socket, sys
+it = socket.socket(socket.AF_UNIX, socket.SOCK_SEQPACKET)
+it.connect(sys.argv[1])
+for line in sys.stdin:
+    it.send(line.strip().encode())
+    print(it.recv(1000).decode(), end="", flush=True)
+"""
+
+
+def of_group(end: End, program: str) -> subprocess.Popen[str]:
+    """Starts a program of another user, who is in the group of `device group`."""
+    words = [PYTHON, "-c", program, end.socket]
+    group, pipe = grp.getgrnam("nogroup").gr_gid, subprocess.PIPE
+    return subprocess.Popen(words, stdin=pipe, stdout=pipe, text=True, user=65534, group=group, extra_groups=[])
+
+
 @contextlib.contextmanager
 def crowd(end: End) -> Iterator[str]:
     """Connections of another user. Gives what their program prints."""
-    words = [PYTHON, "-c", CROWD, end.socket]
-    group, pipe = grp.getgrnam("nogroup").gr_gid, subprocess.PIPE
-    with subprocess.Popen(
-        words, stdin=pipe, stdout=pipe, text=True, user=65534, group=group, extra_groups=[]
-    ) as process:
+    with of_group(end, CROWD) as process:
         assert process.stdout is not None
         yield process.stdout.readline()
+
+
+# Two clients of another user and two of root: which of them makes a request, and the answer.
+TAKEN = (
+    ("first", "own", "ok"),
+    ("second", "own", "fault Owned"),
+    ("root", "port off", "fault Owned"),
+    ("root", "own", "ok"),
+    ("first", "own", "fault Owned"),
+    ("first", "A txoff 0", "fault Owned"),
+    ("first", "port", "port on"),
+    ("root's second", "own", "fault Owned"),
+    ("root", "A txoff 0", "ok"),
+    ("root", "A txon 0", "ok"),
+)
+
+
+def asked(client: subprocess.Popen[str] | socket.socket, request: str) -> str:
+    """What a client is answered."""
+    if isinstance(client, socket.socket):
+        client.send(request.encode())
+        return client.recv(1000).decode()
+    assert client.stdin is not None and client.stdout is not None
+    client.stdin.write(request + "\n")
+    client.stdin.flush()
+    return client.stdout.readline()
+
+
+def check_taken(end: End) -> None:
+    """Root takes the device from another user's client, but not from root's."""
+    end.carry_out("port on")
+    with of_group(end, OTHER) as first, of_group(end, OTHER) as second:
+        root, other = connected(end.socket, 5), connected(end.socket, 5)
+        clients = {"first": first, "second": second, "root": root, "root's second": other}
+        for who, request, answer in TAKEN:
+            got = asked(clients[who], request)
+            report(got == answer + "\n", f"{request!r} of {who}, where root takes the device: {got!r}")
+        for client in (root, other):
+            client.close()
+        report(until(lambda: asked(first, "port") == "port off\n"), "the port is on when root, the owner, has gone")
+        report(asked(first, "port on") == "ok\n" == asked(first, "own"), "the former owner, when root has gone")
+    report("root has taken the device" in end.log(), "no message that root has taken the device")
 
 
 def check_crowd(end: End) -> None:
