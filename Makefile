@@ -28,6 +28,14 @@ SOURCES := crates.txt $(shell find crates -name out -prune -o -type f \( -name '
 INPUTS := 100000
 SEED := 1
 PREFIX ?= /usr/local
+# Fails without `rt`, and warns of another version of it.
+ifeq ($(RT),)
+with_rt = echo "rt, the command of the Rattle toolchain, is not on the PATH: install Rattle and put its bin/ on the PATH." >&2; \
+    exit 1
+else
+with_rt = grep -qF "$$(rt version)" docs/PROVED.md || \
+    echo "warning: this Rattle is $$(rt version); docs/PROVED.md names the version that the proofs were made with" >&2
+endif
 # What programs are built for: by default the processor at hand, by what the loader of the C library says.
 ifndef CPU
 CPU := $(shell /lib64/ld-linux-x86-64.so.2 --help 2> /dev/null | grep -q 'x86-64-v3 .supported' \
@@ -60,7 +68,7 @@ all: build/macsec
 
 try: toolchain
 	@tools/unproved macsec libmacsec.a
-	@mkdir -p build/try && ln -sf ../unproved/macsec build/try/macsec
+	@install -D -m 755 -t build/try build/unproved/macsec
 	@for each in $$(sed -n 's/^\(macsec-[a-z]*\) = .*/\1/p' python/pyproject.toml); do \
 	    install -m 755 python/tried_command.sh "build/try/$$each" || exit 1; done
 	@build/unproved/macsec $(or $(ARGS),run - < examples/scripts/tour.macsec)
@@ -157,13 +165,16 @@ build/macsec build/macsecd: %: %-$(CPU) always
 	@for end in "" .proved; do \
 	    [ ! -e $<$$end ] || cmp -s $<$$end $@$$end || cp -f $<$$end $@$$end || exit 1; done
 
-# The program and the benchmark, proved and then built by LLVM, and the program as Rattle's own compiler builds it.
-$(BOTH) $(BENCHES) build/macsec-rattle: $(SOURCES) | toolchain
+# The program and the benchmark, proved and then built by LLVM, and the program as Rattle's own compiler builds it. Here
+# and below `rt` is asked for when something is to be built, so that what is built can be installed without it.
+$(BOTH) $(BENCHES) build/macsec-rattle: $(SOURCES)
+	@$(with_rt)
 	@echo "proving and building $@: from nothing many minutes, with a line for each crate" >&2
 	@tools/prove $(@F)
 
 # The library for C, with what it must be linked with.
-build/libmacsec.a: $(SOURCES) tools/merged-library $(wildcard tools/library/*) | toolchain
+build/libmacsec.a: $(SOURCES) tools/merged-library $(wildcard tools/library/*)
+	@$(with_rt)
 	@echo "proving and building build/libmacsec.a: from nothing many minutes, with a line for each crate" >&2
 	@tools/prove libmacsec_c.a
 	tools/merged-library build/libmacsec_c.a $@
@@ -178,17 +189,12 @@ build/macsecctl: device/macsecctl.c
 
 # The same for processors with vectors of 256 bits, where the loader looks for it first.
 build/$(HWCAPS)/libmacsec.a: build/libmacsec.a
+	@$(with_rt)
 	@tools/prove libmacsec_c-x86-64-v3.a
 	tools/merged-library build/libmacsec_c-x86-64-v3.a $@
 
 toolchain:
-ifeq ($(RT),)
-	@echo "rt, the command of the Rattle toolchain, is not on the PATH: install Rattle and put its bin/ on the PATH." >&2
-	@exit 1
-else
-	@grep -qF "$$(rt version)" docs/PROVED.md || \
-	    echo "warning: this Rattle is $$(rt version); docs/PROVED.md names the version that the proofs were made with" >&2
-endif
+	@$(with_rt)
 
 clean:
 	rm -rf build "$$(tools/prove --where)"
