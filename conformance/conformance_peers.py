@@ -4,7 +4,7 @@
 usage: conformance/conformance_peers.py [--all | --controls]
 
 Neither shares code with this project. Scapy (scapy.contrib.macsec) and Python's `cryptography`, which is OpenSSL's,
-have to be installed; the gate does not need them. For each vector of vectors/macsec-vectors.json:
+have to be installed. For each vector of vectors/macsec-vectors.json:
 
 - *aes*, *gcm*: OpenSSL gives the same result;
 - *protect*: Scapy makes the same link frame, and OpenSSL the same Secure Data and ICV from `iv`;

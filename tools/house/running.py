@@ -105,15 +105,22 @@ class Running:
 
 
 class Runner:
-    """Runs jobs, prints a line for each, and counts what passed. With `stops` a job that fails stops the others."""
+    """Runs jobs, prints a line for each, and counts what passed. With `stops` a job that fails stops the others. `left`
+    has what was left out, in whole or in part."""
 
     def __init__(self, logs: pathlib.Path, stops: bool) -> None:
         self.logs, self.stops, self.passed, self.lost = logs, stops, 0, 0
         self.failed: list[str] = []
+        self.left: list[str] = []
         logs.mkdir(parents=True, exist_ok=True)
 
     def say(self, line: str) -> None:
         print(line, flush=True)
+
+    def leave(self, name: str, why: str) -> None:
+        """Notes and prints what is not tried."""
+        self.left.append(name)
+        self.say(f"{name}: not tried: {why}")
 
     def go(self, jobs: Iterable[Job], at_a_time: int = 64) -> bool:
         """Runs jobs, at most so many at a time. Returns whether all have passed."""
@@ -148,6 +155,7 @@ class Runner:
         self.passed += units if good or job.counted or counts else 0
         if good:
             left_out = next((it.strip() for it in text.splitlines() if LEFT_OUT.search(it)), "")
+            self.left += [job.name] if left_out else []
             self.say(f"{job.name}: {ended.seconds()}" + (f": {left_out[:160]}" if left_out and not job.shown else ""))
             return True
         self.failed.append(job.name)
@@ -176,7 +184,9 @@ class Runner:
             self.say(f"{each.job.name}: stopped ({each.seconds()})")
 
     def end(self) -> int:
-        """Prints what failed and how many passed. Returns the status."""
+        """Prints what was left out, what failed and how many passed. Returns the status."""
+        if self.left:
+            self.say(f"NOT TRIED, or not in full: {', '.join(self.left)}")
         if self.failed:
             self.say(f"FAILED: {', '.join(self.failed)}")
         self.say(f"{self.passed} passed, {self.lost} failed")
