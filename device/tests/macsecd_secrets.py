@@ -11,7 +11,7 @@ import signal
 from collections.abc import Iterable, Iterator
 
 from house.compiling import altered_library
-from house.memory import NOTHING, Region, hits, mappings, parts_of, regions
+from house.memory import MAIN_STACK, NOTHING, Region, hits, mappings, parts_of, places, regions
 from house.reporting import Failed, report
 from macsecd_world import LIBC, SALT, End, Packets, World, hand_over_lines, ping
 
@@ -30,7 +30,7 @@ class Secrets:
     def __init__(self, end: End) -> None:
         assert end.process is not None
         self.end, self.number = end, end.process.pid
-        self.parts: dict[bytes, set[bytes]] = {}
+        self.parts: dict[bytes, dict[bytes, int]] = {}
         # The keys beside which each part was found. What is beside two of them is prepared from neither.
         self.beside: dict[bytes, set[bytes]] = {}
 
@@ -44,25 +44,27 @@ class Secrets:
             report(len(self.parts[key]) >= FEWEST, f"a key is not found, or only {len(self.parts[key])} parts")
             for it in memory:
                 found = hits([it], key)
-                is_guarded = "lo" in it.flags and it.place != "[stack]"
-                report(found == NOTHING or is_guarded, f"a key in {it.place}, {sorted(it.flags)}: {found}")
+                is_guarded = "lo" in it.flags and it.place != MAIN_STACK
+                report(found == NOTHING or is_guarded, f"{sorted(it.flags)}: {found}: {places([it], key, {})}")
 
     def add(self, *keys: str) -> None:
         """Notes keys without their parts."""
         for key in map(bytes.fromhex, keys):
-            self.parts.setdefault(key, set())
+            self.parts.setdefault(key, {})
 
     def judge(self, what: str, living: Iterable[str] = (), memory: list[Region] | None = None) -> None:
         """Nothing of a key may be in the memory, except of the keys in use, which must be there."""
         memory = regions(self.number) if memory is None else memory
         lives = set(map(bytes.fromhex, living))
         for number, (key, parts) in enumerate(self.parts.items()):
-            found = hits(memory, key, [it for it in parts if len(self.beside[it]) == 1])
+            own = {it: at for it, at in parts.items() if len(self.beside[it]) == 1}
+            found = hits(memory, key, own)
             if key in lives:
                 report(found.octets > 0 and found.digits == 1, f"{what}: living key {number}: {found}")
             else:
                 is_gone = found.octets == found.digits == 0 and found.parts <= FEW
-                report(is_gone, f"{what}: key {number} of {len(self.parts)}: {found}")
+                where = "" if is_gone else places(memory, key, own)
+                report(is_gone, f"{what}: key {number} of {len(self.parts)}: {found}: {where}")
 
 
 def check_locked(end: End) -> None:

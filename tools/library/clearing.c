@@ -61,3 +61,12 @@ MAKES(65536, macsec_reserve_configure_raw,
       (macsec_endpoint * e, const uint8_t *text, size_t text_length, const uint8_t *journal, size_t journal_length,
        bool ahead, uint32_t *line),
       (e, text, text_length, journal, journal_length, ahead, line))
+
+/* A build without proofs calls functions where the proved ones have their code in place, and passes them round keys on
+ * the stack: there the calls for frames overwrite it too. */
+#ifdef UNPROVED
+CALL(32768, macsec_send_raw, (macsec_endpoint * e, const uint8_t *frame, size_t length, macsec_sent *out),
+     (e, frame, length, out))
+CALL(32768, macsec_receive_raw, (macsec_endpoint * e, const uint8_t *frame, size_t length, macsec_received *out),
+     (e, frame, length, out))
+#endif
