@@ -50,6 +50,11 @@ class Check(NamedTuple):
         """The arguments with which it is run then."""
         return {"test": self.test, "gate": self.gate, "hand": self.hand}[when]
 
+    @property
+    def is_manual(self) -> bool:
+        """Does only a person run it?"""
+        return self.test is None and self.gate is None
+
 
 BUILT = "--program {program}"
 BOTH = "--program {program} --program {rattle}"
