@@ -17,6 +17,7 @@ WAYS: list[tuple[str, str, str]] = [
     ("edits", "there is no file", "a tool that a row names has moved: change its name in tools/edits"),
     ("edits", "nothing cites", "no proof needs this lemma: delete it, and the imports that only it used"),
     ("edits", "GROUPS", "put the crate below a heading in tools/edits"),
+    ("table", "tests/manual.tsv", "delete the row, or record the run again"),
     ("pictures", "takes", "a text is too long for its drawing: shorten it"),
     ("pictures", "has no table", "restore the table that the drawing is made of"),
     ("reference", "is of nothing", "no source makes this file any more: delete it"),
@@ -108,6 +109,12 @@ WAYS: list[tuple[str, str, str]] = [
         "mend the reader, and add the input to device/tests/fuzz/corpus/; the head of the check says how to try "
         "it again",
     ),
+    (
+        "keys-in-memory",
+        "on the stack",
+        "look at what that call passes to its functions, or list the call in tools/library/clearing.c",
+    ),
+    ("keys-in-memory", "parts of the key are known", "measure SECTIONS of tools/house/memory.py again"),
     ("instructions", "too many", "find what costs more"),
     ("instructions", "far fewer", "lower the limit in tests/library/costs/limits.txt"),
     ("constant-time", "places, and not", "mend the code, or, if the branch may be there, the list in that tool"),
