@@ -8,7 +8,7 @@ import shutil
 from pathlib import Path
 
 from house.crates import ROOT
-from trials import DOC, found_in, outside, quietly, read, run, see
+from trials import DOC, found_in, outside, quietly, read, run, see, tried_completions
 
 NAME = "macsecd"
 HERE = f"{ROOT}/tools/packaging/macsecd"
@@ -16,6 +16,8 @@ NEEDS = "systemd (>= 252), iproute2, util-linux"
 ABOUT = "MACsec device: protects the link between two hosts"
 SCRIPTS = ("postinst", "prerm", "postrm")
 MANUALS = ("macsecd.8", "macsecctl.8", "macsec-link.8")
+# What is completed, as in trials.py.
+COMPLETED = {"macsecd --cr": "--create-journal", "macsecctl macsec0 met": "metrics", "macsec-link rel": "release"}
 # The accounts of an empty root, and what systemd-sysusers leaves beside them.
 ACCOUNTS = {"passwd": "root:x:0:0::/root:/bin/sh\n", "group": "root:x:0:\n"}
 BESIDE = ("etc/.pwd.lock", "etc/passwd-", "etc/group-", "etc/shadow", "etc/shadow-", "etc/gshadow", "etc/gshadow-")
@@ -34,7 +36,7 @@ def installed(path: str) -> bytes:
 
 
 def files(programs: list[str]) -> dict[str, tuple[bytes, int]]:
-    """The files of the package, except PROVENANCE."""
+    """The files of the package, except PROVENANCE and completions."""
     doc = f"{DOC[1:]}/{NAME}"
     found = {f"usr/sbin/{os.path.basename(it)}": (read(it), 0o755) for it in programs}
     found["usr/sbin/macsec-link"] = (installed("device/macsec-link"), 0o755)
@@ -76,6 +78,7 @@ def tried_below(where: str, root: str) -> None:
         do(f"{root}/usr/sbin/macsecd", "--settings", "macsec0") if os.geteuid() == 0 else "eth0 macsec0 1514 isolated\n"
     )
     see(f"{where}, macsecd --settings reads the example", printed == "eth0 macsec0 1514 isolated\n")
+    tried_completions(where, do, root, str(room), COMPLETED)
     shutil.rmtree(room)
     paths = [str(it) for it in Path(root, "usr").rglob("*") if it.is_file() and b"/usr/local" in plain(it)]
     see(f"{where}, nothing of macsecd names /usr/local {paths or ''}", not paths)

@@ -129,6 +129,15 @@ def tried_programs(where: str, do: Callable[..., str], top: str, tour: str) -> N
         see(f"{where}, the program for {EVERY} has no vectors of 256 bits", wide == 0)
 
 
+def tried_completions(where: str, do: Callable[..., str], at: str, room: str, completed: dict[str, str]) -> None:
+    """Sees that bash completes the words of command lines, in a folder."""
+    for words, expected in completed.items():
+        name, last = words.split()[0], len(words.split()) - 1
+        call = COMPLETE.format(words=words, last=last, function="_" + name.replace("-", "_"))
+        script = f"cd {room}\n. {at}{COMPLETIONS}/{name}\n{call}"
+        see(f"{where}, `{words}` is completed", do("bash", "-c", script).strip() == expected)
+
+
 def tried(where: str, do: Callable[..., str], at: str, room: str, flags: list[str]) -> None:
     """Tries what the packages of Debian install: `do` runs a command, `at` is before each path of them, and `room` is a
     folder for what is made."""
@@ -136,11 +145,7 @@ def tried(where: str, do: Callable[..., str], at: str, room: str, flags: list[st
     tried_in_c(where, do, at, room, flags)
     tried_in_python(where, do, at, room)
     do("touch", f"{room}/frames.pcap")
-    for words, expected in COMPLETED.items():
-        name, last = words.split()[0], len(words.split()) - 1
-        call = COMPLETE.format(words=words, last=last, function="_" + name.replace("-", "_"))
-        script = f"cd {room}\n. {at}{COMPLETIONS}/{name}\n{call}"
-        see(f"{where}, `{words}` is completed", do("bash", "-c", script).strip() == expected)
+    tried_completions(where, do, at, room, COMPLETED)
 
 
 def manuals(where: str, do: Callable[..., str], words: str) -> None:
