@@ -27,7 +27,9 @@ static int configure(struct device *d) {
     else if (status == MACSEC_E_MEMORY)
         message("out of memory");
     else
-        message("%s: line %u: %s", d->config.path, (unsigned)line, macsec_status_name(status));
+        message("%s: line %u: %s%s", d->config.path, (unsigned)line, macsec_status_name(status),
+                status == MACSEC_E_PN_FLOOR ? ": the key has no packet number left: install a new one at both ends"
+                                            : "");
     return status == MACSEC_E_MEMORY ? ENDS_FAILED : ENDS_WRONG;
 }
 

@@ -6,6 +6,7 @@ import contextlib
 import grp
 import os
 import re
+import secrets
 import socket
 import stat
 import subprocess
@@ -53,6 +54,18 @@ def check_wrong_files(a: End) -> None:
     expect(a, "a file that is no journal", 2, "journal")
     journal.write_bytes(octets)
     report(a.run("a/b").returncode == 2 and a.run().returncode == 2, "wrong arguments are taken")
+
+
+def check_used_keys(a: End) -> None:
+    """A start that reserves the last packet numbers of a key leaves none to the next one, which says what to do."""
+    for line, first, last in ((5, "A txsa 0 0 1 conf", "A txsa 0 0 ffffff00 conf"), (8, " 0 1 1 ", " 0 1 fffffff8 ")):
+        a.config.write_text(a.config.read_text().replace(first, last))
+        a.start()
+        a.stop()
+        what = f"line {line}: PnFloor: the key has no packet number left: install a new one at both ends\n"
+        expect(a, f"{last!r} for {first!r}", 2, what)
+        a.world.keys = [secrets.token_hex(16), secrets.token_hex(16)]
+        a.write_config()
 
 
 def check_socket_and_tap(a: End) -> None:
@@ -163,6 +176,7 @@ def check_files(world: World) -> None:
     """What macsecd needs to start, and that it goes on with a TAP that stays."""
     a, b = world.ends
     check_wrong_files(a)
+    check_used_keys(a)
     check_socket_and_tap(a)
     a.start()
     b.write_config()
