@@ -306,6 +306,8 @@ static void check_device_line(struct check *c, unsigned line, const struct words
         fault(c, line, "LINK %s is not an Ethernet device; name one", c->config.link);
     else if (words_is(w, 1, "receive") && words_is(w, 2, "behind"))
         hint(c, line, "after a crash, frames that were recorded shortly before it are delivered again: write ahead");
+    else if (words_is(w, 1, "user") && c->config.user != 0)
+        hint(c, line, "while macsecd does not run, this user can read and send TAP's frames in clear: delete the line");
     else if (words_is(w, 1, "workers") && c->config.workers > workers_fitting())
         hint(c, line, "there are too few processors for so many workers, so frames wait for them: write at most %u",
              workers_fitting());

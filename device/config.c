@@ -6,6 +6,7 @@
 #include <errno.h>
 #include <fcntl.h>
 #include <grp.h>
+#include <pwd.h>
 #include <stdio.h>
 #include <stdlib.h>
 #include <string.h>
@@ -148,6 +149,16 @@ static bool take_group(struct config *c, const struct words *w) {
     return true;
 }
 
+static bool take_user(struct config *c, const struct words *w) {
+    char name[WORD];
+    const struct passwd *user = words_copy(w, 2, name, sizeof name) ? getpwnam(name) : NULL;
+    if (user == NULL)
+        return false;
+    c->user = user->pw_uid;
+    c->user_group = user->pw_gid;
+    return true;
+}
+
 static bool take_workers(struct config *c, const struct words *w) {
     uint64_t count;
     if (!words_number(w, 2, &count) || count > WORKERS_MAX)
@@ -181,7 +192,7 @@ const char *config_take(struct config *c, const struct words *w) {
     if (take_switch(c, w))
         return NULL;
     if (w->count != 3)
-        return "`device link NAME`, `tap NAME`, `group NAME`, `port off`, `workers N`, `receive ahead`, "
+        return "`device link NAME`, `tap NAME`, `user NAME`, `group NAME`, `port off`, `workers N`, `receive ahead`, "
                "`receive behind`, `persist`, `transient`, `isolate`, `shared`, `landlock optional` or `allow ..` is "
                "expected";
     if (words_is(w, 1, "link"))
@@ -190,14 +201,16 @@ const char *config_take(struct config *c, const struct words *w) {
         return take_name(c->tap, w) ? NULL : "no network device can have this name";
     if (words_is(w, 1, "group"))
         return take_group(c, w) ? NULL : "there is no such group";
+    if (words_is(w, 1, "user"))
+        return take_user(c, w) ? NULL : "there is no such user";
     if (words_is(w, 1, "workers"))
         return take_workers(c, w) ? NULL : "the number of workers is not 0 to 8";
     if (words_is(w, 1, "port") && words_is(w, 2, "off"))
         return c->begins_off = true, NULL;
     if (words_is(w, 1, "receive"))
         return "the word after `device receive` is not ahead or behind";
-    return "the word after `device` is not link, tap, group, port, workers, receive, persist, transient, isolate, "
-           "shared, landlock or allow";
+    return "the word after `device` is not link, tap, user, group, port, workers, receive, persist, transient, "
+           "isolate, shared, landlock or allow";
 }
 
 const char *config_take_mark(struct config *c) {

@@ -90,6 +90,8 @@ struct config {
     char path[256];
     gid_t group; /* that may use the control socket */
     bool has_group;
+    uid_t user; /* the owner of TAP; root if no line names another one */
+    gid_t user_group;
     bool persistent;  /* does a line say that TAP stays when macsecd ends? It does so unless it is transient. */
     bool transient;   /* does TAP end with macsecd? */
     bool isolated;    /* does a line say that LINK is in a separate network namespace? It is unless it is shared. */
@@ -291,8 +293,8 @@ struct tap {
 
 /* The MTU of TAP: 32 octets below LINK's, and so small that no frame is longer than the configuration's largest. */
 uint32_t tap_mtu(uint32_t link_mtu, uint32_t max_frame);
-/* Attaches the file to TAP, which gets LINK's address and this MTU. An isolated LINK's TAP has the MTU already. Returns
- * 0, or the exit status after a message. */
+/* Attaches the file to TAP, which gets its owner, LINK's address and this MTU. An isolated LINK's TAP has the MTU
+ * already. Returns 0, or the exit status after a message. */
 int tap_open(struct tap *t, const struct config *c, const struct link *l);
 /* Reads a frame. It is there until the next call. */
 enum outcome tap_read(struct tap *t, struct frame *frame);

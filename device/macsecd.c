@@ -124,7 +124,8 @@ static const char *way_of(const struct config *c) {
     return c->alone ? "alone" : "isolated";
 }
 
-/* Prints what macsec-link needs of the configuration: LINK, TAP, the largest frame, and whether LINK is isolated. */
+/* Prints what macsec-link needs of the configuration: LINK, TAP, the largest frame, whether LINK is isolated, and whose
+ * TAP is. */
 static int print_settings(const char *name) {
     struct config c;
     int result = confine_memory();
@@ -133,7 +134,8 @@ static int print_settings(const char *name) {
     if (result != 0)
         return result;
     config_wipe(&c);
-    if (printf("%s %s %u %s\n", c.link, c.tap, (unsigned)c.max_frame, way_of(&c)) > 0 && fflush(stdout) == 0)
+    if (printf("%s %s %u %s %u\n", c.link, c.tap, (unsigned)c.max_frame, way_of(&c), (unsigned)c.user) > 0 &&
+        fflush(stdout) == 0)
         return 0;
     message_of_errno("standard output");
     return ENDS_FAILED;

@@ -2,8 +2,11 @@
 #define _GNU_SOURCE
 #include "device.h"
 #include <errno.h>
+#include <limits.h>
+#include <linux/if_arp.h>
 #include <linux/if_tun.h>
 #include <net/if.h>
+#include <stdio.h>
 #include <string.h>
 #include <sys/ioctl.h>
 #include <unistd.h>
@@ -26,6 +29,59 @@ static int ask(int file, unsigned long call, struct ifreq *request, const char *
     return ENDS_FAILED;
 }
 
+/* ---- Whose it is ---- */
+
+/* Can a group have TAP? The system has no call that takes a group away. */
+static bool has_group(const char *name) {
+    char path[64];
+    long group = -1;
+    FILE *file;
+    snprintf(path, sizeof path, "/sys/class/net/%s/group", name);
+    file = fopen(path, "re");
+    if (file != NULL && fscanf(file, "%ld", &group) != 1)
+        group = -1;
+    if (file != NULL)
+        (void)fclose(file); /* it was only read */
+    return group >= 0;
+}
+
+/* A user who had TAP before it had an owner can have left filters, a limit and another type, which stay when the file
+ * is closed. A system that lacks one of these calls has nothing to undo. */
+static int undo(const struct tap *t) {
+    const struct tun_filter all = { .flags = 0, .count = 0 };
+    const int most = INT_MAX, no_program = -1;
+    const struct {
+        unsigned long call;
+        const void *value;
+    } settings[] = {
+        { TUNSETTXFILTER, &all },
+        { TUNSETSNDBUF, &most },
+        { TUNSETSTEERINGEBPF, &no_program },
+        { TUNSETFILTEREBPF, &no_program },
+    };
+    struct ifreq request;
+    for (size_t i = 0; i < sizeof settings / sizeof *settings; i++)
+        (void)ioctl(t->file, settings[i].call, settings[i].value);
+    memset(&request, 0, sizeof request);
+    if (ioctl(t->file, SIOCGIFHWADDR, &request) == 0 &&
+        (request.ifr_hwaddr.sa_family == ARPHRD_ETHER || ioctl(t->file, TUNSETLINK, (unsigned long)ARPHRD_ETHER) == 0))
+        return 0;
+    message_of_errno("TAP %s can't be made an Ethernet device", t->name);
+    return ENDS_FAILED;
+}
+
+/* Without an owner every user can attach to TAP while macsecd does not run, and read and send the client's frames in
+ * clear. */
+static int set_owner(const struct tap *t, const struct config *c) {
+    if (ioctl(t->file, TUNSETOWNER, (unsigned long)c->user) == 0 &&
+        (!has_group(t->name) || ioctl(t->file, TUNSETGROUP, (unsigned long)c->user_group) == 0))
+        return undo(t);
+    message_of_errno("TAP %s: its owner", t->name);
+    return ENDS_FAILED;
+}
+
+/* ---- What it is like ---- */
+
 /* Gives TAP LINK's address, as the system's own MACsec devices have it: a LINK that filters by address then passes the
  * frames for TAP. The MTU leaves space for what the endpoint adds. */
 static int set_properties(const struct tap *t, const struct config *c, const struct link *l) {
@@ -34,7 +90,7 @@ static int set_properties(const struct tap *t, const struct config *c, const str
     int result;
     memset(&request, 0, sizeof request);
     memcpy(request.ifr_name, t->name, IF_NAMESIZE);
-    request.ifr_hwaddr.sa_family = 1; /* ARPHRD_ETHER */
+    request.ifr_hwaddr.sa_family = ARPHRD_ETHER;
     memcpy(request.ifr_hwaddr.sa_data, l->address, sizeof l->address);
     result = ask(t->file, SIOCSIFHWADDR, &request, t->name, "its address");
     if (result != 0 || !c->shared)
@@ -69,14 +125,16 @@ int tap_open(struct tap *t, const struct config *c, const struct link *l) {
     if (result != 0)
         return result;
     tap_set_carrier(t, false); /* until LINK is up, which life_read finds out */
+    if (set_owner(t, c) != 0)
+        return ENDS_FAILED;
     /* No frame from the client lacks its checksum or is longer than the MTU. */
     if (ioctl(t->file, TUNSETOFFLOAD, 0UL) != 0 || ioctl(t->file, TUNGETIFF, &request) != 0) {
         message_of_errno("TAP %s", t->name);
         return ENDS_FAILED;
     }
-    if ((request.ifr_flags & IFF_PERSIST) == 0)
-        result = persist(t, c);
-    return result == 0 ? set_properties(t, c, l) : result;
+    if ((request.ifr_flags & IFF_PERSIST) == 0 && persist(t, c) != 0)
+        return ENDS_FAILED;
+    return set_properties(t, c, l);
 }
 
 /* A TAP that is down, or full, has errors that pass. */

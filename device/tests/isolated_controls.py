@@ -145,4 +145,22 @@ CONTROLS: dict[str, list[Control]] = {
         Control("TAP ends", ("tap.c", "c->transient ||", "!c->transient ||"), (), ("TAP ended",)),
     ],
     "clients": [Control("the port is off", ("frames.c", "if (!d->port.off)", "if (d->port.off)"), (), ())],
+    "users": [
+        Control(
+            "TAP has no owner before the first start",
+            ("macsec-link", ' user "$user"\n', "\n"),
+            (),
+            ("before the first start: 1 times attached, 50 datagrams read, 50 sent as the peer", "is gone"),
+        ),
+        Control(
+            "macsecd sets no owner",
+            ("tap.c", "ioctl(t->file, TUNSETOWNER, (unsigned long)c->user) == 0 &&", "true &&"),
+            (),
+            ("after SIGTERM: 1 times", "after SIGKILL: 1 times", "tries at", "(TAP is free): 1 times"),
+        ),
+        Control("filters stay", ("tap.c", "        return undo(t);", "        return (void)undo, 0;"), (), ("poison",)),
+        Control(
+            "a group stays", ("tap.c", "return group >= 0;", "return group > 1 << 30;"), (), ("and group 0 65534",)
+        ),
+    ],
 }

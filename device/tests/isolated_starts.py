@@ -73,7 +73,7 @@ def check_lines(a: Host, keys: list[str]) -> None:
     ):
         a.write(keys, "device link link0\n" + lines)
         told = a.run(str(a.programs / "macsecd"), "--settings", "macsec0")
-        report(told == f"link0 macsec0 1514 {way}\n", f"starts: --settings with {lines!r}: {told!r}")
+        report(told == f"link0 macsec0 1514 {way} 0\n", f"starts: --settings with {lines!r}: {told!r}")
     a.write(keys)
 
 

@@ -80,6 +80,7 @@ CONTROLS: dict[str, list[tuple[str, str, str]]] = {
               ("config.c", "*line, *wrong = config_take_mark(c);", "*line, *wrong = NULL;"),
               ("config.c", "            wrong = config_zero(line, length);", "            wrong = NULL;"),
               ("check.c", "    const char *wrong = config_zero(line, length);", "    const char *wrong = NULL;"),
+              ("check.c", "&& c->config.user != 0)", "&& c->config.user == 0)"),
               ("check.c", "about.st_uid != of_folder.st_uid", "false"),
               ("journals.c", "about.st_nlink > 1", "false"),
               ("journals.c", "&length) != MACSEC_E_NOT_JOURNAL)", "&length) != MACSEC_E_MEMORY)"),

@@ -74,10 +74,9 @@ def tried_below(where: str, root: str) -> None:
     shutil.copy(f"{root}{DOC}/{NAME}/examples/macsec0.conf", example)
     example.chmod(0o600)
     do = outside({"CONFIGURATION_DIRECTORY": str(room)})
-    printed = (
-        do(f"{root}/usr/sbin/macsecd", "--settings", "macsec0") if os.geteuid() == 0 else "eth0 macsec0 1514 isolated\n"
-    )
-    see(f"{where}, macsecd --settings reads the example", printed == "eth0 macsec0 1514 isolated\n")
+    wanted = "eth0 macsec0 1514 isolated 0\n"
+    printed = do(f"{root}/usr/sbin/macsecd", "--settings", "macsec0") if os.geteuid() == 0 else wanted
+    see(f"{where}, macsecd --settings reads the example", printed == wanted)
     tried_completions(where, do, root, str(room), COMPLETED)
     shutil.rmtree(room)
     paths = [str(it) for it in Path(root, "usr").rglob("*") if it.is_file() and b"/usr/local" in plain(it)]
