@@ -10,8 +10,9 @@
 #include <stdint.h>
 #include <sys/types.h>
 
-/* Exit statuses: the system refused something, or LINK or TAP is gone; the arguments or the configuration are wrong. */
-enum { ENDS_FAILED = 1, ENDS_WRONG = 2 };
+/* Exit statuses: the system refused something, or LINK or TAP is gone; the arguments or the configuration are wrong.
+ * And of --own-tap: only the deletion of TAP takes it from another user. */
+enum { ENDS_FAILED = 1, ENDS_WRONG = 2, ENDS_TAKEN = 3 };
 
 /* The most frames that one call takes from a device or gives to it. */
 enum { BATCH = 64 };
@@ -293,6 +294,9 @@ struct tap {
 
 /* The MTU of TAP: 32 octets below LINK's, and so small that no frame is longer than the configuration's largest. */
 uint32_t tap_mtu(uint32_t link_mtu, uint32_t max_frame);
+/* Gives a TAP that is there its owner. Returns 0, or the exit status after a message: ENDS_TAKEN if a process of
+ * neither root nor this user, macsecd's, has TAP, or if TAP has another type and is up. */
+int tap_own(const struct config *c, uid_t user);
 /* Attaches the file to TAP, which gets its owner, LINK's address and this MTU. An isolated LINK's TAP has the MTU
  * already. Returns 0, or the exit status after a message. */
 int tap_open(struct tap *t, const struct config *c, const struct link *l);
@@ -304,6 +308,12 @@ enum outcome tap_write(struct tap *t, const uint8_t *octets, size_t length, stru
 bool tap_address(const struct tap *t, uint8_t address[6]);
 /* Gives TAP carrier, or takes it away. */
 void tap_set_carrier(struct tap *t, bool on);
+
+/* ---- holder.c: the process that has TAP ---- */
+
+/* Says that TAP is in use, and by which process if one can be seen: if there are several, one of root or of this user.
+ * Returns whether there is such a one. */
+bool holder_say(const struct tap *t, uid_t user);
 
 /* ---- namespace.c: the host's network namespace, which has TAP, and LINK's own ---- */
 

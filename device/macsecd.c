@@ -3,13 +3,17 @@
  *     macsecd NAME
  *     macsecd --create-journal NAME
  *     macsecd --settings NAME
+ *     macsecd --own-tap NAME
  *     macsecd --check NAME
  *
  * man/macsecd.8 has the manual. The library of macsec.h judges every frame; this program moves octets. */
+#define _GNU_SOURCE
 #include "device.h"
 #include "workers.h"
+#include <limits.h>
 #include <stdio.h>
 #include <string.h>
+#include <sys/stat.h>
 
 static struct device device = { .handles = { MACSEC_ENDPOINT_INIT, MACSEC_ENDPOINT_INIT } };
 
@@ -124,21 +128,41 @@ static const char *way_of(const struct config *c) {
     return c->alone ? "alone" : "isolated";
 }
 
+/* Reads the lines of the device alone. */
+static int read_device(struct config *c, const char *name) {
+    int result = confine_memory();
+    if (result == 0)
+        result = config_read(c, name);
+    if (result == 0)
+        config_wipe(c);
+    return result;
+}
+
 /* Prints what macsec-link needs of the configuration: LINK, TAP, the largest frame, whether LINK is isolated, and whose
  * TAP is. */
 static int print_settings(const char *name) {
     struct config c;
-    int result = confine_memory();
-    if (result == 0)
-        result = config_read(&c, name);
+    int result = read_device(&c, name);
     if (result != 0)
         return result;
-    config_wipe(&c);
     if (printf("%s %s %u %s %u\n", c.link, c.tap, (unsigned)c.max_frame, way_of(&c), (unsigned)c.user) > 0 &&
         fflush(stdout) == 0)
         return 0;
     message_of_errno("standard output");
     return ENDS_FAILED;
+}
+
+/* The journal belongs to the user of macsecd. */
+static int own_tap(const char *name) {
+    char path[PATH_MAX];
+    struct config c;
+    struct stat journal;
+    int result = read_device(&c, name);
+    if (result != 0)
+        return result;
+    if (!journals_path(path, sizeof path, name))
+        return ENDS_FAILED;
+    return tap_own(&c, stat(path, &journal) == 0 ? journal.st_uid : 0);
 }
 
 static int create_journal(const char *name) {
@@ -149,18 +173,21 @@ static int create_journal(const char *name) {
 int main(int count, char **words) {
     bool creates = count == 3 && strcmp(words[1], "--create-journal") == 0;
     bool prints = count == 3 && strcmp(words[1], "--settings") == 0;
+    bool owns = count == 3 && strcmp(words[1], "--own-tap") == 0;
     if (count == 2 && strcmp(words[1], "--version") == 0)
         return printf("macsecd %s\n", MACSEC_VERSION) < 0 || fflush(stdout) != 0 ? ENDS_FAILED : 0;
     if (count == 3 && strcmp(words[1], "--check") == 0)
         return check_configuration(words[2]);
-    if ((count != 2 && !creates && !prints) || !config_is_name(words[count - 1])) {
+    if ((count != 2 && !creates && !prints && !owns) || !config_is_name(words[count - 1])) {
         message("usage: macsecd NAME, macsecd --check NAME or FILE, macsecd --create-journal NAME, "
-                "macsecd --settings NAME, or macsecd --version");
+                "macsecd --settings NAME, macsecd --own-tap NAME, or macsecd --version");
         return ENDS_WRONG;
     }
     device.name = words[count - 1];
     messages_name(device.name);
     if (prints)
         return print_settings(device.name);
+    if (owns)
+        return own_tap(device.name);
     return creates ? create_journal(device.name) : run(&device);
 }

@@ -2,6 +2,7 @@
 #define _GNU_SOURCE
 #include "device.h"
 #include <errno.h>
+#include <fcntl.h>
 #include <limits.h>
 #include <linux/if_arp.h>
 #include <linux/if_tun.h>
@@ -30,6 +31,28 @@ static int ask(int file, unsigned long call, struct ifreq *request, const char *
 }
 
 /* ---- Whose it is ---- */
+
+/* Attaches the file to TAP, which is made if it is not there. Root and macsecd's user may have TAP. Another one has it
+ * since it had no owner, and loses it only if it is deleted. */
+static int attach(struct tap *t, const struct config *c, uid_t user) {
+    struct ifreq request;
+    memcpy(t->name, c->tap, IF_NAMESIZE);
+    memset(&request, 0, sizeof request);
+    memcpy(request.ifr_name, t->name, IF_NAMESIZE);
+    request.ifr_flags = IFF_TAP | IFF_NO_PI;
+    if (ioctl(t->file, TUNSETIFF, &request) == 0) {
+        tap_set_carrier(t, false); /* until LINK is up, which life_read finds out */
+        return 0;
+    }
+    if (errno == EBUSY)
+        return holder_say(t, user) ? ENDS_FAILED : ENDS_TAKEN;
+    if (errno == EINVAL)
+        message("TAP %s: the device of this name is no TAP with one queue: delete it, or name another by `device tap`",
+                t->name);
+    else
+        message_of_errno("TAP %s can't be made or attached to", t->name);
+    return ENDS_FAILED;
+}
 
 /* Can a group have TAP? The system has no call that takes a group away. */
 static bool has_group(const char *name) {
@@ -67,7 +90,7 @@ static int undo(const struct tap *t) {
         (request.ifr_hwaddr.sa_family == ARPHRD_ETHER || ioctl(t->file, TUNSETLINK, (unsigned long)ARPHRD_ETHER) == 0))
         return 0;
     message_of_errno("TAP %s can't be made an Ethernet device", t->name);
-    return ENDS_FAILED;
+    return ENDS_TAKEN;
 }
 
 /* Without an owner every user can attach to TAP while macsecd does not run, and read and send the client's frames in
@@ -78,6 +101,20 @@ static int set_owner(const struct tap *t, const struct config *c) {
         return undo(t);
     message_of_errno("TAP %s: its owner", t->name);
     return ENDS_FAILED;
+}
+
+int tap_own(const struct config *c, uid_t user) {
+    struct tap t = { .file = open("/dev/net/tun", O_RDWR | O_CLOEXEC) };
+    int result;
+    if (t.file < 0) {
+        message_of_errno("/dev/net/tun");
+        return ENDS_FAILED;
+    }
+    result = attach(&t, c, user);
+    if (result == 0)
+        result = set_owner(&t, c);
+    (void)close(t.file); /* which detaches it */
+    return result;
 }
 
 /* ---- What it is like ---- */
@@ -116,17 +153,9 @@ static int persist(const struct tap *t, const struct config *c) {
 
 int tap_open(struct tap *t, const struct config *c, const struct link *l) {
     struct ifreq request;
-    int result;
-    memcpy(t->name, c->tap, IF_NAMESIZE);
-    memset(&request, 0, sizeof request);
-    memcpy(request.ifr_name, t->name, IF_NAMESIZE);
-    request.ifr_flags = IFF_TAP | IFF_NO_PI;
-    result = ask(t->file, TUNSETIFF, &request, t->name, "it can't be made or is in use");
-    if (result != 0)
-        return result;
-    tap_set_carrier(t, false); /* until LINK is up, which life_read finds out */
-    if (set_owner(t, c) != 0)
+    if (attach(t, c, geteuid()) != 0 || set_owner(t, c) != 0)
         return ENDS_FAILED;
+    memset(&request, 0, sizeof request);
     /* No frame from the client lacks its checksum or is longer than the MTU. */
     if (ioctl(t->file, TUNSETOFFLOAD, 0UL) != 0 || ioctl(t->file, TUNGETIFF, &request) != 0) {
         message_of_errno("TAP %s", t->name);

@@ -158,9 +158,28 @@ CONTROLS: dict[str, list[Control]] = {
             (),
             ("after SIGTERM: 1 times", "after SIGKILL: 1 times", "tries at", "(TAP is free): 1 times"),
         ),
+        Control(
+            "a user keeps the TAP that he has",
+            ("macsec-link", '    ip link del dev "$tap"\n', "    return 1\n"),
+            (),
+            ("(the user has TAP): macsecd does not start", "(fake,vanish): macsecd", "(hide): macsecd"),
+        ),
+        Control(
+            "the TAP of any program is deleted",
+            ("macsec-link", "    had_tap || fail", "    true || fail"),
+            (),
+            ("TAP deleted",),
+        ),
+        Control("macsecd's user loses TAP", ("holder.c", "|| h.user == user;", ";"), (), ("the journal's user has",)),
         Control("filters stay", ("tap.c", "        return undo(t);", "        return (void)undo, 0;"), (), ("poison",)),
         Control(
             "a group stays", ("tap.c", "return group >= 0;", "return group > 1 << 30;"), (), ("and group 0 65534",)
+        ),
+        Control(
+            "the TAP of another namespace is taken for it",
+            ("holder.c", "!is_elsewhere(process, number, t);", "(true || is_elsewhere(process, number, t));"),
+            (),
+            ("in use by process",),
         ),
     ],
 }

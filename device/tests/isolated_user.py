@@ -7,16 +7,22 @@ It prints an empty line after its first try, and at the end what it has done, as
 
 claim    takes TAP for this user and its group
 poison   leaves filters and, while TAP is down, another type, which keep frames from its next reader
+fake     makes root the owner
+vanish   lets TAP end with the last file that is attached
+hide     sends the file to itself, so that no process has it open
 leave    lets TAP go and tries no more
 release  lets TAP go after 50 ms, and tries again"""
 
 from __future__ import annotations
 
+import array
 import contextlib
+import ctypes
 import fcntl
 import json
 import os
 import select
+import socket
 import struct
 import sys
 import time
@@ -34,6 +40,7 @@ class User:
         self.user, self.frame, self.steps = user, frame, steps
         self.file, self.goes_on = -1, True
         self.tries = self.attached = self.read = 0
+        self.hidden = socket.socketpair()
 
     def attach(self) -> None:
         """Tries once."""
@@ -64,9 +71,25 @@ class User:
         fcntl.ioctl(self.file, TUNSETSNDBUF, struct.pack("i", 1))
         fcntl.ioctl(self.file, TUNSETLINK, INFINIBAND)
 
+    def fake(self) -> None:
+        """Makes root the owner."""
+        fcntl.ioctl(self.file, TUNSETOWNER, 0)
+
     def vanish(self) -> None:
         """Lets TAP end with its last file."""
         fcntl.ioctl(self.file, TUNSETPERSIST, 0)
+
+    def hide(self) -> None:
+        """Sends the file to itself. It stays open in the queue of a socket, where no process has it."""
+        rights = [(socket.SOL_SOCKET, socket.SCM_RIGHTS, array.array("i", [self.file]))]
+        self.hidden[0].sendmsg([b"x"], rights)
+        os.close(self.file)
+        self.file, self.goes_on = -1, False
+
+    def seek(self) -> None:
+        """Takes it from there."""
+        _, about, _, _ = self.hidden[1].recvmsg(1, socket.CMSG_SPACE(4))
+        self.file = struct.unpack("i", about[0][2])[0]
 
     def leave(self) -> None:
         """Lets TAP go, and tries no more."""
@@ -100,6 +123,8 @@ class User:
                 self.look()
             elif self.goes_on:
                 self.attach()
+        if "hide" in self.steps and self.attached:
+            self.seek()
         self.look()
         for last in (self.send, self.vanish):
             with contextlib.suppress(OSError, ValueError):
@@ -109,6 +134,7 @@ class User:
 
 if __name__ == "__main__":
     name, number, octets, does = sys.argv[1:]
+    ctypes.CDLL(None).prctl(15, b"intruder\x1b[31m", 0, 0, 0)  # PR_SET_NAME
     os.setgroups([])
     os.setresgid(*[int(number)] * 3)
     os.setresuid(*[int(number)] * 3)

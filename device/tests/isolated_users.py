@@ -12,6 +12,7 @@ import time
 
 from house.reporting import Failed, report
 from isolated_frames import BROADCAST, datagram, ethernet, ipv4
+from isolated_starts import THREE, as_nobody, expect, link_expect
 from isolated_world import NOBODY, Host, Options, Pair, received
 
 PROGRAM = (pathlib.Path(__file__).parent / "isolated_user.py").read_text()
@@ -20,8 +21,15 @@ FORGED = ethernet(BROADCAST, b"\2\0\0\0\0\2", 0x800, ipv4(PEER, OWN, 17, datagra
 MAKE = ("tuntap", "add", "dev", "macsec0", "mode", "tap")
 ROUTE = f"198.51.100.0/24 via {PEER}"
 
-# What a user does with a TAP of an earlier version, which has no owner, before macsecd starts.
-UPGRADES = ("claim,poison,leave", None)
+# What a user does with a TAP of an earlier version, which has no owner, before macsecd starts: nothing, or
+# "": the user has it.
+UPGRADES = ("claim,poison,leave", None, "", "fake,vanish", "hide")
+# Devices that are no TAP for macsecd.
+KINDS = (
+    ("tuntap", "add", "dev", "macsec0", "mode", "tun"),
+    (*MAKE, "multi_queue"),
+    ("link", "add", "macsec0", "type", "bridge"),
+)
 
 
 class User:
@@ -139,7 +147,7 @@ def races(pair: Pair, count: int) -> str:
 
 def upgrade(pair: Pair, steps: str | None) -> None:
     """TAP is one of an earlier version, without an owner, which the user may have."""
-    a, what = pair.a, f"after an upgrade ({'TAP is free' if steps is None else steps})"
+    a, what = pair.a, f"after an upgrade ({'TAP is free' if steps is None else steps or 'the user has TAP'})"
     a.end()
     if "macsec0" in a.devices():
         a.ip("link", "del", "macsec0")
@@ -151,6 +159,9 @@ def upgrade(pair: Pair, steps: str | None) -> None:
     report(ended.returncode == 0, f"users: {what}: macsec-link: {ended.stderr}")
     if steps is None:
         report(is_whole(a), f"users: {what}: TAP has not kept its address and its route")
+    elif user is not None and "leave" not in steps:
+        named = "" if steps == "hide" else f" by process {user.process.pid} (intruder?[31m) of user {NOBODY}"
+        report(f"TAP macsec0 is in use{named}\n" in ended.stderr, f"users: {what}: {ended.stderr!r}")
     if start(pair, what):
         report(owner(a) in ("0 -1", "0 0"), f"users: {what}: TAP has the owner and group {owner(a)}")
         a.end()
@@ -159,8 +170,26 @@ def upgrade(pair: Pair, steps: str | None) -> None:
         user.end()
 
 
+def check_kinds(pair: Pair) -> None:
+    """Before the first start: a TAP that root has made for the user, and devices that are no TAP for macsecd."""
+    a = pair.a
+    a.ip(*MAKE, "user", "nobody")
+    user = User(a)
+    link_expect(a, "a TAP that another user has", 1, f"in use by process {user.process.pid} (")
+    report("link0" in a.devices() and "macsec0" in a.devices(), "users: LINK was moved, or another user's TAP deleted")
+    user.end()
+    for words in KINDS:
+        if "macsec0" in a.devices():
+            a.ip("link", "del", "macsec0")
+        a.ip(*words)
+        link_expect(a, " ".join(words), 1, "is no TAP with one queue")
+        if a.shared:
+            expect(a, " ".join(words), 1, "is no TAP with one queue")
+    a.ip("link", "del", "macsec0")
+
+
 def check_owner(pair: Pair) -> None:
-    """Another owner."""
+    """Another owner, and a process of root that has TAP."""
     a = pair.a
     a.write(pair.keys, "device link link0\ndevice user nobody\n")
     start(pair, "with `device user nobody`")
@@ -171,6 +200,17 @@ def check_owner(pair: Pair) -> None:
     start(pair, "with root as the owner again")
     report(owner(a) == "0 -1", f"users: root as the owner again: TAP has the owner and group {owner(a)}")
     a.end()
+    root = User(a, "", 0)
+    text = f"TAP macsec0 is in use by process {root.process.pid} (intruder?[31m) of user 0\n"
+    link_expect(a, "a process of root has TAP", 1, text)
+    expect(a, "a process of root has TAP", 1, text)
+    a.belongs_to_nobody()
+    expect(a, "a process of root has TAP, seen by nobody", 1, "TAP macsec0 is in use\n", as_nobody(THREE))
+    root.end()
+    a.ip(*MAKE)
+    user = User(a)
+    link_expect(a, "the journal's user has TAP", 1, f"in use by process {user.process.pid} (")
+    report(user.end()["attached"] == 1, "users: the journal's user has lost TAP")
 
 
 def check_users(options: Options) -> None:
@@ -180,6 +220,7 @@ def check_users(options: Options) -> None:
             pair.a.shared = shared
             pair.write()
             pair.b.start()
+            check_kinds(pair)
             first(pair)
             life(pair)
             told = races(pair, 3 if options.short else 20)
