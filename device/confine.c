@@ -108,7 +108,7 @@ static int restrict_files(int state, bool unconfined) {
 
 /* The calls of the thread that has the endpoint. It opens no file and writes to none. */
 static const unsigned of_frames[] = {
-    /* frames, control, reports, signals, the clock and the thread of the journal */
+    /* frames, control, reports, signals, the clock, the thread of the journal, and standard error */
     SYS_read,
     SYS_write,
     SYS_recvmmsg,

@@ -35,7 +35,7 @@ void text_add(struct text *t, const char *form, ...) __attribute__((format(print
 /* Names the device in the messages that follow. */
 void messages_name(const char *name);
 /* Makes the messages that follow without waiting. What standard error does not take is dropped, and a later message
- * says how many lines that were. To be called first. */
+ * says how many lines that were. To be called before anything is opened. */
 void messages_open(void);
 /* Prints a line. No frame causes one. A line that comes again and again is printed once a minute, with its count. */
 void message(const char *form, ...) __attribute__((format(printf, 1, 2)));

@@ -94,8 +94,8 @@ static void explain(void) {
     static const struct {
         const char *name, *means;
     } faults[] = {
-        { "Word", "a word is not one that can be there: the request `help` lists those that can" },
-        { "Count", "there are too many or too few words: the request `help` says how many" },
+        { "Word", "a word is not one that can be there: `help` lists the requests, macsec(5) the commands after A" },
+        { "Count", "there are too many or too few words: `help` lists the requests, macsec(5) the commands after A" },
         { "Hex", "hex digits are expected there, without 0x and colons, as many as the value has" },
         { "Number", "a decimal number is expected there, or it is too large" },
         { "Ends", "it is no line of endpoint A, or one that only a configuration can have" },

@@ -61,7 +61,7 @@ void messages_open(void) {
 }
 
 /* Writes a line by one call, so that lines of several processes do not mix. A pipe that can be written to takes a line
- * of this length. Returns false if the line is not written. */
+ * of this length, unless another process fills it in between. Returns false if the line is not written. */
 static bool write_line(const char *line, size_t length) {
     struct pollfd it = { .fd = lines, .events = POLLOUT };
     ssize_t count;

@@ -139,7 +139,7 @@ def check_closed(a: End) -> None:
     """Standard streams that are closed: no device gets one of their numbers, to which messages would go."""
     words = [*a.enter, "sh", "-c", 'exec "$@" <&- >&- 2>&-', "sh", str(a.program), "macsec0"]
     a.process = subprocess.Popen(words, env=a.environment)
-    until(a.answers, 5)
+    until(a.answers, 15)
     found = [os.readlink(f"/proc/{a.process.pid}/fd/{it}") for it in range(3)]
     report(found == ["/dev/null"] * 3, f"in place of closed streams macsecd has {found}")
     a.stop()
@@ -152,7 +152,7 @@ def check_standard_errors(a: End) -> None:
         words = [*a.enter, *prefix, str(a.program), "macsec0"]
         a.process = subprocess.Popen(words, stdin=subprocess.DEVNULL, stderr=writer, env=a.environment)
         try:
-            if not until(a.answers, 1):
+            if not until(a.answers, 15):
                 report(False, f"{kind} that is full: macsecd does not start")
                 continue
             a.start_addresses()

@@ -156,9 +156,8 @@ def check_held_up(end: End) -> None:
         before = processor_seconds(pid)
         time.sleep(1.5)
         took = processor_seconds(pid) - before
-        report(
-            took < 0.2 and ping(end) == 3, f"a connection without a descriptor: {took:.2f} s of a processor in 1.5 s"
-        )
+        report(took < 0.1, f"a connection without a descriptor: {took:.2f} s of a processor in 1.5 s")
+        report(ping(end) == 3, "no replies while a connection has no descriptor")
         resource.prlimit(pid, resource.RLIMIT_NOFILE, limits)
         report(it.recv(100) == b"port on\n", "a connection that had no descriptor is not answered")
     report(end.log().count("can't be accepted yet: Too many open files") == 1, f"no message, or several: {end.log()}")
