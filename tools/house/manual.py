@@ -59,7 +59,7 @@ def fault() -> str | None:
 def age(commit: str) -> str:
     """How many commits ago a commit was."""
     count = git("rev-list", "--count", f"{commit}..HEAD")
-    return "at a commit that this clone lacks" if count is None else f"{count} commits ago"
+    return "at a commit that this clone lacks" if count is None else f"{count} commit{'s' * (count != '1')} ago"
 
 
 def listed() -> list[str]:
@@ -67,7 +67,7 @@ def listed() -> list[str]:
     lines, known = [], rows()
     for name in NAMES:
         it = known.get(name)
-        told = f"{it.result} {age(it.commit)} ({it.commit}, {it.date}, {it.machine})" if it else "never recorded"
+        told = f"{it.result}, {age(it.commit)} ({it.commit}, {it.date}, {it.machine})" if it else "never recorded"
         lines.append(f"manual: {name}: {told}")
     return lines
 
