@@ -54,7 +54,7 @@ DEVICE_SOURCES := $(sort $(filter-out device/macsecctl.c,$(wildcard device/*.c))
 
 # The checks that make a program or a library first, and the others.
 OVER_PROGRAM := altered-frames conformance conformance-controls peer planted stored-runs
-OVER_LIBRARY := c-programs constant-time delivered-once device-forged device-fuzz instructions isolated \
+OVER_LIBRARY := axioms c-programs constant-time delivered-once device-forged device-fuzz instructions isolated \
     isolated-controls isolated-unit journal keys-in-memory macsecd macsecd-controls macsecd-isolated macsecd-workers \
     pages python readers two-hosts workers
 CHECKS := $(OVER_PROGRAM) $(OVER_LIBRARY) against allocators any-order c-cost c-header controls cores device-analyzed \
@@ -137,10 +137,10 @@ fuzz: build/macsec build/macsec-rattle
 failures: build/macsec
 $(OVER_LIBRARY): build/libmacsec.a
 c-programs pages python: build/macsec
-constant-time: $(BOTH)
+axioms constant-time: $(BOTH)
 constant-time delivered-once instructions keys-in-memory: build/$(HWCAPS)/libmacsec.a
 packages: $(BOTH) $(LIBRARIES)
-controls: build/macsec build/macsec-x86-64-v2 build/macsec-rattle build/libmacsec.a
+controls: build/macsec $(BOTH) build/macsec-rattle build/libmacsec.a
 against: $(BOTH) $(LIBRARIES)
 c-cost: $(BENCHES) $(LIBRARIES)
 

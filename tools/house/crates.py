@@ -118,6 +118,11 @@ def record_file(path: str) -> str:
     return f"{path}.proved"
 
 
+def verdict_file(path: str | Path) -> str:
+    """Where tools/prove leaves what the prover printed of a program or a library that it built."""
+    return f"{path}.verdict"
+
+
 def proved_by(path: str, crate: str) -> str | None:
     """The run that proved the crates of a program or a library; None if it is not there as it was built of the files
     that are here."""
