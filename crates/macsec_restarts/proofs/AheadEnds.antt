@@ -5,14 +5,14 @@ use Rattle.std.specs.Prelude.{List, [], ◌∷◌, ◌==◌, ◌&&◌, not, nat_
 use Rattle.std.proofs.lemmas.Bool.{and_cases, and_from, eqb-true, le-leb, leb-false, lt-ltb, ltb-false}
 use Rattle.macsec_tag.specs.declared.identifiers.Sci.{Sci}
 use Rattle.macsec_commands.specs.declared.command.Command.{Command}
-use Rattle.macsec_commands.specs.declared.command.Command.TheVariants.{Protect, Validate, Replay, Tag, Key, Retire, TxSa, TxOn, TxOff}
-use Rattle.macsec_commands.specs.declared.command.Command.TheVariants.{TxDel, RxSc, RxScDel, RxSa, RxOn, RxOff, RxLow, RxDel}
+use Rattle.macsec_commands.specs.declared.command.Command.TheVariants.{Retire}
+use Rattle.macsec_commands.specs.declared.command.Command.TheVariants.{RxSa}
 use Rattle.macsec_rx.specs.declared.RxRow.{RxRow}
 use Rattle.macsec_rx.specs.Channels.{rx_row}
 use Rattle.macsec_secy.specs.GivenUp.{IsGivenUp}
 use Rattle.macsec_secy.specs.Kept.{IsAbove}
 use Rattle.macsec_secy.specs.State.{State}
-use Rattle.macsec_secy.specs.Step.{Input, Output, client_frame, done, dropped_no_sa, dropped_too_long, fault, leaves, link_frame, operator_command, received, refused, step, uncontrolled_frame}
+use Rattle.macsec_secy.specs.Step.{Input, Output, client_frame, done, dropped_no_sa, dropped_too_long, link_frame, operator_command, refused, step, uncontrolled_frame}
 use Rattle.macsec_secy.proofs.GivenUp.{gives_up, stays_given_up}
 use Rattle.macsec_secy.proofs.RxRowsStay.{rx_rows_stay}
 use Rattle.macsec_link.proofs.Members.{IsMember, left_member, member_of_map}
@@ -28,11 +28,13 @@ use Rattle.macsec_restarts.proofs.NextNumbers.{same_place}
 use Rattle.macsec_restarts.proofs.RowSteps.{IsCreatedBy, RowStep, found_at, found_row, row_step, still}
 
 -- an SA that existed and no longer exists is in the table
-gone : (s after : State) (t : Ends) (row : RxRow) → rx_row s.rx.rows row.sci row.an ≡ Some row → rx_row after.rx.rows row.sci row.an ≡ None →
+gone : (s after : State) (t : Ends) (row : RxRow) → rx_row s.rx.rows row.sci row.an ≡ Some row →
+    rx_row after.rx.rows row.sci row.an ≡ None →
     end_of_row row ≤ end_of (with_ends (ended_by s after) t) row.key row.sci row.an
 gone s after t row there none =
     let gone' : is_gone after row ≡ true = ap (λ (o : Option RxRow). not (is_some o)) none in
-    let left : IsMember (filter (is_gone after) s.rx.rows) row = left_member (is_gone after) s.rx.rows row (found_row row.sci row.an s.rx.rows row there) gone' in
+    let left : IsMember (filter (is_gone after) s.rx.rows) row =
+    left_member (is_gone after) s.rx.rows row (found_row row.sci row.an s.rx.rows row there) gone' in
     ends_cover (ended_by s after) t (ended_of row) (member_of_map ended_of (filter (is_gone after) s.rx.rows) row left)
 
 -- ---- a key that is given up
@@ -40,16 +42,15 @@ gone s after t row there none =
 -- a key that a step of the keeping endpoint retires is given up
 pub retires : (k : Keeping) (n : ℕ) → is_done (keeping_step k (endpoint_input (operator_command (Retire n)))).0 ≡ true →
     IsGivenUp (keeping_step k (endpoint_input (operator_command (Retire n)))).1.secy n
-retires k n done' = by_both (is_below_floor k (operator_command (Retire n))) (may_go k (operator_command (Retire n))) done'
+retires k n done' = by_both (is_below_floor k (operator_command (Retire n)))
+    (may_go k (operator_command (Retire n))) done'
   where
     is_it_done : (output : Output) → is_done_output output ≡ true → output ≡ done
     is_it_done done is = refl
     is_it_done (refused r) is = cc
-    is_it_done (leaves frame under) is = cc
     is_it_done dropped_no_sa is = cc
     is_it_done dropped_too_long is = cc
-    is_it_done (received verdict row frame controlled) is = cc
-    is_it_done (fault f) is = cc
+    is_it_done it is = cc
 
     by_both : (below go : Bool) → is_done (by_tests below go k (step k.secy (operator_command (Retire n)))).0 ≡ true →
         IsGivenUp (by_tests below go k (step k.secy (operator_command (Retire n)))).1.secy n
@@ -57,7 +58,8 @@ retires k n done' = by_both (is_below_floor k (operator_command (Retire n))) (ma
     by_both false false is = cc
     by_both false true is = gives_up k.secy n (is_it_done (step k.secy (operator_command (Retire n))).0 is)
 
-pub keeps_given_up : (k : Keeping) (input : KeepingInput) (n : ℕ) → IsGivenUp k.secy n → IsGivenUp (keeping_step k input).1.secy n
+pub keeps_given_up : (k : Keeping) (input : KeepingInput) (n : ℕ) → IsGivenUp k.secy n →
+    IsGivenUp (keeping_step k input).1.secy n
 keeps_given_up k (now_durable r) n up = up
 keeps_given_up k (endpoint_input input) n up = by_both (is_below_floor k input) (may_go k input)
   where
@@ -67,11 +69,13 @@ keeps_given_up k (endpoint_input input) n up = by_both (is_below_floor k input) 
     by_both false false = up
 
 -- a key that is given up stays given up
-pub given_up_stays : (a : Ahead) (input : KeepingInput) (n : ℕ) → IsGivenUp a.k.secy n → IsGivenUp (ahead_step a input).1.k.secy n
+pub given_up_stays : (a : Ahead) (input : KeepingInput) (n : ℕ) → IsGivenUp a.k.secy n →
+    IsGivenUp (ahead_step a input).1.k.secy n
 given_up_stays a (now_durable r) n up = up
 given_up_stays a (endpoint_input input) n up = by_standing (begins_again a input) (standing a input)
   where
-    by_standing : (again : Bool) (it : Standing) → IsGivenUp (ahead_by again it a input (keeping_step a.k (endpoint_input input))).1.k.secy n
+    by_standing : (again : Bool) (it : Standing) →
+        IsGivenUp (ahead_by again it a input (keeping_step a.k (endpoint_input input))).1.k.secy n
     by_standing true it = up
     by_standing false (not_yet at) = up
     by_standing false (before_this_run at) = up
@@ -81,7 +85,8 @@ given_up_stays a (endpoint_input input) n up = by_standing (begins_again a input
 
 -- what the table says of an SA stays, unless its key is given up
 abbrev pub StaysUnless : Ahead → Ahead → ℕ → Sci → ℕ → Type 0
-StaysUnless a after key sci an = IsGivenUp after.k.secy key ⊎ (end_of a.ended key sci an ≤ end_of after.ended key sci an)
+StaysUnless a after key sci an = IsGivenUp after.k.secy key
+    ⊎ (end_of a.ended key sci an ≤ end_of after.ended key sci an)
 
 -- the key that a command retires is given up
 abbrev pub GivesUpBy : Command → KeepingOutput × Keeping → Type 0
@@ -92,76 +97,82 @@ retires_by : (k : Keeping) (c : Command) → GivesUpBy c (keeping_step k (endpoi
 retires_by k (Retire n) = retires k n
 retires_by k c = tt
 
-pub after_command : (c : Command) (answer : KeepingOutput × Keeping) → GivesUpBy c answer → (again : Bool) (it : Standing) (a : Ahead) (key : ℕ) (sci : Sci) (an : ℕ) →
+pub after_command : (c : Command) (answer : KeepingOutput × Keeping) → GivesUpBy c answer →
+    (again : Bool) (it : Standing) (a : Ahead) (key : ℕ) (sci : Sci) (an : ℕ) →
     StaysUnless a (ahead_by again it a (operator_command c) answer).1 key sci an
 after_command c answer gives true it a key sci an = inr (omega arith)
 after_command c answer gives false (not_yet at) a key sci an = inr (omega arith)
 after_command c answer gives false (before_this_run at) a key sci an = inr (omega arith)
 after_command c answer gives false passes a key sci an = by_keeps a.k.keeps c answer gives
   where
-    grown : (answer : KeepingOutput × Keeping) → end_of a.ended key sci an ≤ end_of (with_ends (ended_by a.k.secy answer.1.secy) a.ended) key sci an
+    grown : (answer : KeepingOutput × Keeping) →
+        end_of a.ended key sci an ≤ end_of (with_ends (ended_by a.k.secy answer.1.secy) a.ended) key sci an
     grown answer = ends_more (ended_by a.k.secy answer.1.secy) a.ended key sci an
 
     by_key : (answer : KeepingOutput × Keeping) (n : ℕ) → IsGivenUp answer.1.secy n → (b : Bool) → (key == n) ≡ b →
-        IsGivenUp answer.1.secy key ⊎ (end_of a.ended key sci an ≤ end_of (without_key n (with_ends (ended_by a.k.secy answer.1.secy) a.ended)) key sci an)
+        IsGivenUp answer.1.secy key ⊎ (end_of a.ended key sci an ≤ end_of
+        (without_key n (with_ends (ended_by a.k.secy answer.1.secy) a.ended)) key sci an)
     by_key answer n up true same = inl (subst (IsGivenUp answer.1.secy) (sym (eqb-true key n same)) up)
-    by_key answer n up false other = inr (omega (arith, grown answer, without_other n (with_ends (ended_by a.k.secy answer.1.secy) a.ended) key sci an other))
+    by_key answer n up false other =
+        inr (omega (arith, grown answer, without_other n (with_ends (ended_by a.k.secy answer.1.secy) a.ended) key sci an other))
 
     by_done : (answer : KeepingOutput × Keeping) (n : ℕ) (done' : Bool) → (done' ≡ true → IsGivenUp answer.1.secy n) →
-        IsGivenUp answer.1.secy key ⊎ (end_of a.ended key sci an ≤ end_of (if done' then without_key n (with_ends (ended_by a.k.secy answer.1.secy) a.ended) else with_ends (ended_by a.k.secy answer.1.secy) a.ended) key sci an)
+        IsGivenUp answer.1.secy key ⊎ (end_of a.ended key sci an ≤ end_of
+        (if done' then without_key n (with_ends (ended_by a.k.secy answer.1.secy) a.ended)
+        else with_ends (ended_by a.k.secy answer.1.secy) a.ended) key sci an)
     by_done answer n true up = by_key answer n (up refl) (key == n) refl
     by_done answer n false up = inr (grown answer)
 
     by_command : (c' : Command) (answer : KeepingOutput × Keeping) → GivesUpBy c' answer →
-        IsGivenUp answer.1.secy key ⊎ (end_of a.ended key sci an ≤ end_of (after_retiring c' (is_done answer.0) (with_ends (ended_by a.k.secy answer.1.secy) a.ended)) key sci an)
+        IsGivenUp answer.1.secy key ⊎ (end_of a.ended key sci an ≤ end_of
+        (after_retiring c' (is_done answer.0) (with_ends (ended_by a.k.secy answer.1.secy) a.ended)) key sci an)
     by_command (Retire n) answer up = by_done answer n (is_done answer.0) up
-    by_command (Protect on) answer up = inr (grown answer)
-    by_command (Validate mode) answer up = inr (grown answer)
-    by_command (Replay protect window) answer up = inr (grown answer)
-    by_command (Tag form) answer up = inr (grown answer)
-    by_command (Key key') answer up = inr (grown answer)
-    by_command (TxSa an' key' next conf) answer up = inr (grown answer)
-    by_command (TxOn an') answer up = inr (grown answer)
-    by_command (TxOff an') answer up = inr (grown answer)
-    by_command (TxDel an') answer up = inr (grown answer)
-    by_command (RxSc sci') answer up = inr (grown answer)
-    by_command (RxScDel sci') answer up = inr (grown answer)
-    by_command (RxSa sci' an' key' ssci lowest) answer up = inr (grown answer)
-    by_command (RxOn sci' an') answer up = inr (grown answer)
-    by_command (RxOff sci' an') answer up = inr (grown answer)
-    by_command (RxLow sci' an' pn) answer up = inr (grown answer)
-    by_command (RxDel sci' an') answer up = inr (grown answer)
+    by_command c answer up = inr (grown answer)
 
     by_keeps : (keeps : Bool) (c' : Command) (answer : KeepingOutput × Keeping) → GivesUpBy c' answer →
-        IsGivenUp answer.1.secy key ⊎ (end_of a.ended key sci an ≤ end_of (if keeps then after_retiring c' (is_done answer.0) (with_ends (ended_by a.k.secy answer.1.secy) a.ended) else a.ended) key sci an)
+        IsGivenUp answer.1.secy key ⊎ (end_of a.ended key sci an ≤ end_of
+        (if keeps then after_retiring c' (is_done answer.0) (with_ends (ended_by a.k.secy answer.1.secy) a.ended)
+        else a.ended) key sci an)
     by_keeps true c' answer up = by_command c' answer up
     by_keeps false c' answer up = inr (omega arith)
 
-after_frame : (again : Bool) (it : Standing) (a : Ahead) (input : Input) (answer : KeepingOutput × Keeping) → ended_after a input answer ≡ a.ended → (key : ℕ) (sci : Sci) (an : ℕ) →
+after_frame : (again : Bool) (it : Standing) (a : Ahead) (input : Input) (answer : KeepingOutput × Keeping) →
+    ended_after a input answer ≡ a.ended → (key : ℕ) (sci : Sci) (an : ℕ) →
     StaysUnless a (ahead_by again it a input answer).1 key sci an
 after_frame true it a input answer same key sci an = inr (omega arith)
 after_frame false (not_yet at) a input answer same key sci an = inr (omega arith)
 after_frame false (before_this_run at) a input answer same key sci an = inr (omega arith)
-after_frame false passes a input answer same key sci an = inr (subst (λ (t : Ends). end_of a.ended key sci an ≤ end_of t key sci an) (sym same) (omega arith))
+after_frame false passes a input answer same key sci an =
+    inr (subst (λ (t : Ends). end_of a.ended key sci an ≤ end_of t key sci an) (sym same) (omega arith))
 
-pub ends_step : (a : Ahead) (input : KeepingInput) (key : ℕ) (sci : Sci) (an : ℕ) → StaysUnless a (ahead_step a input).1 key sci an
+pub ends_step : (a : Ahead) (input : KeepingInput) (key : ℕ) (sci : Sci) (an : ℕ) →
+    StaysUnless a (ahead_step a input).1 key sci an
 ends_step a (now_durable r) key sci an = inr (omega arith)
 ends_step a (endpoint_input (operator_command c)) key sci an =
-    after_command c (keeping_step a.k (endpoint_input (operator_command c))) (retires_by a.k c) (begins_again a (operator_command c)) (standing a (operator_command c)) a key sci an
-ends_step a (endpoint_input (client_frame frame)) key sci an = after_frame false passes a (client_frame frame) (keeping_step a.k (endpoint_input (client_frame frame))) refl key sci an
-ends_step a (endpoint_input (uncontrolled_frame frame)) key sci an = after_frame false passes a (uncontrolled_frame frame) (keeping_step a.k (endpoint_input (uncontrolled_frame frame))) refl key sci an
+    after_command c (keeping_step a.k (endpoint_input (operator_command c))) (retires_by a.k c)
+    (begins_again a (operator_command c)) (standing a (operator_command c)) a key sci an
+ends_step a (endpoint_input (client_frame frame)) key sci an =
+    after_frame false passes a (client_frame frame)
+    (keeping_step a.k (endpoint_input (client_frame frame))) refl key sci an
+ends_step a (endpoint_input (uncontrolled_frame frame)) key sci an =
+    after_frame false passes a (uncontrolled_frame frame)
+    (keeping_step a.k (endpoint_input (uncontrolled_frame frame))) refl key sci an
 ends_step a (endpoint_input (link_frame frame)) key sci an =
-    after_frame false (standing a (link_frame frame)) a (link_frame frame) (keeping_step a.k (endpoint_input (link_frame frame))) refl key sci an
+    after_frame false (standing a (link_frame frame)) a (link_frame frame)
+    (keeping_step a.k (endpoint_input (link_frame frame))) refl key sci an
 
-given_up_later : (inputs : List KeepingInput) (a : Ahead) (n : ℕ) → IsGivenUp a.k.secy n → IsGivenUp (ahead_after a inputs).k.secy n
+given_up_later : (inputs : List KeepingInput) (a : Ahead) (n : ℕ) → IsGivenUp a.k.secy n →
+    IsGivenUp (ahead_after a inputs).k.secy n
 given_up_later [] a n up = up
 given_up_later (input ∷ inputs) a n up = given_up_later inputs (ahead_step a input).1 n (given_up_stays a input n up)
 
 pub keeps_ends : (inputs : List KeepingInput) (a : Ahead) (key : ℕ) (sci : Sci) (an : ℕ) → KeepsEnds a inputs key sci an
 keeps_ends [] a key sci an = inr (omega arith)
-keeps_ends (input ∷ inputs) a key sci an = by_step (ends_step a input key sci an) (keeps_ends inputs (ahead_step a input).1 key sci an)
+keeps_ends (input ∷ inputs) a key sci an = by_step (ends_step a input key sci an)
+    (keeps_ends inputs (ahead_step a input).1 key sci an)
   where
-    by_step : StaysUnless a (ahead_step a input).1 key sci an → KeepsEnds (ahead_step a input).1 inputs key sci an → KeepsEnds a (input ∷ inputs) key sci an
+    by_step : StaysUnless a (ahead_step a input).1 key sci an → KeepsEnds (ahead_step a input).1 inputs key sci an →
+        KeepsEnds a (input ∷ inputs) key sci an
     by_step (inl up) later = inl (given_up_later inputs (ahead_step a input).1 key up)
     by_step (inr grows) (inl up) = inl up
     by_step (inr grows) (inr later) = inr (omega (arith, grows, later))
@@ -169,7 +180,8 @@ keeps_ends (input ∷ inputs) a key sci an = by_step (ends_step a input key sci 
 -- ---- an SA that a step deletes
 
 -- a step of the endpoint keeps each SA, unless it is a command
-pub row_kept : (k : Keeping) (input : KeepingInput) (sci : Sci) (an n : ℕ) → KeepsAssociation sci an input → IsAbove k.secy.rx.rows sci an n → IsAbove (keeping_step k input).1.secy.rx.rows sci an n
+pub row_kept : (k : Keeping) (input : KeepingInput) (sci : Sci) (an n : ℕ) → KeepsAssociation sci an input →
+    IsAbove k.secy.rx.rows sci an n → IsAbove (keeping_step k input).1.secy.rx.rows sci an n
 row_kept k (now_durable r) sci an n stays above = above
 row_kept k (endpoint_input input) sci an n stays above = by_both (is_below_floor k input) (may_go k input)
   where
@@ -178,7 +190,8 @@ row_kept k (endpoint_input input) sci an n stays above = by_both (is_below_floor
     by_both false true = rx_rows_stay k.secy input sci an n stays above
     by_both false false = above
 
-pub not_gone : (k : Keeping) (input : KeepingInput) (row : RxRow) → KeepsAssociation row.sci row.an input → rx_row k.secy.rx.rows row.sci row.an ≡ Some row →
+pub not_gone : (k : Keeping) (input : KeepingInput) (row : RxRow) → KeepsAssociation row.sci row.an input →
+    rx_row k.secy.rx.rows row.sci row.an ≡ Some row →
     rx_row (keeping_step k input).1.secy.rx.rows row.sci row.an ≡ None → ⊥
 not_gone k input row stays there none =
     let above = row_kept k input row.sci row.an 0 stays (record { row = row; there = there; above = omega arith }) in
@@ -189,18 +202,23 @@ abbrev pub KeepsByRetiring : Command → KeepingOutput × Keeping → RxRow → 
 KeepsByRetiring (Retire n) answer row = rx_row answer.1.secy.rx.rows row.sci row.an ≡ None → ⊥
 KeepsByRetiring c answer row = Unit {0}
 
-remembers_command : (a : Ahead) (row : RxRow) → rx_row a.k.secy.rx.rows row.sci row.an ≡ Some row → (c : Command) (answer : KeepingOutput × Keeping) → KeepsByRetiring c answer row →
+remembers_command : (a : Ahead) (row : RxRow) → rx_row a.k.secy.rx.rows row.sci row.an ≡ Some row →
+    (c : Command) (answer : KeepingOutput × Keeping) → KeepsByRetiring c answer row →
     rx_row answer.1.secy.rx.rows row.sci row.an ≡ None →
-    end_of_row row ≤ end_of (after_retiring c (is_done answer.0) (with_ends (ended_by a.k.secy answer.1.secy) a.ended)) row.key row.sci row.an
+    end_of_row row ≤ end_of (after_retiring c (is_done answer.0) (with_ends (ended_by a.k.secy answer.1.secy) a.ended))
+    row.key row.sci row.an
 remembers_command a row there (Retire n) answer keeps none = absurd (keeps none)
 remembers_command a row there c answer keeps none = gone a.k.secy answer.1.secy a.ended row there none
 
-keeps_by_retiring : (k : Keeping) (row : RxRow) → rx_row k.secy.rx.rows row.sci row.an ≡ Some row → (c : Command) → KeepsByRetiring c (keeping_step k (endpoint_input (operator_command c))) row
+keeps_by_retiring : (k : Keeping) (row : RxRow) → rx_row k.secy.rx.rows row.sci row.an ≡ Some row → (c : Command) →
+    KeepsByRetiring c (keeping_step k (endpoint_input (operator_command c))) row
 keeps_by_retiring k row there (Retire n) = not_gone k (endpoint_input (operator_command (Retire n))) row refl there
 keeps_by_retiring k row there c = tt
 
-pub remembers_by : (c : Command) (answer : KeepingOutput × Keeping) (again : Bool) (it : Standing) (a : Ahead) (row : RxRow) → KeepsByRetiring c answer row → a.k.keeps ≡ true →
-    rx_row a.k.secy.rx.rows row.sci row.an ≡ Some row → rx_row (ahead_by again it a (operator_command c) answer).1.k.secy.rx.rows row.sci row.an ≡ None →
+pub remembers_by : (c : Command) (answer : KeepingOutput × Keeping) (again : Bool) (it : Standing) (a : Ahead)
+    (row : RxRow) → KeepsByRetiring c answer row → a.k.keeps ≡ true →
+    rx_row a.k.secy.rx.rows row.sci row.an ≡ Some row →
+    rx_row (ahead_by again it a (operator_command c) answer).1.k.secy.rx.rows row.sci row.an ≡ None →
     end_of_row row ≤ end_of (ahead_by again it a (operator_command c) answer).1.ended row.key row.sci row.an
 remembers_by c answer true it a row by keeps there none = let no = sym there ∙ none in cc
 remembers_by c answer false (not_yet at) a row by keeps there none = let no = sym there ∙ none in cc
@@ -208,11 +226,14 @@ remembers_by c answer false (before_this_run at) a row by keeps there none = let
 remembers_by c answer false passes a row by keeps there none =
     let more = after_retiring c (is_done answer.0) (with_ends (ended_by a.k.secy answer.1.secy) a.ended) in
     let all : ended_after a (operator_command c) answer ≡ more = ap (λ (b : Bool). if b then more else a.ended) keeps in
-    subst (λ (t : Ends). end_of_row row ≤ end_of t row.key row.sci row.an) (sym all) (remembers_command a row there c answer by none)
+    subst (λ (t : Ends). end_of_row row ≤ end_of t row.key row.sci row.an) (sym all)
+    (remembers_command a row there c answer by none)
 
 -- a step that is no command deletes no SA
-remembers_frame : (again : Bool) (it : Standing) (a : Ahead) (input : Input) (row : RxRow) → KeepsAssociation row.sci row.an (endpoint_input input) → rx_row a.k.secy.rx.rows row.sci row.an ≡ Some row →
-    rx_row (ahead_by again it a input (keeping_step a.k (endpoint_input input))).1.k.secy.rx.rows row.sci row.an ≡ None → ⊥
+remembers_frame : (again : Bool) (it : Standing) (a : Ahead) (input : Input) (row : RxRow) →
+    KeepsAssociation row.sci row.an (endpoint_input input) → rx_row a.k.secy.rx.rows row.sci row.an ≡ Some row →
+    rx_row (ahead_by again it a input (keeping_step a.k (endpoint_input input))).1.k.secy.rx.rows row.sci row.an ≡
+    None → ⊥
 remembers_frame true it a input row stays there none = let no = sym there ∙ none in cc
 remembers_frame false (not_yet at) a input row stays there none = let no = sym there ∙ none in cc
 remembers_frame false (before_this_run at) a input row stays there none = let no = sym there ∙ none in cc
@@ -221,16 +242,21 @@ remembers_frame false passes a input row stays there none = not_gone a.k (endpoi
 pub remembers_end : (a : Ahead) (input : KeepingInput) (row : RxRow) → RemembersEnd a input row
 remembers_end a (now_durable r) row keeps there none = let no = sym there ∙ none in cc
 remembers_end a (endpoint_input (operator_command c)) row keeps there none =
-    remembers_by c (keeping_step a.k (endpoint_input (operator_command c))) (begins_again a (operator_command c)) (standing a (operator_command c)) a row (keeps_by_retiring a.k row there c) keeps there none
-remembers_end a (endpoint_input (client_frame frame)) row keeps there none = absurd (remembers_frame false passes a (client_frame frame) row refl there none)
-remembers_end a (endpoint_input (uncontrolled_frame frame)) row keeps there none = absurd (remembers_frame false passes a (uncontrolled_frame frame) row refl there none)
-remembers_end a (endpoint_input (link_frame frame)) row keeps there none = absurd (remembers_frame false (standing a (link_frame frame)) a (link_frame frame) row refl there none)
+    remembers_by c (keeping_step a.k (endpoint_input (operator_command c))) (begins_again a (operator_command c))
+    (standing a (operator_command c)) a row (keeps_by_retiring a.k row there c) keeps there none
+remembers_end a (endpoint_input (client_frame frame)) row keeps there none =
+    absurd (remembers_frame false passes a (client_frame frame) row refl there none)
+remembers_end a (endpoint_input (uncontrolled_frame frame)) row keeps there none =
+    absurd (remembers_frame false passes a (uncontrolled_frame frame) row refl there none)
+remembers_end a (endpoint_input (link_frame frame)) row keeps there none =
+    absurd (remembers_frame false (standing a (link_frame frame)) a (link_frame frame) row refl there none)
 
 pub refuses_below_end : (a : Ahead) (sci : Sci) (an key ssci lowest : ℕ) → RefusesBelowEnd a sci an key ssci lowest
 refuses_below_end a sci an key ssci lowest least below =
     let input = operator_command (RxSa sci an key ssci lowest) in
     ap (λ (b : Bool). ahead_by b (standing a input) a input (keeping_step a.k (endpoint_input input)))
-    (and_from (nat_lt 0 lowest) (nat_le lowest (end_of a.ended key sci an)) (lt-ltb 0 lowest least) (le-leb lowest (end_of a.ended key sci an) below))
+    (and_from (nat_lt 0 lowest) (nat_le lowest (end_of a.ended key sci an)) (lt-ltb 0 lowest least)
+    (le-leb lowest (end_of a.ended key sci an) below))
 
 -- ---- what may have been accepted from an SA: below its lowest acceptable PN, and up to where it ended
 
@@ -242,24 +268,31 @@ abbrev pub past_of : Ahead → ℕ → Sci → ℕ → ℕ
 past_of a key sci an = max (row_end (rx_row a.k.secy.rx.rows sci an) key) (end_of a.ended key sci an)
 
 -- the same step of a keeping endpoint
-keeping_row_step : (k : Keeping) (input : Input) (sci : Sci) (an : ℕ) → RowStep input (rx_row k.secy.rx.rows sci an) (rx_row (keeping_step k (endpoint_input input)).1.secy.rx.rows sci an)
+keeping_row_step : (k : Keeping) (input : Input) (sci : Sci) (an : ℕ) →
+    RowStep input (rx_row k.secy.rx.rows sci an) (rx_row (keeping_step k (endpoint_input input)).1.secy.rx.rows sci an)
 keeping_row_step k input sci an = by_both (is_below_floor k input) (may_go k input)
   where
-    by_both : (below go : Bool) → RowStep input (rx_row k.secy.rx.rows sci an) (rx_row (by_tests below go k (step k.secy input)).1.secy.rx.rows sci an)
+    by_both : (below go : Bool) → RowStep input (rx_row k.secy.rx.rows sci an)
+        (rx_row (by_tests below go k (step k.secy input)).1.secy.rx.rows sci an)
     by_both true go = still input (rx_row k.secy.rx.rows sci an)
     by_both false true = row_step k.secy input sci an
     by_both false false = still input (rx_row k.secy.rx.rows sci an)
 
-pub ahead_row_step : (a : Ahead) (input : Input) (sci : Sci) (an : ℕ) → RowStep input (rx_row a.k.secy.rx.rows sci an) (rx_row (ahead_step a (endpoint_input input)).1.k.secy.rx.rows sci an)
+pub ahead_row_step : (a : Ahead) (input : Input) (sci : Sci) (an : ℕ) →
+    RowStep input (rx_row a.k.secy.rx.rows sci an)
+    (rx_row (ahead_step a (endpoint_input input)).1.k.secy.rx.rows sci an)
 ahead_row_step a input sci an = by_standing (begins_again a input) (standing a input)
   where
-    by_standing : (again : Bool) (it : Standing) → RowStep input (rx_row a.k.secy.rx.rows sci an) (rx_row (ahead_by again it a input (keeping_step a.k (endpoint_input input))).1.k.secy.rx.rows sci an)
+    by_standing : (again : Bool) (it : Standing) →
+        RowStep input (rx_row a.k.secy.rx.rows sci an)
+        (rx_row (ahead_by again it a input (keeping_step a.k (endpoint_input input))).1.k.secy.rx.rows sci an)
     by_standing true it = still input (rx_row a.k.secy.rx.rows sci an)
     by_standing false (not_yet at) = still input (rx_row a.k.secy.rx.rows sci an)
     by_standing false (before_this_run at) = still input (rx_row a.k.secy.rx.rows sci an)
     by_standing false passes = keeping_row_step a.k input sci an
 
-past_by : (input : Input) (o o' : Option RxRow) (key : ℕ) (old new : ℕ) → RowStep input o o' → old ≤ new → ((row : RxRow) → o ≡ Some row → o' ≡ None → row.key ≡ key → end_of_row row ≤ new) →
+past_by : (input : Input) (o o' : Option RxRow) (key : ℕ) (old new : ℕ) → RowStep input o o' → old ≤ new →
+    ((row : RxRow) → o ≡ Some row → o' ≡ None → row.key ≡ key → end_of_row row ≤ new) →
     max (row_end o key) old ≤ max (row_end o' key) new
 past_by input None o' key old new stepped grows ended = omega (arith, grows)
 past_by input (Some row) None key old new stepped grows ended = by_key (row.key == key) refl
@@ -268,7 +301,8 @@ past_by input (Some row) None key old new stepped grows ended = by_key (row.key 
     by_key false other = omega (arith, grows)
     by_key true same = omega (arith, grows, ended row refl refl (eqb-true row.key key same))
 past_by input (Some row) (Some later) key old new stepped grows ended =
-    subst (λ (n : ℕ). max (if row.key == key then end_of_row row else 0) old ≤ max (if n == key then end_of_row later else 0) new) (sym stepped.key) (by_key (row.key == key))
+    subst (λ (n : ℕ). max (if row.key == key then end_of_row row else 0) old ≤ max
+    (if n == key then end_of_row later else 0) new) (sym stepped.key) (by_key (row.key == key))
   where
     by_key : (b : Bool) → max (if b then end_of_row row else 0) old ≤ max (if b then end_of_row later else 0) new
     by_key false = omega (arith, grows)
@@ -283,34 +317,45 @@ past_step a (endpoint_input input) key sci an keeps = by_ends (ends_step a (endp
     after : Ahead
     after = (ahead_step a (endpoint_input input)).1
 
-    ended : (row : RxRow) → rx_row a.k.secy.rx.rows sci an ≡ Some row → rx_row after.k.secy.rx.rows sci an ≡ None → row.key ≡ key → end_of_row row ≤ end_of after.ended key sci an
+    ended : (row : RxRow) → rx_row a.k.secy.rx.rows sci an ≡ Some row → rx_row after.k.secy.rx.rows sci an ≡ None →
+        row.key ≡ key → end_of_row row ≤ end_of after.ended key sci an
     ended row there none of_key =
         let own = same_place row.sci sci row.an an (found_at a.k.secy.rx.rows sci an row there) in
-        let P : Sci → ℕ → Type 0 = λ x n. rx_row a.k.secy.rx.rows x n ≡ Some row → rx_row after.k.secy.rx.rows x n ≡ None → end_of_row row ≤ end_of after.ended row.key x n in
+        let P : Sci → ℕ → Type 0 = λ x n. rx_row a.k.secy.rx.rows x n ≡ Some row →
+        rx_row after.k.secy.rx.rows x n ≡ None → end_of_row row ≤ end_of after.ended row.key x n in
         let first : P row.sci row.an = λ there' none'. remembers_end a (endpoint_input input) row keeps there' none' in
         let second : P sci an = subst (P sci) own.1 (subst (λ (x : Sci). P x row.an) own.0 first) in
         subst (λ (n : ℕ). end_of_row row ≤ end_of after.ended n sci an) of_key (second there none)
 
-    by_ends : StaysUnless a after key sci an → IsGivenUp after.k.secy key ⊎ (past_of a key sci an ≤ past_of after key sci an)
+    by_ends : StaysUnless a after key sci an → IsGivenUp after.k.secy key
+        ⊎ (past_of a key sci an ≤ past_of after key sci an)
     by_ends (inl up) = inl up
     by_ends (inr grows) =
-        inr (past_by input (rx_row a.k.secy.rx.rows sci an) (rx_row after.k.secy.rx.rows sci an) key (end_of a.ended key sci an) (end_of after.ended key sci an)
+        inr (past_by input (rx_row a.k.secy.rx.rows sci an) (rx_row after.k.secy.rx.rows sci an) key
+        (end_of a.ended key sci an) (end_of after.ended key sci an)
         (ahead_row_step a input sci an) grows ended)
 
 -- an SA that a step creates begins above what may have been accepted from it under its key
-pub created_above : (a : Ahead) (input : KeepingInput) (sci : Sci) (an : ℕ) (row : RxRow) → rx_row a.k.secy.rx.rows sci an ≡ None →
-    rx_row (ahead_step a input).1.k.secy.rx.rows sci an ≡ Some row → lets_through a input ≡ true → past_of a row.key sci an < row.next
+pub created_above : (a : Ahead) (input : KeepingInput) (sci : Sci) (an : ℕ) (row : RxRow) →
+    rx_row a.k.secy.rx.rows sci an ≡ None →
+    rx_row (ahead_step a input).1.k.secy.rx.rows sci an ≡ Some row → lets_through a input ≡ true →
+    past_of a row.key sci an < row.next
 created_above a (now_durable r) sci an row none there lets = let no = sym none ∙ there in cc
 created_above a (endpoint_input input) sci an row none there lets =
     let created : IsCreatedBy input row =
-    subst (λ (o : Option RxRow). RowStep input o (Some row)) none (subst (RowStep input (rx_row a.k.secy.rx.rows sci an)) there (ahead_row_step a input sci an)) in
+    subst (λ (o : Option RxRow). RowStep input o (Some row)) none
+    (subst (RowStep input (rx_row a.k.secy.rx.rows sci an)) there (ahead_row_step a input sci an)) in
     let new : begins_again a (operator_command (RxSa row.sci row.an row.key created.ssci row.lowest)) ≡ false =
     ap (begins_again a) (sym created.is) ∙ not_again (begins_again a input) (standing a input) lets in
-    let own = same_place row.sci sci row.an an (found_at (ahead_step a (endpoint_input input)).1.k.secy.rx.rows sci an row there) in
-    let above : end_of a.ended row.key row.sci row.an < row.lowest = first_new row.lowest (end_of a.ended row.key row.sci row.an) created.least new in
+    let own = same_place row.sci sci row.an an (found_at
+    (ahead_step a (endpoint_input input)).1.k.secy.rx.rows sci an row there) in
+    let above : end_of a.ended row.key row.sci row.an < row.lowest =
+    first_new row.lowest (end_of a.ended row.key row.sci row.an) created.least new in
     let here : end_of a.ended row.key sci an < row.lowest =
-    subst (λ (n : ℕ). end_of a.ended row.key sci n < row.lowest) own.1 (subst (λ (x : Sci). end_of a.ended row.key x row.an < row.lowest) own.0 above) in
-    subst (λ (o : Option RxRow). max (row_end o row.key) (end_of a.ended row.key sci an) < row.next) (sym none) (omega (arith, here, created.next))
+    subst (λ (n : ℕ). end_of a.ended row.key sci n < row.lowest) own.1
+    (subst (λ (x : Sci). end_of a.ended row.key x row.an < row.lowest) own.0 above) in
+    subst (λ (o : Option RxRow). max (row_end o row.key) (end_of a.ended row.key sci an) < row.next) (sym none)
+    (omega (arith, here, created.next))
   where
     not_again : (again : Bool) (it : Standing) → is_through again it ≡ true → again ≡ false
     not_again true it is = cc

@@ -16,7 +16,7 @@ use Rattle.macsec_secy.specs.Kept.{IsAbove}
 use Rattle.macsec_secy.specs.Reception.{judgement_of, state_after_receiving}
 use Rattle.macsec_secy.specs.Sound.{IsSound}
 use Rattle.macsec_secy.specs.State.{State}
-use Rattle.macsec_secy.specs.Step.{client_frame, link_frame, operator_command, received_output, step, uncontrolled_frame, unless_fault}
+use Rattle.macsec_secy.specs.Step.{link_frame, operator_command, received_output, step, unless_fault}
 use Rattle.macsec_secy.proofs.GivenUp.{stays_replaced}
 use Rattle.macsec_link.proofs.EndpointLaws.{EndpointLaws}
 use Rattle.macsec_reserve.specs.declared.reservation.Reservation.{Reservation}
@@ -42,11 +42,14 @@ use Rattle.macsec_restarts.proofs.SameBut.{judged_same, name_same, row_there}
 -- ---- what forgetting leaves
 
 -- the receive SAs are those of the keeping endpoint's step
-same_rx : (k : Keeping) (input : KeepingInput) → (forgetting_step k input).1.secy.rx ≡ (keeping_step k (taken k input)).1.secy.rx
-same_rx k input = forgets_field (λ (x : Keeping). x.secy.rx) (λ x n. refl) (retired_by input) (keeping_step k (taken k input))
+same_rx : (k : Keeping) (input : KeepingInput) →
+    (forgetting_step k input).1.secy.rx ≡ (keeping_step k (taken k input)).1.secy.rx
+same_rx k input = forgets_field (λ (x : Keeping). x.secy.rx) (λ x n. refl) (retired_by input)
+    (keeping_step k (taken k input))
 
 -- a key that is given up stays given up
-still_given_up : (o : Option ℕ) (answer : KeepingOutput × Keeping) (m : ℕ) → IsGivenUp answer.1.secy m → IsGivenUp (then_forget o answer).1.secy m
+still_given_up : (o : Option ℕ) (answer : KeepingOutput × Keeping) (m : ℕ) → IsGivenUp answer.1.secy m →
+    IsGivenUp (then_forget o answer).1.secy m
 still_given_up None answer m up = up
 still_given_up (Some n) answer m up = by_both (is_done answer.0 && can_forget answer.1 n)
   where
@@ -54,24 +57,28 @@ still_given_up (Some n) answer m up = by_both (is_done answer.0 && can_forget an
     by_both true = stays_replaced answer.1.secy m n (fingerprint_of answer.1 n) up
     by_both false = up
 
-given_up_forgetting : (k : Keeping) (input : KeepingInput) (n : ℕ) → IsGivenUp k.secy n → IsGivenUp (forgetting_step k input).1.secy n
-given_up_forgetting k input n up = still_given_up (retired_by input) (keeping_step k (taken k input)) n (keeps_given_up k (taken k input) n up)
+given_up_forgetting : (k : Keeping) (input : KeepingInput) (n : ℕ) → IsGivenUp k.secy n →
+    IsGivenUp (forgetting_step k input).1.secy n
+given_up_forgetting k input n up = still_given_up (retired_by input) (keeping_step k (taken k input)) n
+    (keeps_given_up k (taken k input) n up)
 
 given_up_by : (c : Command) (again : Bool) (a : Ahead) (n : ℕ) → IsGivenUp a.k.secy n →
-    IsGivenUp (ahead_by again passes a (operator_command c) (forgetting_step a.k (endpoint_input (operator_command c)))).1.k.secy n
+    IsGivenUp (ahead_by again passes a (operator_command c)
+    (forgetting_step a.k (endpoint_input (operator_command c)))).1.k.secy n
 given_up_by c true a n up = up
 given_up_by c false a n up = given_up_forgetting a.k (endpoint_input (operator_command c)) n up
 
-given_up_step : (a : Ahead) (input : KeepingInput) (n : ℕ) → IsGivenUp a.k.secy n → IsGivenUp (ahead_forgetting_step a input).1.k.secy n
+given_up_step : (a : Ahead) (input : KeepingInput) (n : ℕ) → IsGivenUp a.k.secy n →
+    IsGivenUp (ahead_forgetting_step a input).1.k.secy n
 given_up_step a (now_durable r) n up = given_up_stays a (now_durable r) n up
 given_up_step a (endpoint_input (operator_command c)) n up = given_up_by c (begins_again a (operator_command c)) a n up
-given_up_step a (endpoint_input (client_frame frame)) n up = given_up_stays a (endpoint_input (client_frame frame)) n up
-given_up_step a (endpoint_input (uncontrolled_frame frame)) n up = given_up_stays a (endpoint_input (uncontrolled_frame frame)) n up
-given_up_step a (endpoint_input (link_frame frame)) n up = given_up_stays a (endpoint_input (link_frame frame)) n up
+given_up_step a input n up = given_up_stays a input n up
 
-given_up_later : (inputs : List KeepingInput) (a : Ahead) (n : ℕ) → IsGivenUp a.k.secy n → IsGivenUp (ahead_forgetting_after a inputs).k.secy n
+given_up_later : (inputs : List KeepingInput) (a : Ahead) (n : ℕ) → IsGivenUp a.k.secy n →
+    IsGivenUp (ahead_forgetting_after a inputs).k.secy n
 given_up_later [] a n up = up
-given_up_later (input ∷ inputs) a n up = given_up_later inputs (ahead_forgetting_step a input).1 n (given_up_step a input n up)
+given_up_later (input ∷ inputs) a n up = given_up_later inputs (ahead_forgetting_step a input).1 n
+    (given_up_step a input n up)
 
 -- ---- deleted SAs
 
@@ -80,74 +87,90 @@ gives_up k (Retire n) = λ done'.
     still_given_up (Some n) (keeping_step k (endpoint_input (operator_command (Retire n)))) n (retires k n done')
 gives_up k c = tt
 
-forgetting_ends_step : (a : Ahead) (input : KeepingInput) (key : ℕ) (sci : Sci) (an : ℕ) → StaysUnless a (ahead_forgetting_step a input).1 key sci an
+forgetting_ends_step : (a : Ahead) (input : KeepingInput) (key : ℕ) (sci : Sci) (an : ℕ) →
+    StaysUnless a (ahead_forgetting_step a input).1 key sci an
 forgetting_ends_step a (now_durable r) key sci an = ends_step a (now_durable r) key sci an
 forgetting_ends_step a (endpoint_input (operator_command c)) key sci an =
-    after_command c (forgetting_step a.k (endpoint_input (operator_command c))) (gives_up a.k c) (begins_again a (operator_command c)) passes a key sci an
-forgetting_ends_step a (endpoint_input (client_frame frame)) key sci an = ends_step a (endpoint_input (client_frame frame)) key sci an
-forgetting_ends_step a (endpoint_input (uncontrolled_frame frame)) key sci an = ends_step a (endpoint_input (uncontrolled_frame frame)) key sci an
-forgetting_ends_step a (endpoint_input (link_frame frame)) key sci an = ends_step a (endpoint_input (link_frame frame)) key sci an
+    after_command c (forgetting_step a.k (endpoint_input (operator_command c))) (gives_up a.k c)
+    (begins_again a (operator_command c)) passes a key sci an
+forgetting_ends_step a input key sci an = ends_step a input key sci an
 
-pub keeps_ends_forgetting : (inputs : List KeepingInput) (a : Ahead) (key : ℕ) (sci : Sci) (an : ℕ) → KeepsEndsForgetting a inputs key sci an
+pub keeps_ends_forgetting : (inputs : List KeepingInput) (a : Ahead) (key : ℕ) (sci : Sci) (an : ℕ) →
+    KeepsEndsForgetting a inputs key sci an
 keeps_ends_forgetting [] a key sci an = inr (omega arith)
-keeps_ends_forgetting (input ∷ inputs) a key sci an = by_step (forgetting_ends_step a input key sci an) (keeps_ends_forgetting inputs (ahead_forgetting_step a input).1 key sci an)
+keeps_ends_forgetting (input ∷ inputs) a key sci an =
+    by_step (forgetting_ends_step a input key sci an)
+    (keeps_ends_forgetting inputs (ahead_forgetting_step a input).1 key sci an)
   where
-    by_step : StaysUnless a (ahead_forgetting_step a input).1 key sci an → KeepsEndsForgetting (ahead_forgetting_step a input).1 inputs key sci an → KeepsEndsForgetting a (input ∷ inputs) key sci an
+    by_step : StaysUnless a (ahead_forgetting_step a input).1 key sci an →
+        KeepsEndsForgetting (ahead_forgetting_step a input).1 inputs key sci an →
+        KeepsEndsForgetting a (input ∷ inputs) key sci an
     by_step (inl up) later = inl (given_up_later inputs (ahead_forgetting_step a input).1 key up)
     by_step (inr grows) (inl up) = inl up
     by_step (inr grows) (inr later) = inr (omega (arith, grows, later))
 
-keeps_by_retiring : (k : Keeping) (row : RxRow) → rx_row k.secy.rx.rows row.sci row.an ≡ Some row → (c : Command) → KeepsByRetiring c (forgetting_step k (endpoint_input (operator_command c))) row
+keeps_by_retiring : (k : Keeping) (row : RxRow) → rx_row k.secy.rx.rows row.sci row.an ≡ Some row → (c : Command) →
+    KeepsByRetiring c (forgetting_step k (endpoint_input (operator_command c))) row
 keeps_by_retiring k row there (Retire n) = λ none.
     not_gone k (endpoint_input (operator_command (Retire n))) row refl there
-    (subst (λ (rx : Channels). rx_row rx.rows row.sci row.an ≡ None) (same_rx k (endpoint_input (operator_command (Retire n)))) none)
+    (subst (λ (rx : Channels). rx_row rx.rows row.sci row.an ≡ None)
+    (same_rx k (endpoint_input (operator_command (Retire n)))) none)
 keeps_by_retiring k row there c = tt
 
 pub remembers_end_forgetting : (a : Ahead) (input : KeepingInput) (row : RxRow) → RemembersEndForgetting a input row
 remembers_end_forgetting a (now_durable r) row = remembers_end a (now_durable r) row
 remembers_end_forgetting a (endpoint_input (operator_command c)) row = λ keeps there none.
-    remembers_by c (forgetting_step a.k (endpoint_input (operator_command c))) (begins_again a (operator_command c)) passes a row (keeps_by_retiring a.k row there c) keeps there none
-remembers_end_forgetting a (endpoint_input (client_frame frame)) row = remembers_end a (endpoint_input (client_frame frame)) row
-remembers_end_forgetting a (endpoint_input (uncontrolled_frame frame)) row = remembers_end a (endpoint_input (uncontrolled_frame frame)) row
-remembers_end_forgetting a (endpoint_input (link_frame frame)) row = remembers_end a (endpoint_input (link_frame frame)) row
+    remembers_by c (forgetting_step a.k (endpoint_input (operator_command c)))
+    (begins_again a (operator_command c)) passes a row (keeps_by_retiring a.k row there c) keeps there none
+remembers_end_forgetting a input row = remembers_end a input row
 
-pub refuses_below_end_forgetting : (a : Ahead) (sci : Sci) (an key ssci lowest : ℕ) → RefusesBelowEndForgetting a sci an key ssci lowest
+pub refuses_below_end_forgetting : (a : Ahead) (sci : Sci) (an key ssci lowest : ℕ) →
+    RefusesBelowEndForgetting a sci an key ssci lowest
 refuses_below_end_forgetting a sci an key ssci lowest least below =
     let input = operator_command (RxSa sci an key ssci lowest) in
     ap (λ (b : Bool). ahead_by b passes a input (forgetting_step a.k (endpoint_input input)))
-    (and_from (nat_lt 0 lowest) (nat_le lowest (end_of a.ended key sci an)) (lt-ltb 0 lowest least) (le-leb lowest (end_of a.ended key sci an) below))
+    (and_from (nat_lt 0 lowest) (nat_le lowest (end_of a.ended key sci an)) (lt-ltb 0 lowest least)
+    (le-leb lowest (end_of a.ended key sci an) below))
 
 -- ---- an SA that is not deleted keeps its next number
 
-keeps_taken : (k : Keeping) (sci : Sci) (an : ℕ) (input : KeepingInput) → KeepsAssociation sci an input → KeepsAssociation sci an (taken k input)
+keeps_taken : (k : Keeping) (sci : Sci) (an : ℕ) (input : KeepingInput) → KeepsAssociation sci an input →
+    KeepsAssociation sci an (taken k input)
 keeps_taken k sci an (now_durable r) keeps = tt
 keeps_taken k sci an (endpoint_input (operator_command (Key key))) keeps = refl
 keeps_taken k sci an (endpoint_input input) keeps = keeps
 
-above_forgetting : (a : Ahead) (input : KeepingInput) (sci : Sci) (an n : ℕ) → KeepsAssociation sci an input → IsAbove a.k.secy.rx.rows sci an n →
+above_forgetting : (a : Ahead) (input : KeepingInput) (sci : Sci) (an n : ℕ) → KeepsAssociation sci an input →
+    IsAbove a.k.secy.rx.rows sci an n →
     IsAbove (ahead_forgetting_step a input).1.k.secy.rx.rows sci an n
 above_forgetting a input sci an n keeps above = by_test (lets_through a input) refl
   where
     by_test : (b : Bool) → lets_through a input ≡ b → IsAbove (ahead_forgetting_step a input).1.k.secy.rx.rows sci an n
     by_test true lets =
         subst (λ (k : Keeping). IsAbove k.secy.rx.rows sci an n) (sym (forgets_inside a input lets))
-        (subst (λ (rx : Channels). IsAbove rx.rows sci an n) (sym (same_rx a.k input)) (row_kept a.k (taken a.k input) sci an n (keeps_taken a.k sci an input keeps) above))
-    by_test false lets = subst (λ (x : Ahead). IsAbove x.k.secy.rx.rows sci an n) (sym (forgetting_stays a input lets)) above
+        (subst (λ (rx : Channels). IsAbove rx.rows sci an n) (sym (same_rx a.k input))
+        (row_kept a.k (taken a.k input) sci an n (keeps_taken a.k sci an input keeps) above))
+    by_test false lets = subst (λ (x : Ahead). IsAbove x.k.secy.rx.rows sci an n)
+        (sym (forgetting_stays a input lets)) above
 
-above_ahead : (a : Ahead) (input : KeepingInput) (sci : Sci) (an n : ℕ) → KeepsAssociation sci an input → IsAbove a.k.secy.rx.rows sci an n →
+above_ahead : (a : Ahead) (input : KeepingInput) (sci : Sci) (an n : ℕ) → KeepsAssociation sci an input →
+    IsAbove a.k.secy.rx.rows sci an n →
     IsAbove (ahead_step a input).1.k.secy.rx.rows sci an n
 above_ahead a input sci an n keeps above = by_test (lets_through a input) refl
   where
     by_test : (b : Bool) → lets_through a input ≡ b → IsAbove (ahead_step a input).1.k.secy.rx.rows sci an n
-    by_test true lets = subst (λ (k : Keeping). IsAbove k.secy.rx.rows sci an n) (sym (step_inside a input true lets)) (row_kept a.k input sci an n keeps above)
+    by_test true lets = subst (λ (k : Keeping). IsAbove k.secy.rx.rows sci an n) (sym (step_inside a input true lets))
+        (row_kept a.k input sci an n keeps above)
     by_test false lets = subst (λ (x : Ahead). IsAbove x.k.secy.rx.rows sci an n) (sym (stays a input lets)) above
 
-above_on : (forgets : Bool) (inputs : List KeepingInput) (a : Ahead) (sci : Sci) (an n : ℕ) → All (KeepsAssociation sci an) inputs → IsAbove a.k.secy.rx.rows sci an n →
+above_on : (forgets : Bool) (inputs : List KeepingInput) (a : Ahead) (sci : Sci) (an n : ℕ) →
+    All (KeepsAssociation sci an) inputs → IsAbove a.k.secy.rx.rows sci an n →
     IsAbove (after_with forgets a inputs).k.secy.rx.rows sci an n
 above_on true [] a sci an n keeps above = above
 above_on false [] a sci an n keeps above = above
 above_on true (input ∷ inputs) a sci an n keeps above =
-    above_on true inputs (ahead_forgetting_step a input).1 sci an n (All-tail (KeepsAssociation sci an) input inputs keeps)
+    above_on true inputs (ahead_forgetting_step a input).1 sci an n
+    (All-tail (KeepsAssociation sci an) input inputs keeps)
     (above_forgetting a input sci an n (All-head (KeepsAssociation sci an) input inputs keeps) above)
 above_on false (input ∷ inputs) a sci an n keeps above =
     above_on false inputs (ahead_step a input).1 sci an n (All-tail (KeepsAssociation sci an) input inputs keeps)
@@ -156,10 +179,12 @@ above_on false (input ∷ inputs) a sci an n keeps above =
 -- ---- what is delivered is above what the journal had saved
 
 module _ (alike : KeepersAlike) (fresh : Fresh) where
-  above_saved : (forgets other : Bool) (later : Run) (inputs : List KeepingInput) (frame : List ℕ) (row : RxRow) (delivered : List ℕ) →
+  above_saved : (forgets other : Bool) (later : Run) (inputs : List KeepingInput) (frame : List ℕ) (row : RxRow)
+      (delivered : List ℕ) →
       let s = (after_with forgets (opening_with other later) inputs).k.secy in
       ((m : ℕ) → IsSound (after_with forgets (opening_with other later) (take m inputs)).k.secy) →
-      s.options.replay ≡ true → (judgement_of s frame).row ≡ Some row → (judgement_of s frame).delivered ≡ Some delivered →
+      s.options.replay ≡ true → (judgement_of s frame).row ≡ Some row →
+      (judgement_of s frame).delivered ≡ Some delivered →
       highest (reservations later.journal) (row_name (salt_of later.journal) s row) < (judgement_of s frame).number
   above_saved true other later inputs frame row delivered sound replay of_row delivers =
       let r : RunWith = record { ahead = other; run = record later { inputs = inputs } } in
@@ -171,16 +196,22 @@ module _ (alike : KeepersAlike) (fresh : Fresh) where
       let judged = judged_same s t same unused frame in
       let replay' : s.options.replay ≡ true = sym (ap (λ (x : State). x.options.replay) same.same) ∙ replay in
       let of_row' : (judgement_of s frame).row ≡ Some row = sym (ap (λ j. j.row) judged) ∙ of_row in
-      let above : highest (reservations later.journal) (row_name (salt_of later.journal) s row) < (judgement_of s frame).number =
+      let above : highest (reservations later.journal)
+      (row_name (salt_of later.journal) s row) < (judgement_of s frame).number =
       fresh q q.inputs frame row delivered replay' of_row' (sym (ap (λ j. j.delivered) judged) ∙ delivers) in
-      subst (λ (n : ℕ). highest (reservations later.journal) (row_name (salt_of later.journal) t row) < n) (sym (ap (λ j. j.number) judged))
-      (subst (λ (n : List ℕ). highest (reservations later.journal) n < (judgement_of s frame).number) (sym (name_same s t same unused (salt_of later.journal) row (row_there s frame row of_row'))) above)
+      subst (λ (n : ℕ). highest (reservations later.journal) (row_name (salt_of later.journal) t row) < n)
+      (sym (ap (λ j. j.number) judged))
+      (subst (λ (n : List ℕ). highest (reservations later.journal) n < (judgement_of s frame).number)
+      (sym (name_same s t same unused (salt_of later.journal) row (row_there s frame row of_row'))) above)
   above_saved false other later inputs frame row delivered sound replay of_row delivers =
       let q : Run = record later { inputs = through (opening_with other later) inputs } in
       let P : Keeping → Type 0 = λ k.
-      k.secy.options.replay ≡ true → (judgement_of k.secy frame).row ≡ Some row → (judgement_of k.secy frame).delivered ≡ Some delivered →
-      highest (reservations later.journal) (row_name (salt_of later.journal) k.secy row) < (judgement_of k.secy frame).number in
-      let there : P (closing q) = λ replay' of_row' delivers'. fresh q q.inputs frame row delivered replay' of_row' delivers' in
+      k.secy.options.replay ≡ true → (judgement_of k.secy frame).row ≡ Some row →
+      (judgement_of k.secy frame).delivered ≡ Some delivered →
+      highest (reservations later.journal) (row_name
+      (salt_of later.journal) k.secy row) < (judgement_of k.secy frame).number in
+      let there : P (closing q) = λ replay' of_row' delivers'. fresh q q.inputs frame row delivered replay' of_row'
+      delivers' in
       subst P (sym (k_inside inputs (opening_with other later))) there replay of_row delivers
 
 -- ---- what a list has it reserves
@@ -190,13 +221,15 @@ has_highest [] = All-nil (λ (x : Reservation). x.last ≤ 0)
 has_highest (y ∷ ys) =
     let P : Reservation → Type 0 = λ x. x.last ≤ highest (y ∷ ys) x.name in
     All-cons P y ys (own (same_octets y.name y.name) (same_octets-refl y.name))
-    (All-weaker (λ (x : Reservation). x.last ≤ highest ys x.name) P (λ x less. later x (same_octets y.name x.name) less) ys (has_highest ys))
+    (All-weaker (λ (x : Reservation). x.last ≤ highest ys x.name) P
+    (λ x less. later x (same_octets y.name x.name) less) ys (has_highest ys))
   where
     own : (b : Bool) → b ≡ true → y.last ≤ (if b then max y.last (highest ys y.name) else highest ys y.name)
     own true is = omega arith
     own false is = cc
 
-    later : (x : Reservation) (b : Bool) → x.last ≤ highest ys x.name → x.last ≤ (if b then max y.last (highest ys x.name) else highest ys x.name)
+    later : (x : Reservation) (b : Bool) → x.last ≤ highest ys x.name →
+        x.last ≤ (if b then max y.last (highest ys x.name) else highest ys x.name)
     later x true less = omega (arith, less)
     later x false less = less
 
@@ -206,42 +239,61 @@ abbrev pub Saves : Type 0
 Saves = (salt : List ℕ) (s : State) (sci : Sci) (an : ℕ) (row : RxRow) (n : ℕ) → SavesAccepted salt s sci an row n
 
 module _ (alike : KeepersAlike) (laws : EndpointLaws) (fresh : Fresh) (saves : Saves) where
-  pub never_delivers_again_with : (forgets ahead other : Bool) (run later : Run) (name : List ℕ) (n : ℕ) → NeverDeliversAgainWith forgets ahead other run later name n
-  never_delivers_again_with forgets ahead other run later name n saved reads inputs frame row delivered sound replay of_row delivers is_name =
+  pub never_delivers_again_with : (forgets ahead other : Bool) (run later : Run) (name : List ℕ) (n : ℕ) →
+      NeverDeliversAgainWith forgets ahead other run later name n
+  never_delivers_again_with forgets ahead other run later name n saved reads inputs frame row delivered sound replay
+      of_row delivers is_name =
       let l = after_with forgets (opening_with ahead run) saved.before in
       let s = l.k.secy in
       let j = judgement_of s saved.frame in
       let link = endpoint_input (link_frame saved.frame) in
-      let tells : IsDeliveredFrom s saved.frame saved.from saved.accepted.delivered = laws.delivers s saved.frame saved.from saved.accepted.delivered saved.sound saved.accepted.row saved.accepted.gives in
-      let accepted : IsAbove (state_after_receiving s saved.frame j).rx.rows saved.from.sci saved.from.an (j.number + 1) = tells.accepted saved.accepted.step in
+      let tells : IsDeliveredFrom s saved.frame saved.from saved.accepted.delivered =
+      laws.delivers s saved.frame saved.from saved.accepted.delivered saved.sound saved.accepted.row
+      saved.accepted.gives in
+      let accepted : IsAbove (state_after_receiving s saved.frame j).rx.rows saved.from.sci saved.from.an
+      (j.number + 1) = tells.accepted saved.accepted.step in
       let stepped : IsAbove (step s (link_frame saved.frame)).1.rx.rows saved.from.sci saved.from.an (j.number + 1) =
-      subst (λ (f : Option FrameFault). IsAbove (unless_fault f s (received_output saved.frame j, state_after_receiving s saved.frame j)).1.rx.rows saved.from.sci saved.from.an (j.number + 1))
+      subst (λ (f : Option FrameFault). IsAbove (unless_fault f s
+      (received_output saved.frame j, state_after_receiving s saved.frame j)).1.rx.rows saved.from.sci saved.from.an
+      (j.number + 1))
       (sym saved.accepted.fits) accepted in
       let kept : IsAbove (keeping_step l.k link).1.secy.rx.rows saved.from.sci saved.from.an (j.number + 1) =
-      subst (λ (a : KeepingOutput × Keeping). IsAbove a.1.secy.rx.rows saved.from.sci saved.from.an (j.number + 1)) (sym (received_step l.k saved.frame)) stepped in
+      subst (λ (a : KeepingOutput × Keeping). IsAbove a.1.secy.rx.rows saved.from.sci saved.from.an (j.number + 1))
+      (sym (received_step l.k saved.frame)) stepped in
       let first : IsAbove (ahead_forgetting_step l link).1.k.secy.rx.rows saved.from.sci saved.from.an (n + 1) =
-      subst (λ (m : ℕ). IsAbove (ahead_forgetting_step l link).1.k.secy.rx.rows saved.from.sci saved.from.an (m + 1)) saved.number
-      (subst (λ (k : Keeping). IsAbove k.secy.rx.rows saved.from.sci saved.from.an (j.number + 1)) (sym (step_inside l link true saved.passes)) kept) in
+      subst (λ (m : ℕ). IsAbove (ahead_forgetting_step l link).1.k.secy.rx.rows saved.from.sci saved.from.an (m + 1))
+      saved.number
+      (subst (λ (k : Keeping). IsAbove k.secy.rx.rows saved.from.sci saved.from.an (j.number + 1))
+      (sym (step_inside l link true saved.passes)) kept) in
       let at_last : IsAbove saved.last.k.secy.rx.rows saved.from.sci saved.from.an (n + 1) =
       subst (λ (x : Ahead). IsAbove x.k.secy.rx.rows saved.from.sci saved.from.an (n + 1)) (sym saved.last_is)
-      (above_on forgets saved.then_on (ahead_forgetting_step l link).1 saved.from.sci saved.from.an (n + 1) saved.keeps first) in
-      let one : at_last.row ≡ saved.row = ap (λ (o : Option RxRow). unwrap_or o saved.row) (sym at_last.there ∙ saved.there) in
+      (above_on forgets saved.then_on (ahead_forgetting_step l link).1 saved.from.sci saved.from.an
+      (n + 1) saved.keeps first) in
+      let one : at_last.row ≡ saved.row = ap (λ (o : Option RxRow). unwrap_or o saved.row)
+      (sym at_last.there ∙ saved.there) in
       let next : n + 1 ≤ saved.row.next = subst (λ (x : RxRow). n + 1 ≤ x.next) one at_last.above in
       let covers : n ≤ (saved_for saved.last.k.salt saved.last.k.secy saved.row).last =
-      saves saved.last.k.salt saved.last.k.secy saved.from.sci saved.from.an saved.row n saved.sound_last saved.window saved.there (omega (arith, next)) in
-      let granted : (saved_for saved.last.k.salt saved.last.k.secy saved.row).last ≤ highest (reported run) (row_name saved.last.k.salt saved.last.k.secy saved.row) =
-      All-contains (λ (x : Reservation). x.last ≤ highest (reported run) x.name) (reported run) (saved_for saved.last.k.salt saved.last.k.secy saved.row) (has_highest (reported run)) saved.durable in
+      saves saved.last.k.salt saved.last.k.secy saved.from.sci saved.from.an saved.row n saved.sound_last saved.window
+      saved.there (omega (arith, next)) in
+      let granted : (saved_for saved.last.k.salt saved.last.k.secy saved.row).last ≤ highest (reported run)
+      (row_name saved.last.k.salt saved.last.k.secy saved.row) =
+      All-contains (λ (x : Reservation). x.last ≤ highest (reported run) x.name) (reported run)
+      (saved_for saved.last.k.salt saved.last.k.secy saved.row) (has_highest (reported run)) saved.durable in
       let under : (saved_for saved.last.k.salt saved.last.k.secy saved.row).last ≤ highest (reported run) name =
-      subst (λ (m : List ℕ). (saved_for saved.last.k.salt saved.last.k.secy saved.row).last ≤ highest (reported run) m) saved.name_is granted in
+      subst (λ (m : List ℕ). (saved_for saved.last.k.salt saved.last.k.secy saved.row).last ≤ highest (reported run) m)
+      saved.name_is granted in
       let t = (after_with forgets (opening_with other later) inputs).k.secy in
       let above : highest (reservations later.journal) name < (judgement_of t frame).number =
       subst (λ (m : List ℕ). highest (reservations later.journal) m < (judgement_of t frame).number) is_name
       (above_saved alike fresh forgets other later inputs frame row delivered sound replay of_row delivers) in
       omega (arith, covers, under, reads, above)
 
-  pub never_delivers_again_under_with : (forgets ahead other : Bool) (run later : Run) (bytes : List ℕ) (sci : Sci) (an n : ℕ) → NeverDeliversAgainUnderWith forgets ahead other run later bytes sci an n
-  never_delivers_again_under_with forgets ahead other run later bytes sci an n saved salt reads inputs frame row delivered sound replay of_row delivers is_key is_sci is_an =
-      never_delivers_again_with forgets ahead other run later (receiving_name (sending_name (salt_of run.journal) bytes) sci an) n saved reads
+  pub never_delivers_again_under_with : (forgets ahead other : Bool) (run later : Run) (bytes : List ℕ) (sci : Sci)
+      (an n : ℕ) → NeverDeliversAgainUnderWith forgets ahead other run later bytes sci an n
+  never_delivers_again_under_with forgets ahead other run later bytes sci an n saved salt reads inputs frame row
+      delivered sound replay of_row delivers is_key is_sci is_an =
+      never_delivers_again_with forgets ahead other run later
+      (receiving_name (sending_name (salt_of run.journal) bytes) sci an) n saved reads
       inputs frame row delivered sound replay of_row delivers
       (ap (λ (b : List ℕ). receiving_name (sending_name (salt_of later.journal) b) row.sci row.an) is_key
       ∙ ap (λ (x : List ℕ). receiving_name (sending_name x bytes) row.sci row.an) salt

@@ -62,16 +62,19 @@ opened_same s t same unused frame =
     ap (λ (j : Judgement). use_opened_in t j j.row (reading frame)) (judged_same s t same unused frame)
     ∙ by_row (judgement_of s frame) (judgement_of s frame).row (reading frame) (λ row is. row_there s frame row is)
   where
-    by_row : (j : Judgement) (o : Option RxRow) (r : Reading) → ((row : RxRow) → o ≡ Some row → IsMember s.rx.rows row) → use_opened_in t j o r ≡ use_opened_in s j o r
+    by_row : (j : Judgement) (o : Option RxRow) (r : Reading) →
+        ((row : RxRow) → o ≡ Some row → IsMember s.rx.rows row) → use_opened_in t j o r ≡ use_opened_in s j o r
     by_row j None r there = refl
     by_row j (Some row) untagged there = refl
     by_row j (Some row) (bad fault) there = refl
     by_row j (Some row) (tagged p) there =
-        ap (λ (k : Option InstalledKey). if j.step == 13 then Some (use_to_open (unwrap_or k no_key) row j.number p) else None) (rx_key s t same unused row (there row refl))
+        ap (λ (k : Option InstalledKey). if j.step == 13 then Some (use_to_open (unwrap_or k no_key) row j.number p)
+        else None) (rx_key s t same unused row (there row refl))
 
 -- ---- the runs of the endpoints that forget none
 
-last_inside : (rs : List RunWith) → (r : RunWith) → last_of rs ≡ Some r → last_run (map inside_of rs) ≡ Some (inside_of r)
+last_inside : (rs : List RunWith) → (r : RunWith) → last_of rs ≡ Some r →
+    last_run (map inside_of rs) ≡ Some (inside_of r)
 last_inside [] r last = cc
 last_inside (p ∷ []) r last = ap (λ (o : Option RunWith). Some (inside_of (unwrap_or o r))) last
 last_inside (p ∷ q ∷ more) r last = last_inside (q ∷ more) r last
@@ -83,16 +86,21 @@ last_there (p ∷ q ∷ more) r last = inr (last_there (q ∷ more) r last)
 
 module _ (alike : KeepersAlike) where
   sounds_inside : (rs : List RunWith) → All IsSoundWith rs → All IsSoundRun (map inside_of rs)
-  sounds_inside rs sounds = All-map IsSoundRun inside_of rs (All-weaker IsSoundWith (λ r. IsSoundRun (inside_of r)) (sound_inside alike) rs sounds)
+  sounds_inside rs sounds = All-map IsSoundRun inside_of rs
+      (All-weaker IsSoundWith (λ r. IsSoundRun (inside_of r)) (sound_inside alike) rs sounds)
 
-  seals_same : (rs : List RunWith) → All IsSoundWith rs → map seal_of (sent_of_all rs) ≡ sealed_in_all (map inside_of rs)
+  seals_same : (rs : List RunWith) → All IsSoundWith rs →
+      map seal_of (sent_of_all rs) ≡ sealed_in_all (map inside_of rs)
   seals_same rs sounds = ap (map seal_of) (sent_of_all_same alike rs sounds) ∙ seals_of_runs (map inside_of rs)
 
   seals_of_both : (ra rb : List RunWith) → All IsSoundWith ra → All IsSoundWith rb →
-      map seal_of (sent_of_all ra ++ sent_of_all rb) ≡ sealed_in_all (map inside_of ra) ++ sealed_in_all (map inside_of rb)
-  seals_of_both ra rb sa sb = map-append seal_of (sent_of_all ra) (sent_of_all rb) ∙ ap₂ (λ (xs ys : List CipherUse). xs ++ ys) (seals_same ra sa) (seals_same rb sb)
+      map seal_of (sent_of_all ra ++ sent_of_all rb) ≡
+      sealed_in_all (map inside_of ra) ++ sealed_in_all (map inside_of rb)
+  seals_of_both ra rb sa sb = map-append seal_of (sent_of_all ra) (sent_of_all rb)
+      ∙ ap₂ (λ (xs ys : List CipherUse). xs ++ ys) (seals_same ra sa) (seals_same rb sb)
 
-  at_a : (ra rb : List RunWith) → All IsSoundWith ra → All IsSoundWith rb → ArePeerRuns ra rb → AreRuns (map inside_of ra) (map inside_of rb)
+  at_a : (ra rb : List RunWith) → All IsSoundWith ra → All IsSoundWith rb → ArePeerRuns ra rb →
+      AreRuns (map inside_of ra) (map inside_of rb)
   at_a ra rb sa sb peers = record {
     own = record { sound = sounds_inside ra sa; agree = peers.agree_a };
     other = record { sound = sounds_inside rb sb; agree = peers.agree_b };
@@ -100,12 +108,14 @@ module _ (alike : KeepersAlike) where
     agree = λ run there q there' x y here here' bytes.
         let both : AgreeOnKeys run q =
         All-contains (AgreeOnKeys run) (map inside_of rb) q
-        (All-contains (λ p. All (AgreeOnKeys p) (map inside_of rb)) (map inside_of ra) run peers.agree (contained (map inside_of ra) run there))
+        (All-contains (λ p. All (AgreeOnKeys p) (map inside_of rb)) (map inside_of ra) run peers.agree
+        (contained (map inside_of ra) run there))
         (contained (map inside_of rb) q there') in
         turned (both x y here here' bytes);
   }
 
-  at_b : (ra rb : List RunWith) → All IsSoundWith ra → All IsSoundWith rb → ArePeerRuns ra rb → AreRuns (map inside_of rb) (map inside_of ra)
+  at_b : (ra rb : List RunWith) → All IsSoundWith ra → All IsSoundWith rb → ArePeerRuns ra rb →
+      AreRuns (map inside_of rb) (map inside_of ra)
   at_b ra rb sa sb peers = record {
     own = record { sound = sounds_inside rb sb; agree = peers.agree_b };
     other = record { sound = sounds_inside ra sa; agree = peers.agree_a };
@@ -113,14 +123,16 @@ module _ (alike : KeepersAlike) where
     agree = λ run there q there' x y here here' bytes.
         let both : AgreeOnKeys q run =
         All-contains (AgreeOnKeys q) (map inside_of rb) run
-        (All-contains (λ p. All (AgreeOnKeys p) (map inside_of rb)) (map inside_of ra) q peers.agree (contained (map inside_of ra) q there'))
+        (All-contains (λ p. All (AgreeOnKeys p) (map inside_of rb)) (map inside_of ra) q peers.agree
+        (contained (map inside_of ra) q there'))
         (contained (map inside_of rb) run there) in
         both y x here' here (sym bytes);
   }
 
 -- ---- the promise
 
-module _ (alike : KeepersAlike) (laws : EndpointLaws) (grammar : Grammar) (fresh : Fresh) (ahead : End → ℕ → Bool) (e : End) (bytes : List ℕ) (sci : Sci) (an : ℕ) where
+module _ (alike : KeepersAlike) (laws : EndpointLaws) (grammar : Grammar) (fresh : Fresh) (ahead : End → ℕ → Bool)
+    (e : End) (bytes : List ℕ) (sci : Sci) (an : ℕ) where
   abbrev is_ours : Delivery → Bool
   is_ours g = same_octets g.bytes bytes && same_sci g.sci sci && g.an == an
 
@@ -139,14 +151,17 @@ module _ (alike : KeepersAlike) (laws : EndpointLaws) (grammar : Grammar) (fresh
   abbrev WasSentBy : List Happening → Delivery → Type 0
   WasSentBy before d = WasSent (sent_of_all (others before)) bytes d.frame d.number
 
-  still_sent : (before : List Happening) (h : Happening) (g : Delivery) → WasSentBy before g → WasSentBy (before ++ h ∷ []) g
+  still_sent : (before : List Happening) (h : Happening) (g : Delivery) → WasSentBy before g →
+      WasSentBy (before ++ h ∷ []) g
   still_sent before h g it =
-      let more = sends_more (others before) h (other_end e) (others (before ++ h ∷ [])) (grows ahead (other_end e) before h) in
+      let more = sends_more (others before) h (other_end e) (others (before ++ h ∷ []))
+      (grows ahead (other_end e) before h) in
       record {
         send = it.send;
         among = subst (λ (xs : List SentIn). Contains xs it.send) (sym more.more)
             (contained (sent_of_all (others before) ++ more.added) it.send
-            (in_front (sent_of_all (others before)) more.added it.send (member (sent_of_all (others before)) it.send it.among)));
+            (in_front (sent_of_all (others before)) more.added it.send
+            (member (sent_of_all (others before)) it.send it.among)));
         of_frame = it.of_frame;
         under = it.under;
         of_number = it.of_number;
@@ -154,11 +169,13 @@ module _ (alike : KeepersAlike) (laws : EndpointLaws) (grammar : Grammar) (fresh
 
   -- ---- origin
 
-  by_end : (f : End) (before : List Happening) → ((g : End) → All IsSoundWith (runs_at ahead g before)) → ArePeerRuns (runs_at ahead A before) (runs_at ahead B before) →
+  by_end : (f : End) (before : List Happening) → ((g : End) → All IsSoundWith (runs_at ahead g before)) →
+      ArePeerRuns (runs_at ahead A before) (runs_at ahead B before) →
       (r : RunWith) → last_of (runs_at ahead f before) ≡ Some r → (frame : List ℕ) → (u : Option CipherUse) →
       IfSome u (Contains (map seal_of (sent_of_all (runs_at ahead A before) ++ sent_of_all (runs_at ahead B before)))) →
       AreRuns (map inside_of (runs_at ahead f before)) (map inside_of (runs_at ahead (other_end f) before)) ×
-      IfSome u (Contains (sealed_in_all (map inside_of (runs_at ahead f before)) ++ sealed_in_all (map inside_of (runs_at ahead (other_end f) before))))
+      IfSome u (Contains (sealed_in_all (map inside_of (runs_at ahead f before))
+      ++ sealed_in_all (map inside_of (runs_at ahead (other_end f) before))))
   by_end A before sounds peers r last frame u genuine =
       let ra = runs_at ahead A before in
       let rb = runs_at ahead B before in
@@ -168,10 +185,12 @@ module _ (alike : KeepersAlike) (laws : EndpointLaws) (grammar : Grammar) (fresh
       let rb = runs_at ahead B before in (
         at_b alike ra rb (sounds A) (sounds B) peers,
         swapped (sealed_in_all (map inside_of ra)) (sealed_in_all (map inside_of rb)) u
-            (subst (λ (us : List CipherUse). IfSome u (Contains us)) (seals_of_both alike ra rb (sounds A) (sounds B)) genuine),
+            (subst (λ (us : List CipherUse). IfSome u (Contains us))
+            (seals_of_both alike ra rb (sounds A) (sounds B)) genuine),
       )
 
-  origin : (before : List Happening) → Sounds before → (r : RunWith) → last_of (own before) ≡ Some r → (input : KeepingInput) →
+  origin : (before : List Happening) → Sounds before → (r : RunWith) → last_of (own before) ≡ Some r →
+      (input : KeepingInput) →
       ((d : Delivery) → Contains (delivered_at bytes sci an (newly_delivered (closing (inside_of r)) input)) d →
       IsFair (runs_at ahead A before) (runs_at ahead B before) (closing_of r) (comes_in e input) input) →
       All (WasSentBy before) (delivered_at bytes sci an (newly_delivered (closing (inside_of r)) input))
@@ -185,9 +204,11 @@ module _ (alike : KeepersAlike) (laws : EndpointLaws) (grammar : Grammar) (fresh
       s : State
       s = (closing (inside_of r)).secy
 
-      by_delivery : (f : Option FrameFault) → (o : Option RxRow) → (judgement_of s frame).row ≡ o → (d : Option (List ℕ)) → (judgement_of s frame).delivered ≡ d →
+      by_delivery : (f : Option FrameFault) → (o : Option RxRow) → (judgement_of s frame).row ≡ o →
+          (d : Option (List ℕ)) → (judgement_of s frame).delivered ≡ d →
           ((g : Delivery) → Contains (delivered_at bytes sci an (delivered_by s (judgement_of s frame) f o d)) g →
-          IsFair (runs_at ahead A before) (runs_at ahead B before) (closing_of r) (comes_in e (endpoint_input (link_frame frame))) (endpoint_input (link_frame frame))) →
+          IsFair (runs_at ahead A before) (runs_at ahead B before) (closing_of r)
+          (comes_in e (endpoint_input (link_frame frame))) (endpoint_input (link_frame frame))) →
           All (WasSentBy before) (delivered_at bytes sci an (delivered_by s (judgement_of s frame) f o d))
       by_delivery (Some f) o of_row d delivers fair' = All-nil (WasSentBy before)
       by_delivery None None of_row d delivers fair' = All-nil (WasSentBy before)
@@ -198,10 +219,12 @@ module _ (alike : KeepersAlike) (laws : EndpointLaws) (grammar : Grammar) (fresh
           g = record { bytes = (the_key s.keys row.key).bytes; sci = row.sci; an = row.an; number = (judgement_of s frame).number; frame = delivered }
 
           sound : IsSoundWith r
-          sound = All-contains IsSoundWith (own before) r (sounds e) (contained (own before) r (last_there (own before) r last))
+          sound = All-contains IsSoundWith (own before) r (sounds e)
+              (contained (own before) r (last_there (own before) r last))
 
           by_test : (b : Bool) → is_ours g ≡ b → ((x : Delivery) → Contains (cond b (g ∷ []) []) x →
-              IsFair (runs_at ahead A before) (runs_at ahead B before) (closing_of r) (comes_in e (endpoint_input (link_frame frame))) (endpoint_input (link_frame frame))) →
+              IsFair (runs_at ahead A before) (runs_at ahead B before) (closing_of r)
+              (comes_in e (endpoint_input (link_frame frame))) (endpoint_input (link_frame frame))) →
               All (WasSentBy before) (cond b (g ∷ []) [])
           by_test false is fair'' = All-nil (WasSentBy before)
           by_test true is fair'' =
@@ -211,15 +234,22 @@ module _ (alike : KeepersAlike) (laws : EndpointLaws) (grammar : Grammar) (fresh
               let it = fair'' g (contained (g ∷ []) g (inl refl)) in
               let beside = same_beside alike r sound in
               let order = subst HasStrictOrder beside.same it.order in
-              let opened : use_opened (closing_of r).k.secy frame ≡ use_opened s frame = opened_same s (closing_of r).k.secy beside (unused_beside alike r) frame in
+              let opened : use_opened (closing_of r).k.secy frame ≡ use_opened s frame =
+              opened_same s (closing_of r).k.secy beside (unused_beside alike r) frame in
               let there = by_end e before sounds it.peers r last frame (use_opened s frame)
-              (subst (λ (u : Option CipherUse). IfSome u (Contains (map seal_of (sent_of_all (runs_at ahead A before) ++ sent_of_all (runs_at ahead B before))))) opened it.genuine) in
-              let sent : WasSent (sent_in_all (map inside_of (others before))) g.bytes delivered (judgement_of s frame).number =
-              comes laws grammar (map inside_of (own before)) (map inside_of (others before)) there.0 (inside_of r) (last_inside (own before) r last)
+              (subst (λ (u : Option CipherUse). IfSome u (Contains
+              (map seal_of (sent_of_all (runs_at ahead A before) ++ sent_of_all (runs_at ahead B before))))) opened
+              it.genuine) in
+              let sent : WasSent (sent_in_all (map inside_of (others before))) g.bytes delivered
+              (judgement_of s frame).number =
+              comes laws grammar (map inside_of (own before)) (map inside_of (others before)) there.0 (inside_of r)
+              (last_inside (own before) r last)
               frame it.octets row delivered there.1 order.mode of_row delivers in
               All-cons (WasSentBy before) g []
-              (subst (λ (xs : List SentIn). WasSent xs bytes delivered (judgement_of s frame).number) (sym (sent_of_all_same alike (others before) (sounds (other_end e))))
-              (subst (λ (b : List ℕ). WasSent (sent_in_all (map inside_of (others before))) b delivered (judgement_of s frame).number) key sent)) (All-nil (WasSentBy before))
+              (subst (λ (xs : List SentIn). WasSent xs bytes delivered (judgement_of s frame).number)
+              (sym (sent_of_all_same alike (others before) (sounds (other_end e))))
+              (subst (λ (b : List ℕ). WasSent (sent_in_all (map inside_of (others before))) b delivered
+              (judgement_of s frame).number) key sent)) (All-nil (WasSentBy before))
 
   -- ---- one more happening
 
@@ -230,136 +260,180 @@ module _ (alike : KeepersAlike) (laws : EndpointLaws) (grammar : Grammar) (fresh
   abbrev Is : RunWith → Type 0
   Is r = RunNow alike laws fresh bytes sci an r
 
-  all_push : (input : KeepingInput) (rs : List RunWith) → All IsSoundWith rs → All IsSoundWith (push_last input rs) → All Is rs →
-      ((r : RunWith) → last_of rs ≡ Some r → (d : Delivery) → Contains (delivered_at bytes sci an (newly_delivered_with (closing_of r) input)) d → HasStrictOrder (closing_of r).k.secy) →
+  all_push : (input : KeepingInput) (rs : List RunWith) → All IsSoundWith rs → All IsSoundWith (push_last input rs) →
+      All Is rs →
+      ((r : RunWith) → last_of rs ≡ Some r → (d : Delivery) →
+      Contains (delivered_at bytes sci an (newly_delivered_with (closing_of r) input)) d →
+      HasStrictOrder (closing_of r).k.secy) →
       All Is (push_last input rs)
   all_push input [] sounds sounds' all order = All-nil Is
   all_push input (r ∷ []) sounds sounds' all order =
       All-cons Is (push input r) []
-      (one_more alike laws fresh bytes sci an r input (All-head IsSoundWith r [] sounds) (All-head IsSoundWith (push input r) [] sounds') (order r refl) (All-head Is r [] all)) (All-nil Is)
+      (one_more alike laws fresh bytes sci an r input (All-head IsSoundWith r [] sounds)
+      (All-head IsSoundWith (push input r) [] sounds') (order r refl) (All-head Is r [] all)) (All-nil Is)
   all_push input (r ∷ q ∷ more) sounds sounds' all order =
       All-cons Is r (push_last input (q ∷ more)) (All-head Is r (q ∷ more) all)
-      (all_push input (q ∷ more) (All-tail IsSoundWith r (q ∷ more) sounds) (All-tail IsSoundWith r (push_last input (q ∷ more)) sounds') (All-tail Is r (q ∷ more) all) order)
+      (all_push input (q ∷ more) (All-tail IsSoundWith r (q ∷ more) sounds)
+      (All-tail IsSoundWith r (push_last input (q ∷ more)) sounds') (All-tail Is r (q ∷ more) all) order)
 
-  last_pushed : (input : KeepingInput) (rs : List RunWith) (r : RunWith) → last_of rs ≡ Some r → last_of (push_last input rs) ≡ Some (push input r)
+  last_pushed : (input : KeepingInput) (rs : List RunWith) (r : RunWith) → last_of rs ≡ Some r →
+      last_of (push_last input rs) ≡ Some (push input r)
   last_pushed input [] r last = cc
-  last_pushed input (p ∷ []) r last = ap (λ (o : Option RunWith). Some (push input (unwrap_or o r))) last
-  last_pushed input (p ∷ q ∷ []) r last = ap (λ (o : Option RunWith). Some (push input (unwrap_or o r))) last
   last_pushed input (p ∷ q ∷ t ∷ more) r last = last_pushed input (q ∷ t ∷ more) r last
+  last_pushed input it r last = ap (λ (o : Option RunWith). Some (push input (unwrap_or o r))) last
 
-  new_sent : (before : List Happening) → Sounds before → (input : KeepingInput) → All IsSoundWith (push_last input (own before)) →
+  new_sent : (before : List Happening) → Sounds before → (input : KeepingInput) →
+      All IsSoundWith (push_last input (own before)) →
       (o : Option RunWith) → last_of (own before) ≡ o →
-      IfSome o (λ r. (d : Delivery) → Contains (delivered_at bytes sci an (newly_delivered_with (closing_of r) input)) d →
+      IfSome o (λ r. (d : Delivery) → Contains (delivered_at bytes sci an (newly_delivered_with (closing_of r) input))
+      d →
       IsFair (runs_at ahead A before) (runs_at ahead B before) (closing_of r) (comes_in e input) input) →
       All (WasSentBy before) (delivered_at bytes sci an (delivered_by_last o input))
   new_sent before sounds input sounds' None last fair = All-nil (WasSentBy before)
   new_sent before sounds input sounds' (Some r) last fair = by_goes (goes alike r input sound sound')
     where
       sound : IsSoundWith r
-      sound = All-contains IsSoundWith (own before) r (sounds e) (contained (own before) r (last_there (own before) r last))
+      sound = All-contains IsSoundWith (own before) r (sounds e)
+          (contained (own before) r (last_there (own before) r last))
 
       sound' : IsSoundWith (push input r)
       sound' =
           All-contains IsSoundWith (push_last input (own before)) (push input r) sounds'
-          (contained (push_last input (own before)) (push input r) (last_there (push_last input (own before)) (push input r) (last_pushed input (own before) r last)))
+          (contained (push_last input (own before)) (push input r)
+          (last_there (push_last input (own before)) (push input r) (last_pushed input (own before) r last)))
 
-      by_goes : Goes alike r input → All (WasSentBy before) (delivered_at bytes sci an (newly_delivered_with (closing_of r) input))
-      by_goes (nothing still gives) = subst (λ (ds : List Delivery). All (WasSentBy before) (delivered_at bytes sci an ds)) (sym gives) (All-nil (WasSentBy before))
+      by_goes : Goes alike r input → All (WasSentBy before)
+          (delivered_at bytes sci an (newly_delivered_with (closing_of r) input))
+      by_goes (nothing still gives) = subst (λ (ds : List Delivery). All (WasSentBy before)
+          (delivered_at bytes sci an ds)) (sym gives) (All-nil (WasSentBy before))
       by_goes (passes_it step lets gives) =
           subst (λ (ds : List Delivery). All (WasSentBy before) (delivered_at bytes sci an ds)) (sym gives)
-          (origin before sounds r last input (λ d there. fair d (subst (λ (ds : List Delivery). Contains (delivered_at bytes sci an ds) d) (sym gives) there)))
+          (origin before sounds r last input (λ d there. fair d
+          (subst (λ (ds : List Delivery). Contains (delivered_at bytes sci an ds) d) (sym gives) there)))
 
   record After (before : List Happening) (h : Happening) (rs : List RunWith) : Type 0 where
     runs : All Is rs
     sent : All (WasSentBy (before ++ h ∷ [])) (ours rs)
 
-  all_still : (before : List Happening) (h : Happening) (ds : List Delivery) → All (WasSentBy before) ds → All (WasSentBy (before ++ h ∷ [])) ds
+  all_still : (before : List Happening) (h : Happening) (ds : List Delivery) → All (WasSentBy before) ds →
+      All (WasSentBy (before ++ h ∷ [])) ds
   all_still before h ds all = All-weaker (WasSentBy before) (WasSentBy (before ++ h ∷ [])) (still_sent before h) ds all
 
-  next_by : (before : List Happening) (h : Happening) (rs : List RunWith) → rs ≡ own before → (d : End) → d ≡ e → (after : List RunWith) → Grows rs h d after → All IsSoundWith after →
+  next_by : (before : List Happening) (h : Happening) (rs : List RunWith) → rs ≡ own before → (d : End) → d ≡ e →
+      (after : List RunWith) → Grows rs h d after → All IsSoundWith after →
       Sounds before → IsFairHere ahead e bytes sci an before h → Now before → After before h after
   next_by before h rs are d is _ (stays_as_it_is h' d') sounds' sounds fair now =
       record {
         runs = subst (All Is) (sym are) now.runs;
-        sent = subst (λ (x : List RunWith). All (WasSentBy (before ++ h ∷ [])) (ours x)) (sym are) (all_still before h (ours (own before)) now.sent);
+        sent = subst (λ (x : List RunWith). All (WasSentBy (before ++ h ∷ [])) (ours x)) (sym are)
+            (all_still before h (ours (own before)) now.sent);
       }
   next_by before _ rs are d is _ (begins_run d' f config journal b) sounds' sounds fair now =
       let new : RunWith = record { ahead = b; run = run_with config journal [] } in
       let h : Happening = begins f config journal in
-      let same : ours (rs ++ new ∷ []) ≡ ours (own before) = ap (delivered_at bytes sci an) (delivered_of_all-new rs new refl) ∙ ap ours are in
+      let same : ours (rs ++ new ∷ []) ≡ ours (own before) =
+      ap (delivered_at bytes sci an) (delivered_of_all-new rs new refl) ∙ ap ours are in
       record {
-        runs = All-append Is rs (new ∷ []) (subst (All Is) (sym are) now.runs) (All-cons Is new [] (begins_now alike laws fresh bytes sci an new refl) (All-nil Is));
+        runs = All-append Is rs (new ∷ []) (subst (All Is) (sym are) now.runs)
+            (All-cons Is new [] (begins_now alike laws fresh bytes sci an new refl) (All-nil Is));
         sent = subst (All (WasSentBy (before ++ h ∷ []))) (sym same) (all_still before h (ours (own before)) now.sent);
       }
   next_by before _ rs are d is _ (gets_input d' f input same) sounds' sounds fair now =
       let h : Happening = comes_in f input in
       let ours_too : same_end e f ≡ true = subst (λ (x : End). same_end x f ≡ true) is same in
       let one : f ≡ e = same_is e f ours_too in
-      let here : IfSome (last_of (own before)) (λ r. (g : Delivery) → Contains (delivered_at bytes sci an (newly_delivered_with (closing_of r) input)) g →
+      let here : IfSome (last_of (own before)) (λ r. (g : Delivery) →
+      Contains (delivered_at bytes sci an (newly_delivered_with (closing_of r) input)) g →
       IsFair (runs_at ahead A before) (runs_at ahead B before) (closing_of r) (comes_in e input) input) =
-      subst (λ (x : End). IfSome (last_of (own before)) (λ r. (g : Delivery) → Contains (delivered_at bytes sci an (newly_delivered_with (closing_of r) input)) g →
-      IsFair (runs_at ahead A before) (runs_at ahead B before) (closing_of r) (comes_in x input) input)) one (fair ours_too) in
-      let sounds_own : All IsSoundWith (push_last input (own before)) = subst (λ (x : List RunWith). All IsSoundWith (push_last input x)) are sounds' in
-      let whole : ours (push_last input rs) ≡ ours (own before) ++ delivered_at bytes sci an (delivered_by_last (last_of (own before)) input) =
-      ap (λ (x : List RunWith). ours (push_last input x)) are ∙ ap (delivered_at bytes sci an) (delivered_of_all-push input (own before))
+      subst (λ (x : End). IfSome (last_of (own before))
+      (λ r. (g : Delivery) → Contains (delivered_at bytes sci an (newly_delivered_with (closing_of r) input)) g →
+      IsFair (runs_at ahead A before) (runs_at ahead B before) (closing_of r) (comes_in x input) input)) one
+      (fair ours_too) in
+      let sounds_own : All IsSoundWith (push_last input (own before)) =
+      subst (λ (x : List RunWith). All IsSoundWith (push_last input x)) are sounds' in
+      let whole : ours (push_last input rs) ≡ ours (own before)
+      ++ delivered_at bytes sci an (delivered_by_last (last_of (own before)) input) =
+      ap (λ (x : List RunWith). ours (push_last input x)) are
+      ∙ ap (delivered_at bytes sci an) (delivered_of_all-push input (own before))
       ∙ filter-append is_ours (delivered_of_all (own before)) (delivered_by_last (last_of (own before)) input) in
       record {
         runs = subst (λ (x : List RunWith). All Is (push_last input x)) (sym are)
             (all_push input (own before) (sounds e) sounds_own now.runs
             (λ r last g there.
-            let it = subst (λ (o : Option RunWith). IfSome o (λ r'. (x : Delivery) → Contains (delivered_at bytes sci an (newly_delivered_with (closing_of r') input)) x →
-            IsFair (runs_at ahead A before) (runs_at ahead B before) (closing_of r') (comes_in e input) input)) last here g there in
+            let it = subst (λ (o : Option RunWith). IfSome o
+            (λ r'. (x : Delivery) → Contains (delivered_at bytes sci an
+            (newly_delivered_with (closing_of r') input)) x →
+            IsFair (runs_at ahead A before) (runs_at ahead B before) (closing_of r')
+            (comes_in e input) input)) last here g there in
             it.order));
         sent = subst (All (WasSentBy (before ++ h ∷ []))) (sym whole)
-            (all_still before h (ours (own before) ++ delivered_at bytes sci an (delivered_by_last (last_of (own before)) input))
-            (All-append (WasSentBy before) (ours (own before)) (delivered_at bytes sci an (delivered_by_last (last_of (own before)) input)) now.sent
+            (all_still before h (ours (own before) ++ delivered_at bytes sci an
+            (delivered_by_last (last_of (own before)) input))
+            (All-append (WasSentBy before) (ours (own before))
+            (delivered_at bytes sci an (delivered_by_last (last_of (own before)) input)) now.sent
             (new_sent before sounds input sounds_own (last_of (own before)) refl here)));
       }
 
-  next : (before : List Happening) (h : Happening) → Sounds before → Sounds (before ++ h ∷ []) → IsFairHere ahead e bytes sci an before h → Now before → Now (before ++ h ∷ [])
+  next : (before : List Happening) (h : Happening) → Sounds before → Sounds (before ++ h ∷ []) →
+      IsFairHere ahead e bytes sci an before h → Now before → Now (before ++ h ∷ [])
   next before h sounds sounds' fair now =
-      let it = next_by before h (own before) refl e refl (own (before ++ h ∷ [])) (grows ahead e before h) (sounds' e) sounds fair now in
+      let it = next_by before h (own before) refl e refl (own (before ++ h ∷ [])) (grows ahead e before h)
+      (sounds' e) sounds fair now in
       record { runs = it.runs; sent = it.sent }
 
   -- ---- all happenings
 
-  always : (before more : List Happening) → Sounds (before ++ more) → AtEach (IsFairHere ahead e bytes sci an) before more → Now before → Now (before ++ more)
+  always : (before more : List Happening) → Sounds (before ++ more) →
+      AtEach (IsFairHere ahead e bytes sci an) before more → Now before → Now (before ++ more)
   always before [] sounds each now = subst Now (sym (append-nil before)) now
   always before (h ∷ more) sounds each now =
       let whole : Sounds ((before ++ h ∷ []) ++ more) = subst Sounds (sym (append_assoc before (h ∷ []) more)) sounds in
       subst Now (append_assoc before (h ∷ []) more)
       (always (before ++ h ∷ []) more whole each.1
-      (next before h (λ f. sound_first ahead f (h ∷ more) before (sounds f)) (λ f. sound_first ahead f more (before ++ h ∷ []) (whole f)) each.0 now))
+      (next before h (λ f. sound_first ahead f (h ∷ more) before (sounds f))
+      (λ f. sound_first ahead f more (before ++ h ∷ []) (whole f)) each.0 now))
 
-  sent_is_kept : (rs : List RunWith) → All IsSoundWith rs → AllPairs (ReadsSent bytes) rs → AllPairs (KeepsSent bytes) rs
+  sent_is_kept : (rs : List RunWith) → All IsSoundWith rs → AllPairs (ReadsSent bytes) rs →
+      AllPairs (KeepsSent bytes) rs
   sent_is_kept rs sounds pairs i j d less within = by_side (pairs i j d less within)
     where
       by_side : ReadsSent bytes (get_or rs i d) (get_or rs j d) → KeepsSent bytes (get_or rs i d) (get_or rs j d)
       by_side (inl keeps) = keeps
-      by_side (inr reads) = is_weaker_to_send alike bytes (get_or rs i d) (get_or rs j d) (sounds i d (omega (arith, less, within))) reads.0 reads.1
+      by_side (inr reads) = is_weaker_to_send alike bytes (get_or rs i d) (get_or rs j d)
+          (sounds i d (omega (arith, less, within))) reads.0 reads.1
 
-  reads_reserved : (r later : RunWith) → Is r → r.ahead ≡ true → ReadsDurable r later → KeepsDelivered bytes sci an r later
+  reads_reserved : (r later : RunWith) → Is r → r.ahead ≡ true → ReadsDurable r later →
+      KeepsDelivered bytes sci an r later
   reads_reserved r later now on reads d g here there =
       let name : List ℕ → List ℕ = λ salt. receiving_name (sending_name salt bytes) sci an in
-      let within : d.number ≤ highest (reported r.run) (name (salt_of r.run.journal)) = All-contains (IsReserved alike laws fresh bytes sci an r) (from_sa bytes sci an r) d (now.reserved on) here in
-      subst (λ (s : List ℕ). d.number ≤ highest (reservations later.run.journal) (name s)) (sym reads.0) (omega (arith, within, reads.1 (name (salt_of r.run.journal))))
+      let within : d.number ≤ highest (reported r.run) (name (salt_of r.run.journal)) =
+      All-contains (IsReserved alike laws fresh bytes sci an r) (from_sa bytes sci an r) d (now.reserved on) here in
+      subst (λ (s : List ℕ). d.number ≤ highest (reservations later.run.journal) (name s)) (sym reads.0)
+      (omega (arith, within, reads.1 (name (salt_of r.run.journal))))
 
-  delivered_is_kept : (rs : List RunWith) → All Is rs → AllPairs (ReadsDelivered bytes sci an) rs → AllPairs (KeepsDelivered bytes sci an) rs
+  delivered_is_kept : (rs : List RunWith) → All Is rs → AllPairs (ReadsDelivered bytes sci an) rs →
+      AllPairs (KeepsDelivered bytes sci an) rs
   delivered_is_kept rs nows pairs i j d less within = by_side (pairs i j d less within)
     where
-      by_side : ReadsDelivered bytes sci an (get_or rs i d) (get_or rs j d) → KeepsDelivered bytes sci an (get_or rs i d) (get_or rs j d)
+      by_side : ReadsDelivered bytes sci an (get_or rs i d) (get_or rs j d) →
+          KeepsDelivered bytes sci an (get_or rs i d) (get_or rs j d)
       by_side (inl keeps) = keeps
-      by_side (inr it) = reads_reserved (get_or rs i d) (get_or rs j d) (nows i d (omega (arith, less, within))) it.0 it.1
+      by_side (inr it) = reads_reserved (get_or rs i d) (get_or rs j d)
+          (nows i d (omega (arith, less, within))) it.0 it.1
 
   pub in_order_now : (events : List Happening) → Sounds events → AtEach (IsFairHere ahead e bytes sci an) [] events →
-      AllPairs (ReadsSent bytes) (others events) → AllPairs (ReadsDelivered bytes sci an) (own events) → ComesInOrderAt ahead e bytes sci an events
+      AllPairs (ReadsSent bytes) (others events) → AllPairs (ReadsDelivered bytes sci an) (own events) →
+      ComesInOrderAt ahead e bytes sci an events
   in_order_now events sounds each sent delivered =
-      let now : Now events = always [] events sounds each (record { runs = All-nil Is; sent = All-nil (WasSentBy []) }) in
+      let now : Now events = always [] events sounds each
+      (record { runs = All-nil Is; sent = All-nil (WasSentBy []) }) in
       let sends = sent_of_all (others events) in
       is_subsequence (λ (x : SentIn). x.number) numbered_sent (sent_under bytes sends)
-      (sent_rise alike laws bytes (others events) (sounds (other_end e)) (sent_is_kept (others events) (sounds (other_end e)) sent)) (λ (d : Delivery). d.number)
+      (sent_rise alike laws bytes (others events) (sounds (other_end e))
+      (sent_is_kept (others events) (sounds (other_end e)) sent)) (λ (d : Delivery). d.number)
       (ours (own events)) (map numbered_delivery (ours (own events)))
-      (delivered_rise alike laws fresh bytes sci an (own events) now.runs (delivered_is_kept (own events) now.runs delivered)) (each_found bytes sends (ours (own events)) now.sent)
+      (delivered_rise alike laws fresh bytes sci an (own events) now.runs
+      (delivered_is_kept (own events) now.runs delivered)) (each_found bytes sends (ours (own events)) now.sent)
 
 -- what is kept in all runs is kept in the first ones
 kept_sent : (bytes : List ℕ) → IsHereditary (KeepsSent bytes)
@@ -367,9 +441,11 @@ kept_sent bytes = record {
   less = λ input r later keeps x y here there.
       keeps x y here
       (subst (λ (xs : List SentIn). Contains (sent_under bytes xs) y) (sym (sent_of-push input later))
-      (subst (λ (xs : List SentIn). Contains xs y) (sym (filter-append (λ z. same_octets z.seal.key bytes) (sent_of later) (newly_sent (closing_of later).k input)))
+      (subst (λ (xs : List SentIn). Contains xs y)
+      (sym (filter-append (λ z. same_octets z.seal.key bytes) (sent_of later) (newly_sent (closing_of later).k input)))
       (contained (under_key bytes later ++ sent_under bytes (newly_sent (closing_of later).k input)) y
-      (in_front (under_key bytes later) (sent_under bytes (newly_sent (closing_of later).k input)) y (member (under_key bytes later) y there)))));
+      (in_front (under_key bytes later) (sent_under bytes (newly_sent (closing_of later).k input)) y
+      (member (under_key bytes later) y there)))));
 }
 
 kept_delivered : (bytes : List ℕ) (sci : Sci) (an : ℕ) → IsHereditary (KeepsDelivered bytes sci an)
@@ -378,36 +454,48 @@ kept_delivered bytes sci an = record {
       keeps d g here
       (subst (λ (ds : List Delivery). Contains (delivered_at bytes sci an ds) g) (sym (delivered_of-push input later))
       (subst (λ (ds : List Delivery). Contains ds g)
-      (sym (filter-append (λ z. same_octets z.bytes bytes && same_sci z.sci sci && z.an == an) (delivered_of later) (newly_delivered_with (closing_of later) input)))
-      (contained (from_sa bytes sci an later ++ delivered_at bytes sci an (newly_delivered_with (closing_of later) input)) g
-      (in_front (from_sa bytes sci an later) (delivered_at bytes sci an (newly_delivered_with (closing_of later) input)) g (member (from_sa bytes sci an later) g there)))));
+      (sym (filter-append (λ z. same_octets z.bytes bytes && same_sci z.sci sci && z.an == an) (delivered_of later)
+      (newly_delivered_with (closing_of later) input)))
+      (contained (from_sa bytes sci an later ++ delivered_at bytes sci an
+      (newly_delivered_with (closing_of later) input)) g
+      (in_front (from_sa bytes sci an later) (delivered_at bytes sci an (newly_delivered_with (closing_of later) input))
+      g (member (from_sa bytes sci an later) g there)))));
 }
 
 reads_sent : (bytes : List ℕ) → IsHereditary (ReadsSent bytes)
 reads_sent bytes = record { less = by_side }
   where
-    by_side : (input : KeepingInput) (r later : RunWith) → ReadsSent bytes r (push input later) → ReadsSent bytes r later
+    by_side : (input : KeepingInput) (r later : RunWith) → ReadsSent bytes r (push input later) →
+        ReadsSent bytes r later
     by_side input r later (inl keeps) = let it = kept_sent bytes in inl (it.less input r later keeps)
     by_side input r later (inr reads) = inr reads
 
 reads_delivered : (bytes : List ℕ) (sci : Sci) (an : ℕ) → IsHereditary (ReadsDelivered bytes sci an)
 reads_delivered bytes sci an = record { less = by_side }
   where
-    by_side : (input : KeepingInput) (r later : RunWith) → ReadsDelivered bytes sci an r (push input later) → ReadsDelivered bytes sci an r later
+    by_side : (input : KeepingInput) (r later : RunWith) → ReadsDelivered bytes sci an r (push input later) →
+        ReadsDelivered bytes sci an r later
     by_side input r later (inl keeps) = let it = kept_delivered bytes sci an in inl (it.less input r later keeps)
     by_side input r later (inr reads) = inr reads
 
-pub comes_in_order_if_read : KeepersAlike → EndpointLaws → Grammar → Fresh → (ahead : End → ℕ → Bool) (events : List Happening) → ComesInOrderIfRead ahead events
+pub comes_in_order_if_read : KeepersAlike → EndpointLaws → Grammar → Fresh →
+    (ahead : End → ℕ → Bool) (events : List Happening) → ComesInOrderIfRead ahead events
 comes_in_order_if_read alike laws grammar fresh ahead events e bytes sci an sounds each sent delivered k =
     let it = cut k events in
     let first : List Happening = take k events in
     in_order_now alike laws grammar fresh ahead e bytes sci an first
-    (λ f. sound_first ahead f it.rest first (subst (λ (hs : List Happening). All IsSoundWith (runs_at ahead f hs)) (sym it.is) (sounds f)))
-    (first_moments (IsFairHere ahead e bytes sci an) [] first it.rest (subst (AtEach (IsFairHere ahead e bytes sci an) []) (sym it.is) each))
-    (pairs_first (ReadsSent bytes) (reads_sent bytes) ahead (other_end e) it.rest first (subst (λ (hs : List Happening). AllPairs (ReadsSent bytes) (runs_at ahead (other_end e) hs)) (sym it.is) sent))
+    (λ f. sound_first ahead f it.rest first (subst (λ (hs : List Happening). All IsSoundWith (runs_at ahead f hs))
+    (sym it.is) (sounds f)))
+    (first_moments (IsFairHere ahead e bytes sci an) [] first it.rest
+    (subst (AtEach (IsFairHere ahead e bytes sci an) []) (sym it.is) each))
+    (pairs_first (ReadsSent bytes) (reads_sent bytes) ahead (other_end e) it.rest first
+    (subst (λ (hs : List Happening). AllPairs (ReadsSent bytes) (runs_at ahead (other_end e) hs)) (sym it.is) sent))
     (pairs_first (ReadsDelivered bytes sci an) (reads_delivered bytes sci an) ahead e it.rest first
-    (subst (λ (hs : List Happening). AllPairs (ReadsDelivered bytes sci an) (runs_at ahead e hs)) (sym it.is) delivered))
+    (subst (λ (hs : List Happening). AllPairs (ReadsDelivered bytes sci an) (runs_at ahead e hs))
+    (sym it.is) delivered))
 
-pub comes_in_order_if_kept : KeepersAlike → EndpointLaws → Grammar → Fresh → (ahead : End → ℕ → Bool) (events : List Happening) → ComesInOrderIfKept ahead events
+pub comes_in_order_if_kept : KeepersAlike → EndpointLaws → Grammar → Fresh →
+    (ahead : End → ℕ → Bool) (events : List Happening) → ComesInOrderIfKept ahead events
 comes_in_order_if_kept alike laws grammar fresh ahead events e bytes sci an sounds each sent delivered k =
-    comes_in_order_if_read alike laws grammar fresh ahead events e bytes sci an sounds each (λ i j d less within. inl (sent i j d less within)) (λ i j d less within. inl (delivered i j d less within)) k
+    comes_in_order_if_read alike laws grammar fresh ahead events e bytes sci an sounds each
+    (λ i j d less within. inl (sent i j d less within)) (λ i j d less within. inl (delivered i j d less within)) k

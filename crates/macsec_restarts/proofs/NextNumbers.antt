@@ -9,14 +9,13 @@ use Rattle.macsec_tag.specs.declared.identifiers.Sci.{Sci}
 use Rattle.macsec_suite.specs.KeyRows.{the_key}
 use Rattle.macsec_suite.specs.declared.refusal.Refusal.{Refusal}
 use Rattle.macsec_commands.specs.declared.command.Command.{Command}
-use Rattle.macsec_commands.specs.declared.command.Command.TheVariants.{Protect, Validate, Replay, Tag, Key, Retire, TxSa, TxOn, TxOff}
-use Rattle.macsec_commands.specs.declared.command.Command.TheVariants.{TxDel, RxSc, RxScDel, RxSa, RxOn, RxOff, RxLow, RxDel}
+use Rattle.macsec_commands.specs.declared.command.Command.TheVariants.{RxScDel, RxDel}
 use Rattle.macsec_rx.specs.declared.RxRow.{RxRow}
 use Rattle.macsec_rx.specs.Channels.{is_at, rx_row, same_sci}
 use Rattle.macsec_secy.specs.Commands.{refusal, unless_refused}
 use Rattle.macsec_secy.specs.Kept.{IsAbove, RxRowStays, deletes, is_deleting}
 use Rattle.macsec_secy.specs.State.{State}
-use Rattle.macsec_secy.specs.Step.{Input, Output, client_frame, link_frame, operator_command, step, uncontrolled_frame}
+use Rattle.macsec_secy.specs.Step.{Input, Output, operator_command, step}
 use Rattle.macsec_secy.proofs.Sums.{one_sci}
 use Rattle.macsec_reserve.specs.Keeping.{Keeping, KeepingInput, endpoint_input, is_below_floor, keeping_step, may_go, now_durable}
 use Rattle.macsec_reserve.proofs.Steps.{by_tests}
@@ -32,24 +31,29 @@ same_place sci other an n same =
 
 -- the number is below the next one of the SA under these key octets, if there is one
 abbrev pub IsBelowNext : State → List ℕ → Sci → ℕ → ℕ → Type 0
-IsBelowNext s bytes sci an n = (row : RxRow) → rx_row s.rx.rows sci an ≡ Some row → IsUnder s bytes row → n + 1 ≤ row.next
+IsBelowNext s bytes sci an n = (row : RxRow) → rx_row s.rx.rows sci an ≡ Some row → IsUnder s bytes row →
+    n + 1 ≤ row.next
 
-pub below_above : (s : State) (bytes : List ℕ) (sci : Sci) (an n : ℕ) → IsAbove s.rx.rows sci an (n + 1) → IsBelowNext s bytes sci an n
+pub below_above : (s : State) (bytes : List ℕ) (sci : Sci) (an n : ℕ) → IsAbove s.rx.rows sci an (n + 1) →
+    IsBelowNext s bytes sci an n
 below_above s bytes sci an n it row there under =
     let one : it.row ≡ row = ap (λ (r : Option RxRow). unwrap_or r row) (sym it.there ∙ there) in
     subst (λ (r : RxRow). n + 1 ≤ r.next) one it.above
 
 -- ---- a deleted SA is not there
 
-none_left : (sci : Sci) (an : ℕ) (test : RxRow → Bool) → ((row : RxRow) → is_at sci an row ≡ true → test row ≡ false) → (rows : List RxRow) → rx_row (filter test rows) sci an ≡ None
+none_left : (sci : Sci) (an : ℕ) (test : RxRow → Bool) → ((row : RxRow) → is_at sci an row ≡ true → test row ≡ false) →
+    (rows : List RxRow) → rx_row (filter test rows) sci an ≡ None
 none_left sci an test fails [] = refl
 none_left sci an test fails (row ∷ rows) = by_test (test row) refl (none_left sci an test fails rows)
   where
-    by_place : (b : Bool) → is_at sci an row ≡ b → test row ≡ true → rx_row (filter test rows) sci an ≡ None → (if b then Some row else rx_row (filter test rows) sci an) ≡ None
+    by_place : (b : Bool) → is_at sci an row ≡ b → test row ≡ true → rx_row (filter test rows) sci an ≡ None →
+        (if b then Some row else rx_row (filter test rows) sci an) ≡ None
     by_place true here passes none = let no = sym passes ∙ fails row here in cc
     by_place false elsewhere passes none = none
 
-    by_test : (b : Bool) → test row ≡ b → rx_row (filter test rows) sci an ≡ None → rx_row (cond b (row ∷ filter test rows) (filter test rows)) sci an ≡ None
+    by_test : (b : Bool) → test row ≡ b → rx_row (filter test rows) sci an ≡ None →
+        rx_row (cond b (row ∷ filter test rows) (filter test rows)) sci an ≡ None
     by_test true passes none = by_place (is_at sci an row) refl passes none
     by_test false fails' none = none
 
@@ -61,14 +65,17 @@ first_part : (a b : Bool) → a && b ≡ true → a ≡ true
 first_part true b is = refl
 first_part false b is = cc
 
-by_refusal : (r : Option Refusal) (s : State) (c : Command) (sci : Sci) (an : ℕ) (row later : RxRow) → rx_row s.rx.rows sci an ≡ Some row →
-    rx_row (unless_refused None s c).rx.rows sci an ≡ None → rx_row (unless_refused r s c).rx.rows sci an ≡ Some later → row.next ≤ later.next
+by_refusal : (r : Option Refusal) (s : State) (c : Command) (sci : Sci) (an : ℕ) (row later : RxRow) →
+    rx_row s.rx.rows sci an ≡ Some row →
+    rx_row (unless_refused None s c).rx.rows sci an ≡ None → rx_row (unless_refused r s c).rx.rows sci an ≡ Some later →
+    row.next ≤ later.next
 by_refusal None s c sci an row later there none there' = let no = sym none ∙ there' in cc
 by_refusal (Some r) s c sci an row later there none there' =
     let one : row ≡ later = ap (λ (o : Option RxRow). unwrap_or o later) (sym there ∙ there') in
     subst (λ (x : RxRow). row.next ≤ x.next) one (omega arith)
 
-by_command : (s : State) (c : Command) (sci : Sci) (an : ℕ) (row later : RxRow) → deletes sci an c ≡ true → rx_row s.rx.rows sci an ≡ Some row →
+by_command : (s : State) (c : Command) (sci : Sci) (an : ℕ) (row later : RxRow) → deletes sci an c ≡ true →
+    rx_row s.rx.rows sci an ≡ Some row →
     rx_row (step s (operator_command c)).1.rx.rows sci an ≡ Some later → row.next ≤ later.next
 by_command s (RxScDel of_sci) sci an row later deleted there there' =
     by_refusal (refusal s (RxScDel of_sci)) s (RxScDel of_sci) sci an row later there
@@ -79,61 +86,57 @@ by_command s (RxDel of_sci of_an) sci an row later deleted there there' =
     let same = same_place sci of_sci an of_an deleted in
     by_refusal (refusal s (RxDel of_sci of_an)) s (RxDel of_sci of_an) sci an row later there
     (none_left sci an (λ r. not (is_at of_sci of_an r))
-    (λ r here. not_true (is_at of_sci of_an r) (ap (λ (x : Sci). is_at x of_an r) (sym same.0) ∙ ap (λ (n : ℕ). is_at sci n r) (sym same.1) ∙ here)) s.rx.rows) there'
-by_command s (Protect on) sci an row later deleted there there' = cc
-by_command s (Validate mode) sci an row later deleted there there' = cc
-by_command s (Replay on window) sci an row later deleted there there' = cc
-by_command s (Tag form) sci an row later deleted there there' = cc
-by_command s (Key key) sci an row later deleted there there' = cc
-by_command s (Retire key) sci an row later deleted there there' = cc
-by_command s (TxSa an' key next conf) sci an row later deleted there there' = cc
-by_command s (TxOn an') sci an row later deleted there there' = cc
-by_command s (TxOff an') sci an row later deleted there there' = cc
-by_command s (TxDel an') sci an row later deleted there there' = cc
-by_command s (RxSc sci') sci an row later deleted there there' = cc
-by_command s (RxSa sci' an' key ssci lowest) sci an row later deleted there there' = cc
-by_command s (RxOn sci' an') sci an row later deleted there there' = cc
-by_command s (RxOff sci' an') sci an row later deleted there there' = cc
-by_command s (RxLow sci' an' pn) sci an row later deleted there there' = cc
+    (λ r here. not_true (is_at of_sci of_an r) (ap (λ (x : Sci). is_at x of_an r) (sym same.0)
+    ∙ ap (λ (n : ℕ). is_at sci n r) (sym same.1) ∙ here)) s.rx.rows) there'
+by_command s c sci an row later deleted there there' = cc
 
 -- ---- a step
 
-still : (row later : RxRow) (rows : List RxRow) (sci : Sci) (an : ℕ) → rx_row rows sci an ≡ Some row → rx_row rows sci an ≡ Some later → row.next ≤ later.next
+still : (row later : RxRow) (rows : List RxRow) (sci : Sci) (an : ℕ) → rx_row rows sci an ≡ Some row →
+    rx_row rows sci an ≡ Some later → row.next ≤ later.next
 still row later rows sci an there there' =
     let one : row ≡ later = ap (λ (o : Option RxRow). unwrap_or o later) (sym there ∙ there') in
     subst (λ (x : RxRow). row.next ≤ x.next) one (omega arith)
 
-by_input : RowsStay → (s : State) (input : Input) (sci : Sci) (an : ℕ) (row later : RxRow) → (b : Bool) → is_deleting sci an input ≡ b → rx_row s.rx.rows sci an ≡ Some row →
+by_input : RowsStay → (s : State) (input : Input) (sci : Sci) (an : ℕ) (row later : RxRow) → (b : Bool) →
+    is_deleting sci an input ≡ b → rx_row s.rx.rows sci an ≡ Some row →
     rx_row (step s input).1.rx.rows sci an ≡ Some later → row.next ≤ later.next
 by_input stay s input sci an row later false kept there there' =
     let it = stay s input sci an row.next kept (record { row = row; there = there; above = omega arith }) in
     let one : it.row ≡ later = ap (λ (o : Option RxRow). unwrap_or o later) (sym it.there ∙ there') in
     subst (λ (x : RxRow). row.next ≤ x.next) one it.above
-by_input stay s (operator_command c) sci an row later true deleted there there' = by_command s c sci an row later deleted there there'
-by_input stay s (client_frame frame) sci an row later true deleted there there' = cc
-by_input stay s (uncontrolled_frame frame) sci an row later true deleted there there' = cc
-by_input stay s (link_frame frame) sci an row later true deleted there there' = cc
+by_input stay s (operator_command c) sci an row later true deleted there there' =
+    by_command s c sci an row later deleted there there'
+by_input stay s input sci an row later true deleted there there' = cc
 
-by_both : (below go : Bool) (k : Keeping) (answer : Output × State) (sci : Sci) (an : ℕ) (row later : RxRow) → rx_row k.secy.rx.rows sci an ≡ Some row →
-    (rx_row answer.1.rx.rows sci an ≡ Some later → row.next ≤ later.next) → rx_row (by_tests below go k answer).1.secy.rx.rows sci an ≡ Some later → row.next ≤ later.next
+by_both : (below go : Bool) (k : Keeping) (answer : Output × State) (sci : Sci) (an : ℕ) (row later : RxRow) →
+    rx_row k.secy.rx.rows sci an ≡ Some row →
+    (rx_row answer.1.rx.rows sci an ≡ Some later → row.next ≤ later.next) →
+    rx_row (by_tests below go k answer).1.secy.rx.rows sci an ≡ Some later → row.next ≤ later.next
 by_both true go k answer sci an row later there stepped there' = still row later k.secy.rx.rows sci an there there'
 by_both false true k answer sci an row later there stepped there' = stepped there'
 by_both false false k answer sci an row later there stepped there' = still row later k.secy.rx.rows sci an there there'
 
-next_stays : RowsStay → (k : Keeping) (input : KeepingInput) (sci : Sci) (an : ℕ) (row later : RxRow) → rx_row k.secy.rx.rows sci an ≡ Some row →
+next_stays : RowsStay → (k : Keeping) (input : KeepingInput) (sci : Sci) (an : ℕ) (row later : RxRow) →
+    rx_row k.secy.rx.rows sci an ≡ Some row →
     rx_row (keeping_step k input).1.secy.rx.rows sci an ≡ Some later → row.next ≤ later.next
 next_stays stay k (now_durable r) sci an row later there there' = still row later k.secy.rx.rows sci an there there'
 next_stays stay k (endpoint_input input) sci an row later there there' =
-    by_both (is_below_floor k input) (may_go k input) k (step k.secy input) sci an row later there (by_input stay k.secy input sci an row later (is_deleting sci an input) refl there) there'
+    by_both (is_below_floor k input) (may_go k input) k (step k.secy input) sci an row later there
+    (by_input stay k.secy input sci an row later (is_deleting sci an input) refl there) there'
 
-pub below_after : RowsStay → (k : Keeping) (input : KeepingInput) (bytes : List ℕ) (sci : Sci) (an n : ℕ) → IsBelowNext k.secy bytes sci an n →
-    ((row : RxRow) → rx_row (keeping_step k input).1.secy.rx.rows sci an ≡ Some row → IsUnder (keeping_step k input).1.secy bytes row →
-    ((earlier : RxRow) → rx_row k.secy.rx.rows sci an ≡ Some earlier → IsUnder k.secy bytes earlier → ⊥) → n < row.next) →
+pub below_after : RowsStay → (k : Keeping) (input : KeepingInput) (bytes : List ℕ) (sci : Sci) (an n : ℕ) →
+    IsBelowNext k.secy bytes sci an n →
+    ((row : RxRow) → rx_row (keeping_step k input).1.secy.rx.rows sci an ≡ Some row →
+    IsUnder (keeping_step k input).1.secy bytes row →
+    ((earlier : RxRow) → rx_row k.secy.rx.rows sci an ≡ Some earlier → IsUnder k.secy bytes earlier → ⊥) →
+    n < row.next) →
     IsBelowNext (keeping_step k input).1.secy bytes sci an n
 below_after stay k input bytes sci an n below creates later there' under = by_row (rx_row k.secy.rx.rows sci an) refl
   where
     by_row : (o : Option RxRow) → rx_row k.secy.rx.rows sci an ≡ o → n + 1 ≤ later.next
-    by_row None none = omega (arith, creates later there' under (λ earlier there under'. let no = sym there ∙ none in cc))
+    by_row None none = omega
+        (arith, creates later there' under (λ earlier there under'. let no = sym there ∙ none in cc))
     by_row (Some row) there = by_key (same_octets (the_key k.secy.keys row.key).bytes bytes) refl
       where
         by_key : (b : Bool) → same_octets (the_key k.secy.keys row.key).bytes bytes ≡ b → n + 1 ≤ later.next
@@ -146,6 +149,7 @@ below_after stay k input bytes sci an n below creates later there' under = by_ro
               creates later there' under (λ earlier at under'.
                   let one : row ≡ earlier = ap (λ (o : Option RxRow). unwrap_or o earlier) (sym there ∙ at) in
                   let same : same_octets (the_key k.secy.keys row.key).bytes bytes ≡ true =
-                  (bytes_eq-Decides (the_key k.secy.keys row.key).bytes bytes).1 (ap (λ (x : RxRow). (the_key k.secy.keys x.key).bytes) one ∙ under') in
+                  (bytes_eq-Decides (the_key k.secy.keys row.key).bytes bytes).1
+                  (ap (λ (x : RxRow). (the_key k.secy.keys x.key).bytes) one ∙ under') in
                   let no = sym same ∙ other in cc),
             )

@@ -30,146 +30,184 @@ with_last input (run ∷ later ∷ more) = run ∷ with_last input (later ∷ mo
 until_open : (e f : End) (input : KeepingInput) (more : List Happening) → runs_of e more ≡ [] → same_end e f ≡ true →
     inputs_until e (more ++ comes_in f input ∷ []) ≡ inputs_until e more ++ input ∷ []
 until_open e f input [] none same = ap (λ (b : Bool). if b then input ∷ [] else []) same
-until_open e f input (begins g config journal ∷ more) none same = by_end (same_end e g) none (λ none'. until_open e f input more none' same)
+until_open e f input (begins g config journal ∷ more) none same =
+    by_end (same_end e g) none (λ none'. until_open e f input more none' same)
   where
-    by_end : (b : Bool) → (if b then record { journal = journal; config = config; inputs = inputs_until e more } ∷ runs_of e more else runs_of e more) ≡ [] →
+    by_end : (b : Bool) → (if b then record { journal = journal; config = config; inputs = inputs_until e more }
+        ∷ runs_of e more else runs_of e more) ≡ [] →
         (runs_of e more ≡ [] → inputs_until e (more ++ comes_in f input ∷ []) ≡ inputs_until e more ++ input ∷ []) →
-        (if b then [] else inputs_until e (more ++ comes_in f input ∷ [])) ≡ (if b then [] else inputs_until e more) ++ input ∷ []
+        (if b then [] else inputs_until e (more ++ comes_in f input ∷ [])) ≡
+        (if b then [] else inputs_until e more) ++ input ∷ []
     by_end true none' later = cc
     by_end false none' later = later none'
 until_open e f input (comes_in g i ∷ more) none same = by_end (same_end e g) (until_open e f input more none same)
   where
     by_end : (b : Bool) → inputs_until e (more ++ comes_in f input ∷ []) ≡ inputs_until e more ++ input ∷ [] →
-        (if b then i ∷ inputs_until e (more ++ comes_in f input ∷ []) else inputs_until e (more ++ comes_in f input ∷ [])) ≡
+        (if b then i ∷ inputs_until e (more ++ comes_in f input ∷ [])
+        else inputs_until e (more ++ comes_in f input ∷ [])) ≡
         (if b then i ∷ inputs_until e more else inputs_until e more) ++ input ∷ []
     by_end true rest = ap (λ is. i ∷ is) rest
     by_end false rest = rest
 
 -- if a run begins later
-until_closed : (e : End) (h : Happening) (more : List Happening) (run : Run) (runs : List Run) → runs_of e more ≡ run ∷ runs → inputs_until e (more ++ h ∷ []) ≡ inputs_until e more
+until_closed : (e : End) (h : Happening) (more : List Happening) (run : Run) (runs : List Run) →
+    runs_of e more ≡ run ∷ runs → inputs_until e (more ++ h ∷ []) ≡ inputs_until e more
 until_closed e h [] run runs some = cc
-until_closed e h (begins g config journal ∷ more) run runs some = by_end (same_end e g) some (λ some'. until_closed e h more run runs some')
+until_closed e h (begins g config journal ∷ more) run runs some =
+    by_end (same_end e g) some (λ some'. until_closed e h more run runs some')
   where
-    by_end : (b : Bool) → (if b then record { journal = journal; config = config; inputs = inputs_until e more } ∷ runs_of e more else runs_of e more) ≡ run ∷ runs →
+    by_end : (b : Bool) → (if b then record { journal = journal; config = config; inputs = inputs_until e more }
+        ∷ runs_of e more else runs_of e more) ≡ run ∷ runs →
         (runs_of e more ≡ run ∷ runs → inputs_until e (more ++ h ∷ []) ≡ inputs_until e more) →
         (if b then [] else inputs_until e (more ++ h ∷ [])) ≡ (if b then [] else inputs_until e more)
     by_end true some' later = refl
     by_end false some' later = later some'
-until_closed e h (comes_in g i ∷ more) run runs some = ap (λ is. if same_end e g then i ∷ is else is) (until_closed e h more run runs some)
+until_closed e h (comes_in g i ∷ more) run runs some =
+    ap (λ is. if same_end e g then i ∷ is else is) (until_closed e h more run runs some)
 
 -- what happens at the other end
-until_other : (e f : End) (input : KeepingInput) (more : List Happening) → same_end e f ≡ false → inputs_until e (more ++ comes_in f input ∷ []) ≡ inputs_until e more
+until_other : (e f : End) (input : KeepingInput) (more : List Happening) → same_end e f ≡ false →
+    inputs_until e (more ++ comes_in f input ∷ []) ≡ inputs_until e more
 until_other e f input [] other = ap (λ (b : Bool). if b then input ∷ [] else []) other
-until_other e f input (begins g config journal ∷ more) other = ap (λ is. if same_end e g then [] else is) (until_other e f input more other)
-until_other e f input (comes_in g i ∷ more) other = ap (λ is. if same_end e g then i ∷ is else is) (until_other e f input more other)
+until_other e f input (begins g config journal ∷ more) other =
+    ap (λ is. if same_end e g then [] else is) (until_other e f input more other)
+until_other e f input (comes_in g i ∷ more) other =
+    ap (λ is. if same_end e g then i ∷ is else is) (until_other e f input more other)
 
 either_way : (b : Bool) (is : List KeepingInput) → (if b then is else is) ≡ is
 either_way true is = refl
 either_way false is = refl
 
 -- a beginning
-until_begins : (e f : End) (config : EndConfig) (journal : List ℕ) (more : List Happening) → inputs_until e (more ++ begins f config journal ∷ []) ≡ inputs_until e more
+until_begins : (e f : End) (config : EndConfig) (journal : List ℕ) (more : List Happening) →
+    inputs_until e (more ++ begins f config journal ∷ []) ≡ inputs_until e more
 until_begins e f config journal [] = either_way (same_end e f) []
-until_begins e f config journal (begins g config' journal' ∷ more) = ap (λ is. if same_end e g then [] else is) (until_begins e f config journal more)
-until_begins e f config journal (comes_in g i ∷ more) = ap (λ is. if same_end e g then i ∷ is else is) (until_begins e f config journal more)
+until_begins e f config journal (begins g config' journal' ∷ more) =
+    ap (λ is. if same_end e g then [] else is) (until_begins e f config journal more)
+until_begins e f config journal (comes_in g i ∷ more) =
+    ap (λ is. if same_end e g then i ∷ is else is) (until_begins e f config journal more)
 
 -- ---- the runs
 
 abbrev pub run_with : EndConfig → List ℕ → List KeepingInput → Run
 run_with config journal inputs = record { journal = journal; config = config; inputs = inputs }
 
-pub runs_of-input : (e f : End) (input : KeepingInput) (before : List Happening) → same_end e f ≡ true → runs_of e (before ++ comes_in f input ∷ []) ≡ with_last input (runs_of e before)
+pub runs_of-input : (e f : End) (input : KeepingInput) (before : List Happening) → same_end e f ≡ true →
+    runs_of e (before ++ comes_in f input ∷ []) ≡ with_last input (runs_of e before)
 runs_of-input e f input [] same = refl
 runs_of-input e f input (comes_in g i ∷ more) same = runs_of-input e f input more same
-runs_of-input e f input (begins g config journal ∷ more) same = by_end (same_end e g) (by_rest (runs_of e more) refl (runs_of-input e f input more same)) (runs_of-input e f input more same)
+runs_of-input e f input (begins g config journal ∷ more) same =
+    by_end (same_end e g) (by_rest (runs_of e more) refl (runs_of-input e f input more same))
+    (runs_of-input e f input more same)
   where
     Pushed : Type 0
-    Pushed = run_with config journal (inputs_until e (more ++ comes_in f input ∷ [])) ∷ runs_of e (more ++ comes_in f input ∷ []) ≡
+    Pushed = run_with config journal (inputs_until e (more ++ comes_in f input ∷ []))
+        ∷ runs_of e (more ++ comes_in f input ∷ []) ≡
         with_last input (run_with config journal (inputs_until e more) ∷ runs_of e more)
 
-    by_rest : (rest : List Run) → runs_of e more ≡ rest → runs_of e (more ++ comes_in f input ∷ []) ≡ with_last input (runs_of e more) →
-        run_with config journal (inputs_until e (more ++ comes_in f input ∷ [])) ∷ runs_of e (more ++ comes_in f input ∷ []) ≡
+    by_rest : (rest : List Run) → runs_of e more ≡ rest →
+        runs_of e (more ++ comes_in f input ∷ []) ≡ with_last input (runs_of e more) →
+        run_with config journal (inputs_until e (more ++ comes_in f input ∷ []))
+        ∷ runs_of e (more ++ comes_in f input ∷ []) ≡
         with_last input (run_with config journal (inputs_until e more) ∷ runs_of e more)
     by_rest [] none later =
-        ap (λ is. run_with config journal is ∷ runs_of e (more ++ comes_in f input ∷ [])) (until_open e f input more none same)
-        ∙ ap (λ rs. run_with config journal (inputs_until e more ++ input ∷ []) ∷ rs) (later ∙ ap (with_last input) none)
+        ap (λ is. run_with config journal is ∷ runs_of e (more ++ comes_in f input ∷ []))
+        (until_open e f input more none same)
+        ∙ ap (λ rs. run_with config journal (inputs_until e more ++ input ∷ []) ∷ rs)
+        (later ∙ ap (with_last input) none)
         ∙ ap (λ rs. with_last input (run_with config journal (inputs_until e more) ∷ rs)) (sym none)
     by_rest (run ∷ runs) some later =
-        ap (λ is. run_with config journal is ∷ runs_of e (more ++ comes_in f input ∷ [])) (until_closed e (comes_in f input) more run runs some)
+        ap (λ is. run_with config journal is ∷ runs_of e (more ++ comes_in f input ∷ []))
+        (until_closed e (comes_in f input) more run runs some)
         ∙ ap (λ rs. run_with config journal (inputs_until e more) ∷ rs) (later ∙ ap (with_last input) some)
         ∙ ap (λ rs. with_last input (run_with config journal (inputs_until e more) ∷ rs)) (sym some)
 
     by_end : (b : Bool) → Pushed → runs_of e (more ++ comes_in f input ∷ []) ≡ with_last input (runs_of e more) →
-        (if b then run_with config journal (inputs_until e (more ++ comes_in f input ∷ [])) ∷ runs_of e (more ++ comes_in f input ∷ []) else runs_of e (more ++ comes_in f input ∷ [])) ≡
+        (if b then run_with config journal (inputs_until e (more ++ comes_in f input ∷ []))
+        ∷ runs_of e (more ++ comes_in f input ∷ []) else runs_of e (more ++ comes_in f input ∷ [])) ≡
         with_last input (if b then run_with config journal (inputs_until e more) ∷ runs_of e more else runs_of e more)
     by_end true own later = own
     by_end false own later = later
 
-pub runs_of-other_input : (e f : End) (input : KeepingInput) (before : List Happening) → same_end e f ≡ false → runs_of e (before ++ comes_in f input ∷ []) ≡ runs_of e before
+pub runs_of-other_input : (e f : End) (input : KeepingInput) (before : List Happening) → same_end e f ≡ false →
+    runs_of e (before ++ comes_in f input ∷ []) ≡ runs_of e before
 runs_of-other_input e f input [] other = refl
 runs_of-other_input e f input (comes_in g i ∷ more) other = runs_of-other_input e f input more other
 runs_of-other_input e f input (begins g config journal ∷ more) other =
-    ap (λ is. if same_end e g then run_with config journal is ∷ runs_of e (more ++ comes_in f input ∷ []) else runs_of e (more ++ comes_in f input ∷ [])) (until_other e f input more other)
-    ∙ ap (λ rs. if same_end e g then run_with config journal (inputs_until e more) ∷ rs else rs) (runs_of-other_input e f input more other)
+    ap (λ is. if same_end e g then run_with config journal is ∷ runs_of e (more ++ comes_in f input ∷ [])
+    else runs_of e (more ++ comes_in f input ∷ [])) (until_other e f input more other)
+    ∙ ap (λ rs. if same_end e g then run_with config journal (inputs_until e more) ∷ rs else rs)
+    (runs_of-other_input e f input more other)
 
 -- a beginning at this end or at the other one
 pub runs_of-begins : (e f : End) (config : EndConfig) (journal : List ℕ) (before : List Happening) →
-    runs_of e (before ++ begins f config journal ∷ []) ≡ runs_of e before ++ (if same_end e f then run_with config journal [] ∷ [] else [])
+    runs_of e (before ++ begins f config journal ∷ []) ≡
+    runs_of e before ++ (if same_end e f then run_with config journal [] ∷ [] else [])
 runs_of-begins e f config journal [] = refl
 runs_of-begins e f config journal (comes_in g i ∷ more) = runs_of-begins e f config journal more
-runs_of-begins e f config journal (begins g config' journal' ∷ more) = by_end (same_end e g) (runs_of-begins e f config journal more)
+runs_of-begins e f config journal (begins g config' journal' ∷ more) =
+    by_end (same_end e g) (runs_of-begins e f config journal more)
   where
     added : List Run
     added = if same_end e f then run_with config journal [] ∷ [] else []
 
     by_end : (b : Bool) → runs_of e (more ++ begins f config journal ∷ []) ≡ runs_of e more ++ added →
-        (if b then run_with config' journal' (inputs_until e (more ++ begins f config journal ∷ [])) ∷ runs_of e (more ++ begins f config journal ∷ []) else runs_of e (more ++ begins f config journal ∷ [])) ≡
+        (if b then run_with config' journal' (inputs_until e (more ++ begins f config journal ∷ []))
+        ∷ runs_of e (more ++ begins f config journal ∷ []) else runs_of e (more ++ begins f config journal ∷ [])) ≡
         (if b then run_with config' journal' (inputs_until e more) ∷ runs_of e more else runs_of e more) ++ added
     by_end true later =
-        ap (λ is. run_with config' journal' is ∷ runs_of e (more ++ begins f config journal ∷ [])) (until_begins e f config journal more)
+        ap (λ is. run_with config' journal' is ∷ runs_of e (more ++ begins f config journal ∷ []))
+        (until_begins e f config journal more)
         ∙ ap (λ rs. run_with config' journal' (inputs_until e more) ∷ rs) later
     by_end false later = later
 
 -- ---- the last run
 
-pub last_run-with_last : (input : KeepingInput) (runs : List Run) → last_run (with_last input runs) ≡ option_map (with_input input) (last_run runs)
-last_run-with_last input [] = refl
-last_run-with_last input (run ∷ []) = refl
-last_run-with_last input (run ∷ later ∷ []) = refl
+pub last_run-with_last : (input : KeepingInput) (runs : List Run) →
+    last_run (with_last input runs) ≡ option_map (with_input input) (last_run runs)
 last_run-with_last input (run ∷ later ∷ third ∷ more) = last_run-with_last input (later ∷ third ∷ more)
+last_run-with_last input it = refl
 
 pub last_run-push : (runs : List Run) (run : Run) → last_run (runs ++ run ∷ []) ≡ Some run
 last_run-push [] run = refl
 last_run-push (p ∷ []) run = refl
 last_run-push (p ∷ q ∷ more) run = last_run-push (q ∷ more) run
 
-pub after-push : (inputs : List KeepingInput) (k : Keeping) (input : KeepingInput) → keeping_after k (inputs ++ input ∷ []) ≡ (keeping_step (keeping_after k inputs) input).1
+pub after-push : (inputs : List KeepingInput) (k : Keeping) (input : KeepingInput) →
+    keeping_after k (inputs ++ input ∷ []) ≡ (keeping_step (keeping_after k inputs) input).1
 after-push [] k input = refl
 after-push (i ∷ inputs) k input = after-push inputs (keeping_step k i).1 input
 
 -- the end of a run with one more input
-pub closing-input : (input : KeepingInput) (run : Run) → closing (with_input input run) ≡ (keeping_step (closing run) input).1
+pub closing-input : (input : KeepingInput) (run : Run) →
+    closing (with_input input run) ≡ (keeping_step (closing run) input).1
 closing-input input run = after-push run.inputs (opening run) input
 
 -- ---- what they delivered and sent
 
-pub delivered_from-push : (inputs : List KeepingInput) (k : Keeping) (input : KeepingInput) → delivered_from k (inputs ++ input ∷ []) ≡ delivered_from k inputs ++ newly_delivered (keeping_after k inputs) input
+pub delivered_from-push : (inputs : List KeepingInput) (k : Keeping) (input : KeepingInput) →
+    delivered_from k (inputs ++ input ∷ []) ≡ delivered_from k inputs ++ newly_delivered (keeping_after k inputs) input
 delivered_from-push [] k input = append-nil (newly_delivered k input)
 delivered_from-push (i ∷ inputs) k input =
     ap (λ gs. newly_delivered k i ++ gs) (delivered_from-push inputs (keeping_step k i).1 input)
-    ∙ sym (append_assoc (newly_delivered k i) (delivered_from (keeping_step k i).1 inputs) (newly_delivered (keeping_after (keeping_step k i).1 inputs) input))
+    ∙ sym (append_assoc (newly_delivered k i) (delivered_from (keeping_step k i).1 inputs)
+    (newly_delivered (keeping_after (keeping_step k i).1 inputs) input))
 
-sent_from-push : (inputs : List KeepingInput) (k : Keeping) (input : KeepingInput) → sent_from k (inputs ++ input ∷ []) ≡ sent_from k inputs ++ newly_sent (keeping_after k inputs) input
+sent_from-push : (inputs : List KeepingInput) (k : Keeping) (input : KeepingInput) →
+    sent_from k (inputs ++ input ∷ []) ≡ sent_from k inputs ++ newly_sent (keeping_after k inputs) input
 sent_from-push [] k input = append-nil (newly_sent k input)
 sent_from-push (i ∷ inputs) k input =
     ap (λ gs. newly_sent k i ++ gs) (sent_from-push inputs (keeping_step k i).1 input)
-    ∙ sym (append_assoc (newly_sent k i) (sent_from (keeping_step k i).1 inputs) (newly_sent (keeping_after (keeping_step k i).1 inputs) input))
+    ∙ sym (append_assoc (newly_sent k i) (sent_from (keeping_step k i).1 inputs)
+    (newly_sent (keeping_after (keeping_step k i).1 inputs) input))
 
 pub delivered_in-input : (bytes : List ℕ) (sci : Sci) (an : ℕ) (input : KeepingInput) (run : Run) →
-    delivered_in (with_input input run) bytes sci an ≡ delivered_in run bytes sci an ++ delivered_at bytes sci an (newly_delivered (closing run) input)
+    delivered_in (with_input input run) bytes sci an ≡
+    delivered_in run bytes sci an ++ delivered_at bytes sci an (newly_delivered (closing run) input)
 delivered_in-input bytes sci an input run =
     ap (delivered_at bytes sci an) (delivered_from-push run.inputs (opening run) input)
-    ∙ filter-append (λ d. same_octets d.bytes bytes && same_sci d.sci sci && d.an == an) (delivered_from (opening run) run.inputs) (newly_delivered (closing run) input)
+    ∙ filter-append (λ d. same_octets d.bytes bytes && same_sci d.sci sci && d.an == an)
+    (delivered_from (opening run) run.inputs) (newly_delivered (closing run) input)
 
 -- what the last run adds, if there is one
 abbrev pub delivered_by_last : Option Run → KeepingInput → List Delivery
@@ -180,7 +218,8 @@ abbrev pub sent_by_last : Option Run → KeepingInput → List SentIn
 sent_by_last None input = []
 sent_by_last (Some run) input = newly_sent (closing run) input
 
-pub delivered_in_all-with_last : (input : KeepingInput) (runs : List Run) → delivered_in_all (with_last input runs) ≡ delivered_in_all runs ++ delivered_by_last (last_run runs) input
+pub delivered_in_all-with_last : (input : KeepingInput) (runs : List Run) →
+    delivered_in_all (with_last input runs) ≡ delivered_in_all runs ++ delivered_by_last (last_run runs) input
 delivered_in_all-with_last input [] = refl
 delivered_in_all-with_last input (run ∷ []) =
     append-nil (delivered_from (opening run) (run.inputs ++ input ∷ []))
@@ -188,9 +227,11 @@ delivered_in_all-with_last input (run ∷ []) =
     ∙ ap (λ gs. gs ++ newly_delivered (closing run) input) (sym (append-nil (delivered_from (opening run) run.inputs)))
 delivered_in_all-with_last input (run ∷ later ∷ more) =
     ap (λ gs. delivered_from (opening run) run.inputs ++ gs) (delivered_in_all-with_last input (later ∷ more))
-    ∙ sym (append_assoc (delivered_from (opening run) run.inputs) (delivered_in_all (later ∷ more)) (delivered_by_last (last_run (later ∷ more)) input))
+    ∙ sym (append_assoc (delivered_from (opening run) run.inputs) (delivered_in_all (later ∷ more))
+    (delivered_by_last (last_run (later ∷ more)) input))
 
-pub sent_in_all-with_last : (input : KeepingInput) (runs : List Run) → sent_in_all (with_last input runs) ≡ sent_in_all runs ++ sent_by_last (last_run runs) input
+pub sent_in_all-with_last : (input : KeepingInput) (runs : List Run) →
+    sent_in_all (with_last input runs) ≡ sent_in_all runs ++ sent_by_last (last_run runs) input
 sent_in_all-with_last input [] = refl
 sent_in_all-with_last input (run ∷ []) =
     append-nil (sent_from (opening run) (run.inputs ++ input ∷ []))
@@ -198,14 +239,18 @@ sent_in_all-with_last input (run ∷ []) =
     ∙ ap (λ gs. gs ++ newly_sent (closing run) input) (sym (append-nil (sent_from (opening run) run.inputs)))
 sent_in_all-with_last input (run ∷ later ∷ more) =
     ap (λ gs. sent_from (opening run) run.inputs ++ gs) (sent_in_all-with_last input (later ∷ more))
-    ∙ sym (append_assoc (sent_from (opening run) run.inputs) (sent_in_all (later ∷ more)) (sent_by_last (last_run (later ∷ more)) input))
+    ∙ sym (append_assoc (sent_from (opening run) run.inputs) (sent_in_all (later ∷ more))
+    (sent_by_last (last_run (later ∷ more)) input))
 
 -- a run without inputs adds nothing
-pub delivered_in_all-new : (runs : List Run) (run : Run) → run.inputs ≡ [] → delivered_in_all (runs ++ run ∷ []) ≡ delivered_in_all runs
+pub delivered_in_all-new : (runs : List Run) (run : Run) → run.inputs ≡ [] →
+    delivered_in_all (runs ++ run ∷ []) ≡ delivered_in_all runs
 delivered_in_all-new [] run none = ap (λ is. delivered_from (opening run) is ++ []) none
-delivered_in_all-new (p ∷ ps) run none = ap (λ gs. delivered_from (opening p) p.inputs ++ gs) (delivered_in_all-new ps run none)
+delivered_in_all-new (p ∷ ps) run none = ap (λ gs. delivered_from (opening p) p.inputs ++ gs)
+    (delivered_in_all-new ps run none)
 
-pub sent_in_all-new : (runs : List Run) (run : Run) → run.inputs ≡ [] → sent_in_all (runs ++ run ∷ []) ≡ sent_in_all runs
+pub sent_in_all-new : (runs : List Run) (run : Run) → run.inputs ≡ [] →
+    sent_in_all (runs ++ run ∷ []) ≡ sent_in_all runs
 sent_in_all-new [] run none = ap (λ is. sent_from (opening run) is ++ []) none
 sent_in_all-new (p ∷ ps) run none = ap (λ gs. sent_from (opening p) p.inputs ++ gs) (sent_in_all-new ps run none)
 
@@ -224,13 +269,16 @@ sends_more e before (comes_in f input) = by_end (same_end e f) refl
     }
     by_end false other = record {
       added = [];
-      more = ap sent_in_all (runs_of-other_input e f input before other) ∙ sym (append-nil (sent_in_all (runs_of e before)));
+      more = ap sent_in_all (runs_of-other_input e f input before other)
+          ∙ sym (append-nil (sent_in_all (runs_of e before)));
     }
 sends_more e before (begins f config journal) = record {
   added = [];
-  more = ap sent_in_all (runs_of-begins e f config journal before) ∙ by_end (same_end e f) ∙ sym (append-nil (sent_in_all (runs_of e before)));
+  more = ap sent_in_all (runs_of-begins e f config journal before) ∙ by_end (same_end e f)
+      ∙ sym (append-nil (sent_in_all (runs_of e before)));
 }
   where
-    by_end : (b : Bool) → sent_in_all (runs_of e before ++ (if b then run_with config journal [] ∷ [] else [])) ≡ sent_in_all (runs_of e before)
+    by_end : (b : Bool) → sent_in_all (runs_of e before ++ (if b then run_with config journal [] ∷ [] else [])) ≡
+        sent_in_all (runs_of e before)
     by_end true = sent_in_all-new (runs_of e before) (run_with config journal []) refl
     by_end false = ap sent_in_all (append-nil (runs_of e before))

@@ -23,7 +23,7 @@ use Rattle.macsec_rx.specs.Judge.{Judgement, at_row, bare_frame, in_use, is_disa
 use Rattle.macsec_secy.specs.declared.fault.FrameFault.{FrameFault}
 use Rattle.macsec_secy.specs.Reception.{judge_reading, judgement_of}
 use Rattle.macsec_secy.specs.State.{State, rx_options, tx_options}
-use Rattle.macsec_secy.specs.Step.{Output, client_frame, frame_fault, link_frame, operator_command, sending_of, step, uncontrolled_frame}
+use Rattle.macsec_secy.specs.Step.{Output, client_frame, frame_fault, link_frame, sending_of, step}
 use Rattle.macsec_secy.proofs.OtherOctets.{found_unused}
 use Rattle.macsec_secy.proofs.UsedNumbers.{sent_by as by_none_or_on}
 use Rattle.macsec_link.proofs.Members.{IsMember}
@@ -45,30 +45,38 @@ found_in : {X : Type 0} (test : X → Bool) (xs : List X) (x : X) → find test 
 found_in test [] x is = cc
 found_in test (y ∷ ys) x is = by_test (test y) is (found_in test ys x)
   where
-    by_test : (b : Bool) → (if b then Some y else find test ys) ≡ Some x → (find test ys ≡ Some x → IsMember ys x) → IsMember (y ∷ ys) x
+    by_test : (b : Bool) → (if b then Some y else find test ys) ≡ Some x → (find test ys ≡ Some x → IsMember ys x) →
+        IsMember (y ∷ ys) x
     by_test true is' later = inl cc
     by_test false is' later = inr (later is')
 
-in_use_there : (rows : List RxRow) (an : ℕ) (o : Option Sci) (row : RxRow) → in_use rows an o ≡ Some row → IsMember rows row
+in_use_there : (rows : List RxRow) (an : ℕ) (o : Option Sci) (row : RxRow) → in_use rows an o ≡ Some row →
+    IsMember rows row
 in_use_there rows an None row is = cc
 in_use_there rows an (Some sci) row is = found_in (λ (r : RxRow). is_at sci an r && r.on) rows row is
 
-opened_row : (options : RxOptions) (key : InstalledKey) (row : RxRow) (number : ℕ) (p : MpduParts) (o : Option (List ℕ)) → (judge_opened options key row number p o).row ≡ Some row
+opened_row : (options : RxOptions) (key : InstalledKey) (row : RxRow) (number : ℕ) (p : MpduParts)
+    (o : Option (List ℕ)) → (judge_opened options key row number p o).row ≡ Some row
 opened_row options key row number p (Some plaintext) = refl
 opened_row options key row number p None = by_test (p.tag.c || is_strict options.mode)
   where
-    by_test : (b : Bool) → (if b then at_row row number 11 NotValid None else at_row row number 12 Invalid (Some (bare_frame p))).row ≡ Some row
+    by_test : (b : Bool) → (if b then at_row row number 11 NotValid None
+        else at_row row number 12 Invalid (Some (bare_frame p))).row ≡ Some row
     by_test true = refl
     by_test false = refl
 
-number_row : (options : RxOptions) (key : InstalledKey) (row : RxRow) (p : MpduParts) (o : Option ℕ) → (judge_number options key row p o).row ≡ Some row
+number_row : (options : RxOptions) (key : InstalledKey) (row : RxRow) (p : MpduParts) (o : Option ℕ) →
+    (judge_number options key row p o).row ≡ Some row
 number_row options key row p None = refl
-number_row options key row p (Some number) = by_three (options.replay && is_late row.lowest number) (is_disabled options.mode && p.tag.c) (is_disabled options.mode)
+number_row options key row p (Some number) =
+    by_three (options.replay && is_late row.lowest number) (is_disabled options.mode && p.tag.c)
+    (is_disabled options.mode)
   where
     by_three : (dropped unusable disabled : Bool) → (
         if dropped then at_row row number 8 Late None
         else if unusable then at_row row number 9 NotValid None
-        else if disabled then at_row row number 10 (if is_late row.lowest number then Delayed else Unchecked) (Some (bare_frame p))
+        else if disabled then at_row row number 10 (if is_late row.lowest number then Delayed else Unchecked)
+        (Some (bare_frame p))
         else judge_validated options key row number p).row ≡ Some row
     by_three true unusable disabled = refl
     by_three false true disabled = refl
@@ -78,35 +86,43 @@ number_row options key row p (Some number) = by_three (options.replay && is_late
 no_sa_row : (s : State) (p : MpduParts) (row : RxRow) → (judge_row (rx_options s) s.keys p None).row ≡ Some row → ⊥
 no_sa_row s p row is = by_mode (is_strict s.options.mode || p.tag.c) is
   where
-    by_mode : (b : Bool) → (if b then without_row 5 NoSaError None else without_row 6 NoSa (Some (bare_frame p))).row ≡ Some row → ⊥
+    by_mode : (b : Bool) → (if b then without_row 5 NoSaError None else without_row 6 NoSa (Some (bare_frame p))).row ≡
+        Some row → ⊥
     by_mode true is' = cc
     by_mode false is' = cc
 
 untagged_row : (s : State) (frame : List ℕ) (row : RxRow) → (judge_reading s frame untagged).row ≡ Some row → ⊥
 untagged_row s frame row is = by_mode (is_strict s.options.mode) is
   where
-    by_mode : (b : Bool) → (if b then without_row 1 NoTag None else without_row 2 Untagged (Some frame)).row ≡ Some row → ⊥
+    by_mode : (b : Bool) → (if b then without_row 1 NoTag None else without_row 2 Untagged (Some frame)).row ≡
+        Some row → ⊥
     by_mode true is' = cc
     by_mode false is' = cc
 
-judged_there : (s : State) (frame : List ℕ) (r : Reading) (row : RxRow) → (judge_reading s frame r).row ≡ Some row → IsMember s.rx.rows row
+judged_there : (s : State) (frame : List ℕ) (r : Reading) (row : RxRow) → (judge_reading s frame r).row ≡ Some row →
+    IsMember s.rx.rows row
 judged_there s frame untagged row is = absurd (untagged_row s frame row is)
 judged_there s frame (bad fault) row is = cc
 judged_there s frame (tagged p) row is = by_bits (p.tag.e && not p.tag.c) is
   where
-    by_sa : (o : Option RxRow) → in_use s.rx.rows p.tag.an (sci_of s.rx.scis p) ≡ o → (judge_row (rx_options s) s.keys p o).row ≡ Some row → IsMember s.rx.rows row
+    by_sa : (o : Option RxRow) → in_use s.rx.rows p.tag.an (sci_of s.rx.scis p) ≡ o →
+        (judge_row (rx_options s) s.keys p o).row ≡ Some row → IsMember s.rx.rows row
     by_sa None found is' = absurd (no_sa_row s p row is')
     by_sa (Some own) found is' =
         let key = the_key s.keys own.key in
-        let one : Some own ≡ Some row = sym (number_row (rx_options s) key own p (number_of_frame key.suite own.lowest p.tag.pn)) ∙ is' in
+        let one : Some own ≡ Some row = sym (number_row (rx_options s) key own p
+        (number_of_frame key.suite own.lowest p.tag.pn)) ∙ is' in
         in_use_there s.rx.rows p.tag.an (sci_of s.rx.scis p) row (found ∙ one)
 
-    by_bits : (b : Bool) → (if b then without_row 4 Reserved None else judge_row (rx_options s) s.keys p (in_use s.rx.rows p.tag.an (sci_of s.rx.scis p))).row ≡ Some row → IsMember s.rx.rows row
+    by_bits : (b : Bool) → (if b then without_row 4 Reserved None
+        else judge_row (rx_options s) s.keys p (in_use s.rx.rows p.tag.an (sci_of s.rx.scis p))).row ≡ Some row →
+        IsMember s.rx.rows row
     by_bits true is' = cc
     by_bits false is' = by_sa (in_use s.rx.rows p.tag.an (sci_of s.rx.scis p)) refl is'
 
 abbrev a_delivery : RxRow → ℕ → List ℕ → InstalledKey → Delivery
-a_delivery row number delivered key = record { bytes = key.bytes; sci = row.sci; an = row.an; number = number; frame = delivered }
+a_delivery row number delivered key =
+    record { bytes = key.bytes; sci = row.sci; an = row.an; number = number; frame = delivered }
 
 abbrev a_send : TxOptions → TxRow → List ℕ → InstalledKey → SentIn
 a_send options row frame key = record { seal = use_sent options key row frame; number = row.next; frame = frame }
@@ -119,7 +135,8 @@ judged_by options p row key =
 abbrev sends_by : TxOptions → List ℕ → TxRow → InstalledKey → Sending
 sends_by options frame row key =
     if nat_lt (last_of key.suite) row.next then not_protected no_sa
-    else if nat_lt options.max_frame (length frame + octets_added (tag_sent options row frame)) then not_protected too_long
+    else if nat_lt options.max_frame (length frame + octets_added (tag_sent options row frame))
+    then not_protected too_long
     else record { leaving = protected row.key (protected_frame options key row frame); by = Some row }
 
 module _ (s t : State) (same : AreSameBut s t) (unused : AreUnused s) where
@@ -138,57 +155,70 @@ module _ (s t : State) (same : AreSameBut s t) (unused : AreUnused s) where
       by_test : (b : Bool) → is_retired s.keys row.key ≡ b → b ≡ false
       by_test true is =
           let none = (or_parts (tx_uses s.tx row.key) (rx_uses s.rx.rows row.key) (unused row.key is)).0 in
-          let no : true ≡ false = sym (eq-eqb row.key row.key refl) ∙ found_unused (λ (r : TxRow). r.key == row.key) (λ (r : TxRow). r.on) s.tx row none on in
+          let no : true ≡ false = sym (eq-eqb row.key row.key refl)
+          ∙ found_unused (λ (r : TxRow). r.key == row.key) (λ (r : TxRow). r.on) s.tx row none on in
           cc
       by_test false is = refl
 
   -- ---- reception
 
-  judged_row : (p : MpduParts) (o : Option RxRow) → ((row : RxRow) → o ≡ Some row → IsMember s.rx.rows row) → judge_tagged_row (rx_options s) t.keys p o ≡ judge_tagged_row (rx_options s) s.keys p o
+  judged_row : (p : MpduParts) (o : Option RxRow) → ((row : RxRow) → o ≡ Some row → IsMember s.rx.rows row) →
+      judge_tagged_row (rx_options s) t.keys p o ≡ judge_tagged_row (rx_options s) s.keys p o
   judged_row p None there = refl
-  judged_row p (Some row) there = ap (λ (o : Option InstalledKey). judged_by (rx_options s) p row (unwrap_or o no_key)) (rx_key row (there row refl))
+  judged_row p (Some row) there = ap (λ (o : Option InstalledKey). judged_by (rx_options s) p row (unwrap_or o no_key))
+      (rx_key row (there row refl))
 
-  read_same : (frame : List ℕ) (r : Reading) → judge_reading (record s { keys = t.keys }) frame r ≡ judge_reading s frame r
+  read_same : (frame : List ℕ) (r : Reading) →
+      judge_reading (record s { keys = t.keys }) frame r ≡ judge_reading s frame r
   read_same frame untagged = refl
   read_same frame (bad fault) = refl
   read_same frame (tagged p) =
-      judged_row p (in_use s.rx.rows p.tag.an (sci_of s.rx.scis p)) (λ row is. in_use_there s.rx.rows p.tag.an (sci_of s.rx.scis p) row is)
+      judged_row p (in_use s.rx.rows p.tag.an (sci_of s.rx.scis p))
+      (λ row is. in_use_there s.rx.rows p.tag.an (sci_of s.rx.scis p) row is)
 
   pub judged_same : (frame : List ℕ) → judgement_of t frame ≡ judgement_of s frame
   judged_same frame = ap (λ (x : State). judgement_of x frame) same.same ∙ read_same frame (reading frame)
 
-  delivered_same : (j : Judgement) (f : Option FrameFault) (o : Option RxRow) (delivered : Option (List ℕ)) → ((row : RxRow) → o ≡ Some row → IsMember s.rx.rows row) →
+  delivered_same : (j : Judgement) (f : Option FrameFault) (o : Option RxRow) (delivered : Option (List ℕ)) →
+      ((row : RxRow) → o ≡ Some row → IsMember s.rx.rows row) →
       delivered_by t j f o delivered ≡ delivered_by s j f o delivered
   delivered_same j (Some f) o delivered there = refl
   delivered_same j None None delivered there = refl
   delivered_same j None (Some row) None there = refl
   delivered_same j None (Some row) (Some delivered) there =
-      ap (λ (o : Option InstalledKey). a_delivery row j.number delivered (unwrap_or o no_key) ∷ []) (rx_key row (there row refl))
+      ap (λ (o : Option InstalledKey). a_delivery row j.number delivered (unwrap_or o no_key) ∷ [])
+      (rx_key row (there row refl))
 
   pub name_same : (salt : List ℕ) (row : RxRow) → IsMember s.rx.rows row → row_name salt t row ≡ row_name salt s row
-  name_same salt row there = ap (λ (o : Option InstalledKey). receiving_name (sending_name salt (unwrap_or o no_key).bytes) row.sci row.an) (rx_key row there)
+  name_same salt row there = ap (λ (o : Option InstalledKey). receiving_name
+      (sending_name salt (unwrap_or o no_key).bytes) row.sci row.an) (rx_key row there)
 
   -- ---- sending
 
-  by_row : (frame : List ℕ) (o : Option TxRow) → ((row : TxRow) → o ≡ Some row → key_row t.keys row.key ≡ key_row s.keys row.key) →
+  by_row : (frame : List ℕ) (o : Option TxRow) →
+      ((row : TxRow) → o ≡ Some row → key_row t.keys row.key ≡ key_row s.keys row.key) →
       sending_by (tx_options s) t.keys frame o ≡ sending_by (tx_options s) s.keys frame o
   by_row frame None keys = refl
-  by_row frame (Some row) keys = ap (λ (o : Option InstalledKey). sends_by (tx_options s) frame row (unwrap_or o no_key)) (keys row refl)
+  by_row frame (Some row) keys = ap (λ (o : Option InstalledKey). sends_by (tx_options s) frame row
+      (unwrap_or o no_key)) (keys row refl)
 
   sending_same : (frame : List ℕ) → sending_of t frame ≡ sending_of s frame
   sending_same frame =
       ap (λ (x : State). sending_of x frame) same.same
-      ∙ ap (λ (sent : Sending). if s.options.protect then sent else not_protected (if nat_lt (tx_options s).max_frame (length frame) then too_long else plain))
+      ∙ ap (λ (sent : Sending). if s.options.protect then sent
+      else not_protected (if nat_lt (tx_options s).max_frame (length frame) then too_long else plain))
       (by_row frame (row_on s.tx) tx_key)
 
-  sealed_same : (frame : List ℕ) (f : Option FrameFault) (by : Option TxRow) → (by ≡ None) ⊎ (by ≡ row_on s.tx) → sent_by (record s { keys = t.keys }) frame f by ≡ sent_by s frame f by
+  sealed_same : (frame : List ℕ) (f : Option FrameFault) (by : Option TxRow) → (by ≡ None) ⊎ (by ≡ row_on s.tx) →
+      sent_by (record s { keys = t.keys }) frame f by ≡ sent_by s frame f by
   sealed_same frame (Some f) by is = refl
   sealed_same frame None None is = refl
   sealed_same frame None (Some row) (inl none) = cc
   sealed_same frame None (Some row) (inr on) =
       ap (λ (o : Option InstalledKey). a_send (tx_options s) row frame (unwrap_or o no_key) ∷ []) (tx_key row (sym on))
 
-  pub sent_same : (frame : List ℕ) → sent_by t frame (frame_fault frame) (sending_of t frame).by ≡ sent_by s frame (frame_fault frame) (sending_of s frame).by
+  pub sent_same : (frame : List ℕ) → sent_by t frame (frame_fault frame) (sending_of t frame).by ≡
+      sent_by s frame (frame_fault frame) (sending_of s frame).by
   sent_same frame =
       ap (λ (sent : Sending). sent_by t frame (frame_fault frame) sent.by) (sending_same frame)
       ∙ ap (λ (x : State). sent_by x frame (frame_fault frame) (sending_of s frame).by) same.same
@@ -199,20 +229,19 @@ module _ (s t : State) (same : AreSameBut s t) (unused : AreUnused s) where
 module _ (k f : Keeping) (same : AreSameBut k.secy f.secy) (unused : AreUnused k.secy) where
   pub newly_delivered_same : (input : KeepingInput) → newly_delivered f input ≡ newly_delivered k input
   newly_delivered_same (now_durable r) = refl
-  newly_delivered_same (endpoint_input (operator_command c)) = refl
-  newly_delivered_same (endpoint_input (client_frame frame)) = refl
-  newly_delivered_same (endpoint_input (uncontrolled_frame frame)) = refl
   newly_delivered_same (endpoint_input (link_frame frame)) =
       let j = judgement_of k.secy frame in
-      ap (λ (x : Judgement). delivered_by f.secy x (frame_fault frame) x.row x.delivered) (judged_same k.secy f.secy same unused frame)
-      ∙ delivered_same k.secy f.secy same unused j (frame_fault frame) j.row j.delivered (λ row is. judged_there k.secy frame (reading frame) row is)
+      ap (λ (x : Judgement). delivered_by f.secy x (frame_fault frame) x.row x.delivered)
+      (judged_same k.secy f.secy same unused frame)
+      ∙ delivered_same k.secy f.secy same unused j (frame_fault frame) j.row j.delivered
+      (λ row is. judged_there k.secy frame (reading frame) row is)
+  newly_delivered_same input = refl
 
   pub is_valid_same : (input : KeepingInput) → is_valid f.secy input ≡ is_valid k.secy input
   is_valid_same (now_durable r) = refl
-  is_valid_same (endpoint_input (operator_command c)) = refl
-  is_valid_same (endpoint_input (client_frame frame)) = refl
-  is_valid_same (endpoint_input (uncontrolled_frame frame)) = refl
-  is_valid_same (endpoint_input (link_frame frame)) = ap (λ (j : Judgement). j.step == 13) (judged_same k.secy f.secy same unused frame)
+  is_valid_same (endpoint_input (link_frame frame)) =
+      ap (λ (j : Judgement). j.step == 13) (judged_same k.secy f.secy same unused frame)
+  is_valid_same input = refl
 
   no_refusal : RefusesRetired dropped_no_reservation → ⊥
   no_refusal (inl is) = cc
@@ -227,16 +256,18 @@ module _ (k f : Keeping) (same : AreSameBut k.secy f.secy) (unused : AreUnused k
   go_same false true x y (inl is) = cc
   go_same false true x y (inr refuse) = absurd (no_refusal refuse.0)
 
-  pub newly_sent_same : (input : KeepingInput) → AreAlike (keeping_step k input).0 (forgetting_step f input).0 → newly_sent f input ≡ newly_sent k input
+  pub newly_sent_same : (input : KeepingInput) → AreAlike (keeping_step k input).0 (forgetting_step f input).0 →
+      newly_sent f input ≡ newly_sent k input
   newly_sent_same (now_durable r) alike = refl
-  newly_sent_same (endpoint_input (operator_command c)) alike = refl
-  newly_sent_same (endpoint_input (uncontrolled_frame frame)) alike = refl
-  newly_sent_same (endpoint_input (link_frame frame)) alike = refl
   newly_sent_same (endpoint_input (client_frame frame)) alike =
       let go : may_go f (client_frame frame) ≡ may_go k (client_frame frame) =
-      go_same (may_go k (client_frame frame)) (may_go f (client_frame frame)) (step k.secy (client_frame frame)) (step f.secy (client_frame frame)) alike in
+      go_same (may_go k (client_frame frame)) (may_go f (client_frame frame)) (step k.secy (client_frame frame))
+      (step f.secy (client_frame frame)) alike in
       ap (λ (b : Bool). if b then sent_by f.secy frame (frame_fault frame) (sending_of f.secy frame).by else []) go
-      ∙ ap (λ (xs : List SentIn). if may_go k (client_frame frame) then xs else []) (sent_same k.secy f.secy same unused frame)
+      ∙ ap (λ (xs : List SentIn). if may_go k (client_frame frame) then xs else [])
+      (sent_same k.secy f.secy same unused frame)
+  newly_sent_same input alike = refl
 
-pub row_there : (s : State) (frame : List ℕ) (row : RxRow) → (judgement_of s frame).row ≡ Some row → IsMember s.rx.rows row
+pub row_there : (s : State) (frame : List ℕ) (row : RxRow) → (judgement_of s frame).row ≡ Some row →
+    IsMember s.rx.rows row
 row_there s frame row is = judged_there s frame (reading frame) row is

@@ -33,40 +33,50 @@ sent_later : (s after : State) → KeysStay s after → (x : SentIn) → IsSentB
 sent_later s after stays x it = record { from = from_later s after x.seal x.number stays it.from; opens = it.opens }
 
 abbrev pub sent_at : State → List ℕ → TxRow → SentIn
-sent_at s frame row = record { seal = use_sent (tx_options s) (the_key s.keys row.key) row frame; number = row.next; frame = frame }
+sent_at s frame row =
+    record { seal = use_sent (tx_options s) (the_key s.keys row.key) row frame; number = row.next; frame = frame }
 
-by_frame : EndpointLaws → (k : Keeping) (frame : List ℕ) → IsSound k.secy → (fault : Option FrameFault) → frame_fault frame ≡ fault → (by : Option TxRow) →
+by_frame : EndpointLaws → (k : Keeping) (frame : List ℕ) → IsSound k.secy → (fault : Option FrameFault) →
+    frame_fault frame ≡ fault → (by : Option TxRow) →
     (sending_of k.secy frame).by ≡ by → (go : Bool) → may_go k (client_frame frame) ≡ go →
-    All (IsSentBy (keeping_step k (endpoint_input (client_frame frame))).1.secy) (if go then sent_by k.secy frame fault by else [])
-by_frame laws k frame sound fault fits by sent false go = All-nil (IsSentBy (keeping_step k (endpoint_input (client_frame frame))).1.secy)
-by_frame laws k frame sound (Some f) fits by sent true go = All-nil (IsSentBy (keeping_step k (endpoint_input (client_frame frame))).1.secy)
-by_frame laws k frame sound None fits None sent true go = All-nil (IsSentBy (keeping_step k (endpoint_input (client_frame frame))).1.secy)
+    All (IsSentBy (keeping_step k (endpoint_input (client_frame frame))).1.secy)
+    (if go then sent_by k.secy frame fault by else [])
+by_frame laws k frame sound fault fits by sent false go =
+    All-nil (IsSentBy (keeping_step k (endpoint_input (client_frame frame))).1.secy)
+by_frame laws k frame sound (Some f) fits by sent true go =
+    All-nil (IsSentBy (keeping_step k (endpoint_input (client_frame frame))).1.secy)
+by_frame laws k frame sound None fits None sent true go =
+    All-nil (IsSentBy (keeping_step k (endpoint_input (client_frame frame))).1.secy)
 by_frame laws k frame sound None fits (Some row) sent true go =
     let after = (keeping_step k (endpoint_input (client_frame frame))).1.secy in
     let same : after ≡ (step k.secy (client_frame frame)).1 =
-    ap (λ (b : Bool). (if b then with_step k (step k.secy (client_frame frame)) else (dropped_no_reservation, k)).1.secy) go in
+    ap (λ (b : Bool). (if b then with_step k (step k.secy (client_frame frame))
+    else (dropped_no_reservation, k)).1.secy) go in
     let it : IsSentBy (step k.secy (client_frame frame)).1 (sent_at k.secy frame row) =
     record { from = from_new laws k.secy frame row sound fits sent; opens = (laws.protects k.secy frame row sound fits sent).opens } in
-    All-cons (IsSentBy after) (sent_at k.secy frame row) [] (subst (λ (t : State). IsSentBy t (sent_at k.secy frame row)) (sym same) it) (All-nil (IsSentBy after))
+    All-cons (IsSentBy after) (sent_at k.secy frame row) []
+    (subst (λ (t : State). IsSentBy t (sent_at k.secy frame row)) (sym same) it) (All-nil (IsSentBy after))
 
-pub by_input : EndpointLaws → (k : Keeping) (input : KeepingInput) → IsSound k.secy → All (IsSentBy (keeping_step k input).1.secy) (newly_sent k input)
+pub by_input : EndpointLaws → (k : Keeping) (input : KeepingInput) → IsSound k.secy →
+    All (IsSentBy (keeping_step k input).1.secy) (newly_sent k input)
 by_input laws k (now_durable r) sound = All-nil (IsSentBy (keeping_step k (now_durable r)).1.secy)
-by_input laws k (endpoint_input (operator_command c)) sound = All-nil (IsSentBy (keeping_step k (endpoint_input (operator_command c))).1.secy)
 by_input laws k (endpoint_input (client_frame frame)) sound =
-    by_frame laws k frame sound (frame_fault frame) refl (sending_of k.secy frame).by refl (may_go k (client_frame frame)) refl
-by_input laws k (endpoint_input (uncontrolled_frame frame)) sound = All-nil (IsSentBy (keeping_step k (endpoint_input (uncontrolled_frame frame))).1.secy)
-by_input laws k (endpoint_input (link_frame frame)) sound = All-nil (IsSentBy (keeping_step k (endpoint_input (link_frame frame))).1.secy)
+    by_frame laws k frame sound (frame_fault frame) refl (sending_of k.secy frame).by refl
+    (may_go k (client_frame frame)) refl
+by_input laws k input sound = All-nil (IsSentBy (keeping_step k input).1.secy)
 
 -- ---- a run
 
-pub by_inputs : EndpointLaws → (inputs : List KeepingInput) (k : Keeping) → StaysSound k inputs → All (IsSentBy (keeping_after k inputs).secy) (sent_from k inputs)
+pub by_inputs : EndpointLaws → (inputs : List KeepingInput) (k : Keeping) → StaysSound k inputs →
+    All (IsSentBy (keeping_after k inputs).secy) (sent_from k inputs)
 by_inputs laws [] k sound = All-nil (IsSentBy k.secy)
 by_inputs laws (input ∷ inputs) k sound =
     let after = (keeping_step k input).1 in
     let last = (keeping_after after inputs).secy in
     let stay = stay_after laws inputs after (λ n. sound (suc n)) in
     All-append (IsSentBy last) (newly_sent k input) (sent_from after inputs)
-    (All-weaker (IsSentBy after.secy) (IsSentBy last) (sent_later after.secy last stay) (newly_sent k input) (by_input laws k input (sound 0)))
+    (All-weaker (IsSentBy after.secy) (IsSentBy last) (sent_later after.secy last stay) (newly_sent k input)
+    (by_input laws k input (sound 0)))
     (by_inputs laws inputs after (λ n. sound (suc n)))
 
 -- ---- all runs
@@ -84,9 +94,11 @@ by_runs laws (run ∷ runs) sounds =
     let sound : IsSoundRun run = All-head IsSoundRun run runs sounds in
     let P : SentIn → Type 0 = IsSentIn (run ∷ runs) in
     All-append P (sent_from (opening run) run.inputs) (sent_in_all runs)
-    (All-weaker (IsSentBy (closing run).secy) P (λ x it. record { run = run; among = inl refl; sound = sound; it = it }) (sent_from (opening run) run.inputs)
+    (All-weaker (IsSentBy (closing run).secy) P (λ x it. record { run = run; among = inl refl; sound = sound; it = it })
+    (sent_from (opening run) run.inputs)
     (by_inputs laws run.inputs (opening run) sound))
-    (All-weaker (IsSentIn runs) P (λ x is. record { run = is.run; among = inr is.among; sound = is.sound; it = is.it }) (sent_in_all runs)
+    (All-weaker (IsSentIn runs) P (λ x is. record { run = is.run; among = inr is.among; sound = is.sound; it = is.it })
+    (sent_in_all runs)
     (by_runs laws runs (All-tail IsSoundRun run runs sounds)))
 
 -- ---- the uses of the cipher belong to what was sent
@@ -108,11 +120,13 @@ none_if false = refl
 pub seals_of_input : (k : Keeping) (input : KeepingInput) → ListsEachUse k input
 seals_of_input k (now_durable r) = refl
 seals_of_input k (endpoint_input (operator_command c)) = none_if (may_go k (operator_command c))
-seals_of_input k (endpoint_input (client_frame frame)) = seals_by k.secy frame (may_go k (client_frame frame)) (frame_fault frame) (sending_of k.secy frame).by
+seals_of_input k (endpoint_input (client_frame frame)) =
+    seals_by k.secy frame (may_go k (client_frame frame)) (frame_fault frame) (sending_of k.secy frame).by
 seals_of_input k (endpoint_input (uncontrolled_frame frame)) = none_if (may_go k (uncontrolled_frame frame))
 seals_of_input k (endpoint_input (link_frame frame)) = none_if (may_go k (link_frame frame))
 
-seals_of_inputs : (inputs : List KeepingInput) (k : Keeping) → map seal_of_sent (sent_from k inputs) ≡ sealed_from k inputs
+seals_of_inputs : (inputs : List KeepingInput) (k : Keeping) →
+    map seal_of_sent (sent_from k inputs) ≡ sealed_from k inputs
 seals_of_inputs [] k = refl
 seals_of_inputs (input ∷ inputs) k =
     map-append seal_of_sent (newly_sent k input) (sent_from (keeping_step k input).1 inputs)
@@ -134,10 +148,13 @@ last_member (p ∷ []) run last = inl cc
 last_member (p ∷ q ∷ more) run last = inr (last_member (q ∷ more) run last)
 
 -- each run is the last one or comes before it
-pub last_or_before : (R : Run → Run → Type 0) (runs : List Run) (run : Run) → last_run runs ≡ Some run → AllPairs R runs → (q : Run) → IsMember runs q → (q ≡ run) ⊎ R q run
+pub last_or_before : (R : Run → Run → Type 0) (runs : List Run) (run : Run) → last_run runs ≡ Some run →
+    AllPairs R runs → (q : Run) → IsMember runs q → (q ≡ run) ⊎ R q run
 last_or_before R [] run last pairs q there = absurd there
 last_or_before R (p ∷ []) run last pairs q (inl here) = inl (sym here ∙ cc)
 last_or_before R (p ∷ []) run last pairs q (inr there) = absurd there
 last_or_before R (p ∷ next ∷ more) run last pairs q (inl here) =
-    inr (subst (λ (x : Run). R x run) here (All-contains (R p) (next ∷ more) run (pairs-head R p (next ∷ more) pairs) (contained (next ∷ more) run (last_member (next ∷ more) run last))))
-last_or_before R (p ∷ next ∷ more) run last pairs q (inr there) = last_or_before R (next ∷ more) run last (pairs-tail R p (next ∷ more) pairs) q there
+    inr (subst (λ (x : Run). R x run) here (All-contains (R p) (next ∷ more) run (pairs-head R p (next ∷ more) pairs)
+    (contained (next ∷ more) run (last_member (next ∷ more) run last))))
+last_or_before R (p ∷ next ∷ more) run last pairs q (inr there) =
+    last_or_before R (next ∷ more) run last (pairs-tail R p (next ∷ more) pairs) q there

@@ -1,7 +1,7 @@
 -- What endpoints deliver that can reserve ahead of receiving, and those that forget keys, by the outputs of the keeping endpoint.
 use Rattle.std.proofs.Common.{◌≡◌, ℕ, Bool, true, false, refl, sym, subst, ◌∙◌}
 use Rattle.std.specs.Prelude.{Option, Some, None}
-use Rattle.macsec_secy.specs.Step.{Input, client_frame, link_frame, operator_command, received, uncontrolled_frame}
+use Rattle.macsec_secy.specs.Step.{Input, operator_command, received}
 use Rattle.macsec_reserve.specs.Forgetting.{command_taken, forgetting_step, retired_by, taken, then_forget}
 use Rattle.macsec_reserve.specs.Keeping.{Keeping, KeepingInput, KeepingOutput, endpoint_input, endpoint_output, keeping_step, now_durable}
 use Rattle.macsec_ahead.specs.Ahead.{Ahead, Standing, ahead_by, before_this_run, begins_again, not_yet, passes, standing}
@@ -18,7 +18,8 @@ same_output (Some n) answer = refl
 
 -- ---- in the mode Strict
 
-from_sa_by : (again : Bool) (it : Standing) (a : Ahead) (input : Input) (answer : KeepingOutput × Keeping) → IsFromSa answer.0 → IsFromSaWith (ahead_by again it a input answer).0
+from_sa_by : (again : Bool) (it : Standing) (a : Ahead) (input : Input) (answer : KeepingOutput × Keeping) →
+    IsFromSa answer.0 → IsFromSaWith (ahead_by again it a input answer).0
 from_sa_by true it a input answer is = tt
 from_sa_by false (not_yet at) a input answer is = tt
 from_sa_by false (before_this_run at) a input answer is = tt
@@ -27,22 +28,23 @@ from_sa_by false passes a input answer is = is
 pub delivers_from_sas_with : (a : Ahead) (input : KeepingInput) → DeliversFromSasWith a input
 delivers_from_sas_with a (now_durable r) strict = tt
 delivers_from_sas_with a (endpoint_input input) strict =
-    from_sa_by (begins_again a input) (standing a input) a input (keeping_step a.k (endpoint_input input)) (delivers_from_sas a.k (endpoint_input input) strict)
+    from_sa_by (begins_again a input) (standing a input) a input (keeping_step a.k (endpoint_input input))
+    (delivers_from_sas a.k (endpoint_input input) strict)
 
 pub delivers_from_sas_forgetting : (a : Ahead) (input : KeepingInput) → DeliversFromSasForgetting a input
 delivers_from_sas_forgetting a (now_durable r) = delivers_from_sas_with a (now_durable r)
 delivers_from_sas_forgetting a (endpoint_input (operator_command c)) = λ strict.
     let command = endpoint_input (operator_command c) in
     from_sa_by (begins_again a (operator_command c)) passes a (operator_command c) (forgetting_step a.k command)
-    (subst IsFromSa (sym (same_output (retired_by command) (keeping_step a.k (taken a.k command)))) (delivers_from_sas a.k (taken a.k command) strict))
-delivers_from_sas_forgetting a (endpoint_input (client_frame frame)) = delivers_from_sas_with a (endpoint_input (client_frame frame))
-delivers_from_sas_forgetting a (endpoint_input (uncontrolled_frame frame)) = delivers_from_sas_with a (endpoint_input (uncontrolled_frame frame))
-delivers_from_sas_forgetting a (endpoint_input (link_frame frame)) = delivers_from_sas_with a (endpoint_input (link_frame frame))
+    (subst IsFromSa (sym (same_output (retired_by command) (keeping_step a.k (taken a.k command))))
+    (delivers_from_sas a.k (taken a.k command) strict))
+delivers_from_sas_forgetting a input = delivers_from_sas_with a input
 
 -- ---- the list
 
 -- two inputs that add the same match the same outputs
-recast : (k : Keeping) (i i' : KeepingInput) → newly_delivered k i ≡ newly_delivered k i' → (o : KeepingOutput) → MatchesDeliveries k i' o → MatchesDeliveries k i o
+recast : (k : Keeping) (i i' : KeepingInput) → newly_delivered k i ≡ newly_delivered k i' → (o : KeepingOutput) →
+    MatchesDeliveries k i' o → MatchesDeliveries k i o
 recast k i i' same (endpoint_output (received verdict (Some place) shown (Some delivered))) it =
     record { delivery = it.delivery; one = same ∙ it.one; of_sci = it.of_sci; of_an = it.of_an; of_frame = it.of_frame }
 recast k i i' same o it = same ∙ it
@@ -52,9 +54,9 @@ delivers_each_listed_forgetting a (now_durable r) = delivers_each_listed_with a 
 delivers_each_listed_forgetting a (endpoint_input (operator_command c)) =
     let command = endpoint_input (operator_command c) in
     let told = endpoint_input (operator_command (command_taken a.k c)) in
-    matches_by a command (operator_command c) (begins_again a (operator_command c)) passes (forgetting_step a.k command) refl
-    (subst (MatchesDeliveries a.k command) (sym (same_output (retired_by command) (keeping_step a.k (taken a.k command))))
+    matches_by a command (operator_command c) (begins_again a (operator_command c)) passes
+    (forgetting_step a.k command) refl
+    (subst (MatchesDeliveries a.k command) (sym (same_output (retired_by command)
+    (keeping_step a.k (taken a.k command))))
     (recast a.k command told refl (keeping_step a.k told).0 (delivers_each_listed a.k told)))
-delivers_each_listed_forgetting a (endpoint_input (client_frame frame)) = delivers_each_listed_with a (endpoint_input (client_frame frame))
-delivers_each_listed_forgetting a (endpoint_input (uncontrolled_frame frame)) = delivers_each_listed_with a (endpoint_input (uncontrolled_frame frame))
-delivers_each_listed_forgetting a (endpoint_input (link_frame frame)) = delivers_each_listed_with a (endpoint_input (link_frame frame))
+delivers_each_listed_forgetting a input = delivers_each_listed_with a input

