@@ -1,4 +1,5 @@
 mod Names
+pub mod Tables
 pub mod Journals
 pub mod Goes
 pub mod Senders

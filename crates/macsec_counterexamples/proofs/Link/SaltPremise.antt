@@ -99,7 +99,8 @@ abbrev frame_by : ℕ → Sealed → List ℕ
 frame_by n it = frame_with (tag_sent (tx_options (start xpn_a)) (tx_from (number n)) (own n)) (own n) it
 
 abbrev use_by : ℕ → Sealed → CipherUse
-use_by n it = cipher_use (key_row no_salt 1 1) (iv n) (parts_with (tag_sent (tx_options (start xpn_a)) (tx_from (number n)) (own n)) (own n) it)
+use_by n it = cipher_use (key_row no_salt 1 1) (iv n)
+    (parts_with (tag_sent (tx_options (start xpn_a)) (tx_from (number n)) (own n)) (own n) it)
 
 abbrev tag : ℕ → List ℕ
 tag n = tag_of bytes (iv n) (aad n)
@@ -117,18 +118,23 @@ abbrev sent_one : List ℕ → Trace
 sent_one t = trace_at 1 (number 1) (rx_from 1) 0 (own 0 ∷ []) [] (frame 0 t ∷ []) (use_of 0 t ∷ []) []
 
 abbrev sent_two : List ℕ → List ℕ → Trace
-sent_two t u = trace_at 2 (number 2) (rx_from 1) 0 (own 0 ∷ own 1 ∷ []) [] (frame 0 t ∷ frame 1 u ∷ []) (use_of 0 t ∷ use_of 1 u ∷ []) []
+sent_two t u = trace_at 2 (number 2) (rx_from 1) 0 (own 0 ∷ own 1 ∷ []) [] (frame 0 t ∷ frame 1 u ∷ [])
+    (use_of 0 t ∷ use_of 1 u ∷ []) []
 
 first_sent : trace_step ready (Send A (client 1)) ≡ sent_one (tag 0)
 first_sent =
-    send_step ready (client 1) (tx_from (number 0)) (frame 0 (tag 0)) refl refl (ap (sending_by 0) (sealed bytes (iv 0) (aad 0)))
-    ∙ ap (λ (it : Sealed). trace_at 1 (number 1) (rx_from 1) 0 (own 0 ∷ []) [] (frame 0 (tag 0) ∷ []) (use_by 0 it ∷ []) []) (sealed bytes (iv 0) (aad 0))
+    send_step ready (client 1) (tx_from (number 0)) (frame 0 (tag 0)) refl refl
+    (ap (sending_by 0) (sealed bytes (iv 0) (aad 0)))
+    ∙ ap (λ (it : Sealed). trace_at 1 (number 1) (rx_from 1) 0 (own 0 ∷ []) [] (frame 0 (tag 0) ∷ [])
+    (use_by 0 it ∷ []) []) (sealed bytes (iv 0) (aad 0))
 
 second_sent : (t : List ℕ) → trace_step (sent_one t) (Send A (client 2)) ≡ sent_two t (tag 1)
 second_sent t =
-    send_step (sent_one t) (client 2) (tx_from (number 1)) (frame 1 (tag 1)) refl refl (ap (sending_by 1) (sealed bytes (iv 1) (aad 1)))
+    send_step (sent_one t) (client 2) (tx_from (number 1)) (frame 1 (tag 1)) refl refl
+    (ap (sending_by 1) (sealed bytes (iv 1) (aad 1)))
     ∙ ap (λ (it : Sealed).
-    trace_at 2 (number 2) (rx_from 1) 0 (own 0 ∷ own 1 ∷ []) [] (frame 0 t ∷ frame 1 (tag 1) ∷ []) (use_of 0 t ∷ use_by 1 it ∷ []) [])
+    trace_at 2 (number 2) (rx_from 1) 0 (own 0 ∷ own 1 ∷ []) [] (frame 0 t ∷ frame 1 (tag 1) ∷ [])
+    (use_of 0 t ∷ use_by 1 it ∷ []) [])
     (sealed bytes (iv 1) (aad 1))
 
 abbrev all_sent : List (List ℕ)
@@ -136,13 +142,16 @@ all_sent = own 0 ∷ own 1 ∷ own 2 ∷ []
 
 abbrev three_sent : List ℕ → List ℕ → List ℕ → RxRow → ℕ → List (List ℕ) → List Mark → Trace
 three_sent t u v row m delivered marks =
-    trace_at 3 (number 3) row m all_sent delivered (frame 0 t ∷ frame 1 u ∷ frame 2 v ∷ []) (use_of 0 t ∷ use_of 1 u ∷ use_of 2 v ∷ []) marks
+    trace_at 3 (number 3) row m all_sent delivered (frame 0 t ∷ frame 1 u ∷ frame 2 v ∷ [])
+    (use_of 0 t ∷ use_of 1 u ∷ use_of 2 v ∷ []) marks
 
 third_sent : (t u : List ℕ) → trace_step (sent_two t u) (Send A (client 3)) ≡ three_sent t u (tag 2) (rx_from 1) 0 [] []
 third_sent t u =
-    send_step (sent_two t u) (client 3) (tx_from (number 2)) (frame 2 (tag 2)) refl refl (ap (sending_by 2) (sealed bytes (iv 2) (aad 2)))
+    send_step (sent_two t u) (client 3) (tx_from (number 2)) (frame 2 (tag 2)) refl refl
+    (ap (sending_by 2) (sealed bytes (iv 2) (aad 2)))
     ∙ ap (λ (it : Sealed).
-    trace_at 3 (number 3) (rx_from 1) 0 all_sent [] (frame 0 t ∷ frame 1 u ∷ frame 2 (tag 2) ∷ []) (use_of 0 t ∷ use_of 1 u ∷ use_by 2 it ∷ []) [])
+    trace_at 3 (number 3) (rx_from 1) 0 all_sent [] (frame 0 t ∷ frame 1 u ∷ frame 2 (tag 2) ∷ [])
+    (use_of 0 t ∷ use_of 1 u ∷ use_by 2 it ∷ []) [])
     (sealed bytes (iv 2) (aad 2))
 
 -- ---- what B recovers
@@ -170,33 +179,43 @@ after_raising t u v = three_sent t u v (rx_from (2 ^ 32)) 1 (own 2 ∷ []) (mark
 abbrev after_first : List ℕ → List ℕ → List ℕ → Trace
 after_first t u v = three_sent t u v (rx_from (2 ^ 33)) 2 (own 2 ∷ own 0 ∷ []) (mark 1 ∷ mark (2 ^ 33 - 1) ∷ [])
 
-third_judged : (t u v : List ℕ) → Opens 2 v → judgement_of (before_delivery t u v).world.b.state (frame 2 v) ≡ at_row (rx_from 1) 1 13 Passed (Some (own 2))
+third_judged : (t u v : List ℕ) → Opens 2 v →
+    judgement_of (before_delivery t u v).world.b.state (frame 2 v) ≡ at_row (rx_from 1) 1 13 Passed (Some (own 2))
 third_judged t u v is =
-    ap (judge_opened (rx_options (before_delivery t u v).world.b.state) (key_row salt_b 2 1) (rx_from 1) 1 (parts_at (frame 2 v)))
+    ap (judge_opened (rx_options (before_delivery t u v).world.b.state) (key_row salt_b 2 1) (rx_from 1) 1
+    (parts_at (frame 2 v)))
     (ap (λ (i : List ℕ). open_of bytes i (aad 2) [] (items 16 v)) iv_of_third ∙ is)
 
 third_heard : (t u v : List ℕ) → Opens 2 v → trace_step (before_delivery t u v) (Deliver B 2) ≡ after_third t u v
-third_heard t u v is = deliver_step (before_delivery t u v) 2 (frame 2 v) (at_row (rx_from 1) 1 13 Passed (Some (own 2))) refl refl refl (third_judged t u v is)
+third_heard t u v is = deliver_step (before_delivery t u v) 2 (frame 2 v)
+    (at_row (rx_from 1) 1 13 Passed (Some (own 2))) refl refl refl (third_judged t u v is)
 
 third_genuine : (t u v : List ℕ) → Opens 2 v → IsGenuineAt (before_delivery t u v) (Deliver B 2)
 third_genuine t u v is =
-    genuine_at (before_delivery t u v).world.b.state (frame 2 v) (at_row (rx_from 1) 1 13 Passed (Some (own 2))) (before_delivery t u v).seals (third_judged t u v is)
+    genuine_at (before_delivery t u v).world.b.state (frame 2 v) (at_row (rx_from 1) 1 13 Passed (Some (own 2)))
+    (before_delivery t u v).seals (third_judged t u v is)
     (2, omega arith, ap (λ (i : List ℕ). record (use_of 2 v) { iv = i }) (sym iv_of_third))
 
 is_raised : (t u v : List ℕ) → trace_step (after_third t u v) (Command B (RxLow sci_a 0 (2 ^ 32))) ≡ after_raising t u v
 is_raised t u v = refl
 
-first_judged : (t u v : List ℕ) → Opens 0 t → judgement_of (after_raising t u v).world.b.state (frame 0 t) ≡ at_row (rx_from (2 ^ 32)) (2 ^ 33 - 1) 13 Passed (Some (own 0))
+first_judged : (t u v : List ℕ) → Opens 0 t →
+    judgement_of (after_raising t u v).world.b.state (frame 0 t) ≡
+    at_row (rx_from (2 ^ 32)) (2 ^ 33 - 1) 13 Passed (Some (own 0))
 first_judged t u v is =
-    ap (judge_opened (rx_options (after_raising t u v).world.b.state) (key_row salt_b 2 1) (rx_from (2 ^ 32)) (2 ^ 33 - 1) (parts_at (frame 0 t)))
+    ap (judge_opened (rx_options (after_raising t u v).world.b.state) (key_row salt_b 2 1) (rx_from (2 ^ 32))
+    (2 ^ 33 - 1) (parts_at (frame 0 t)))
     (ap (λ (i : List ℕ). open_of bytes i (aad 0) [] (items 16 t)) iv_of_first ∙ is)
 
 first_heard : (t u v : List ℕ) → Opens 0 t → trace_step (after_raising t u v) (Deliver B 0) ≡ after_first t u v
-first_heard t u v is = deliver_step (after_raising t u v) 0 (frame 0 t) (at_row (rx_from (2 ^ 32)) (2 ^ 33 - 1) 13 Passed (Some (own 0))) refl refl refl (first_judged t u v is)
+first_heard t u v is = deliver_step (after_raising t u v) 0 (frame 0 t)
+    (at_row (rx_from (2 ^ 32)) (2 ^ 33 - 1) 13 Passed (Some (own 0))) refl refl refl (first_judged t u v is)
 
 first_genuine : (t u v : List ℕ) → Opens 0 t → IsGenuineAt (after_raising t u v) (Deliver B 0)
 first_genuine t u v is =
-    genuine_at (after_raising t u v).world.b.state (frame 0 t) (at_row (rx_from (2 ^ 32)) (2 ^ 33 - 1) 13 Passed (Some (own 0))) (after_raising t u v).seals (first_judged t u v is)
+    genuine_at (after_raising t u v).world.b.state (frame 0 t)
+    (at_row (rx_from (2 ^ 32)) (2 ^ 33 - 1) 13 Passed (Some (own 0))) (after_raising t u v).seals
+    (first_judged t u v is)
     (0, omega arith, ap (λ (i : List ℕ). record (use_of 0 t) { iv = i }) (sym iv_of_first))
 
 -- ---- the run
@@ -248,12 +267,15 @@ heard_first_is = first_heard first_tag second_tag third_tag first_opens
 is_genuine : IsGenuine (new_trace xpn_a xpn_b) events
 is_genuine =
     genuine_append (new_trace xpn_a xpn_b) ready commands exchange (tt, (tt, (tt, (tt, (tt, (tt, (tt, tt))))))) is_ready
-    (genuine_next ready one (Send A (client 1)) (Send A (client 2) ∷ Send A (client 3) ∷ from_delivery) (tt {0}) first_sent
+    (genuine_next ready one (Send A (client 1)) (Send A (client 2) ∷ Send A (client 3) ∷ from_delivery)
+    (tt {0}) first_sent
     (genuine_next one two (Send A (client 2)) (Send A (client 3) ∷ from_delivery) (tt {0}) (second_sent first_tag)
     (genuine_next two three (Send A (client 3)) from_delivery (tt {0}) (third_sent first_tag second_tag)
-    (genuine_next three heard_third (Deliver B 2) from_raising (third_genuine first_tag second_tag third_tag third_opens) heard_third_is
+    (genuine_next three heard_third (Deliver B 2) from_raising
+    (third_genuine first_tag second_tag third_tag third_opens) heard_third_is
     (genuine_next heard_third raised raise last_delivery (tt {0}) raised_is
-    (genuine_next raised heard_first (Deliver B 0) [] (first_genuine first_tag second_tag third_tag first_opens) heard_first_is (tt {0})))))))
+    (genuine_next raised heard_first (Deliver B 0) []
+    (first_genuine first_tag second_tag third_tag first_opens) heard_first_is (tt {0})))))))
 
 last_world_is : world_after (new_world xpn_a xpn_b) events ≡ heard_first.world
 last_world_is =
@@ -268,29 +290,32 @@ last_world_is =
     ∙ heard_first_is)
 
 -- B's options are the initial ones at each moment
-each_moment : (P : State → Type 0) → ((s : State) → s.options ≡ first_options xpn_b → P s) → AtEach (WhileLive P) (new_world xpn_a xpn_b) events
+each_moment : (P : State → Type 0) → ((s : State) → s.options ≡ first_options xpn_b → P s) →
+    AtEach (WhileLive P) (new_world xpn_a xpn_b) events
 each_moment P so =
     each_append (WhileLive P) (new_world xpn_a xpn_b) ready.world commands exchange
     (tt, (tt, (tt, (tt, (tt, (tt, (λ live. so _ refl, tt)))))))
     (sym (world_of_trace (new_trace xpn_a xpn_b) commands) ∙ ap world_of is_ready)
-    (live_next P ready one (Send A (client 1)) (Send A (client 2) ∷ Send A (client 3) ∷ from_delivery) (λ live. so _ refl) first_sent
-    (live_next P one two (Send A (client 2)) (Send A (client 3) ∷ from_delivery) (λ live. so _ refl) (second_sent first_tag)
+    (live_next P ready one (Send A (client 1)) (Send A (client 2) ∷ Send A (client 3) ∷ from_delivery)
+    (λ live. so _ refl) first_sent
+    (live_next P one two (Send A (client 2)) (Send A (client 3) ∷ from_delivery) (λ live. so _ refl)
+    (second_sent first_tag)
     (live_next P two three (Send A (client 3)) from_delivery (λ live. so _ refl) (third_sent first_tag second_tag)
     (live_next P three heard_third (Deliver B 2) from_raising (λ live. so _ refl) heard_third_is
     (live_next P heard_third raised raise last_delivery (λ live. so _ refl) raised_is
     (live_next P raised heard_first (Deliver B 0) [] (λ live. so _ refl) heard_first_is (λ live. so _ refl)))))))
 
-while_there : (P : State → Type 0) → ((s : State) → s.options ≡ first_options xpn_b → P s) → WhileThere xpn_a xpn_b events B 0 P
+while_there : (P : State → Type 0) → ((s : State) → s.options ≡ first_options xpn_b → P s) →
+    WhileThere xpn_a xpn_b events B 0 P
 while_there P so k within = at_moment (WhileLive P) (new_world xpn_a xpn_b) events (each_moment P so) k within
 
 -- the third frame followed by the first is no subsequence
 no_subsequence : (x y z : List ℕ) → y ≢ x → z ≢ x → IsSubsequence (z ∷ x ∷ []) (x ∷ y ∷ z ∷ []) → ⊥
-no_subsequence x y z other other' ([], rising, found) = cc
-no_subsequence x y z other other' (p ∷ [], rising, found) = cc
-no_subsequence x y z other other' (p ∷ zero ∷ places, rising, found) = let less : p < 0 = rising 0 (omega arith) in omega (arith, less)
+no_subsequence x y z other other' (p ∷ zero ∷ places, rising, found) = let less : p < 0 = rising 0 (omega arith) in
+    omega (arith, less)
 no_subsequence x y z other other' (p ∷ suc zero ∷ places, rising, found) = let same : y ≡ x = cc in other same
 no_subsequence x y z other other' (p ∷ suc (suc zero) ∷ places, rising, found) = let same : z ≡ x = cc in other' same
-no_subsequence x y z other other' (p ∷ suc (suc (suc q)) ∷ places, rising, found) = cc
+no_subsequence x y z other other' it = cc
 
 differ : (n m : ℕ) → n ≢ m → client n ≢ client m
 differ n m other same = other (ap (λ (frame : List ℕ). get_or frame 12 0) same)
@@ -310,7 +335,9 @@ same_salt_needed_for_order = (
       subst (λ (w : WorldState). WasSentInOrder w B 0) last_world_is
       (law is_genuine (subst AgreeOnSuites (sym last_world_is) (of_two AgreeOnSuite _ _ (λ same. refl))) B 0
       (while_there IsStrict (λ s is. ap (λ (o : Options). o.mode) is))
-      (while_there HasStrictOrder (λ s is. record { replay = ap (λ (o : Options). o.replay) is; window = ap (λ (o : Options). o.window) is }))) in
-      no_subsequence (own 0) (own 1) (own 2) (differ 2 1 (λ same. omega (arith, same))) (differ 3 1 (λ same. omega (arith, same)))
+      (while_there HasStrictOrder
+      (λ s is. record { replay = ap (λ (o : Options). o.replay) is; window = ap (λ (o : Options). o.window) is }))) in
+      no_subsequence (own 0) (own 1) (own 2) (differ 2 1 (λ same. omega (arith, same)))
+      (differ 3 1 (λ same. omega (arith, same)))
       (in_order (key_row no_salt 1 (number 3)) (0, omega arith, refl) refl),
 )

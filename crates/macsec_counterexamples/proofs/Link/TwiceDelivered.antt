@@ -1,7 +1,7 @@
 -- The order of deliveries needs replay protection with a window of 0, at every moment. With it off, or with a window of
 -- 1, one frame is delivered twice, though no tag is forged, B validates strictly, and B has both settings afterwards.
 -- With it off, the later packet number is not above the earlier one either.
-use Rattle.macsec_counterexamples.proofs.Link.Names.{◌≡◌, ℕ, zero, suc, ◌+◌, ◌<◌, Bool, true, false, List, [], ◌∷◌, ◌++◌, refl, ap, sym, subst, ◌∙◌}
+use Rattle.macsec_counterexamples.proofs.Link.Names.{◌≡◌, ℕ, zero, ◌+◌, ◌<◌, Bool, true, false, List, [], ◌∷◌, ◌++◌, refl, ap, sym, subst, ◌∙◌}
 use Rattle.macsec_counterexamples.proofs.Link.Names.{arith, AllPairs, Some, parts_at, RxRow, Verdict, Delayed, Passed, at_row, judge_opened, Replay}
 use Rattle.macsec_counterexamples.proofs.Link.Names.{EndConfig, Options, RxCounters, judgement_of, State, first_options, no_rx_counters, rx_options}
 use Rattle.macsec_counterexamples.proofs.Link.Names.{sending_of, End, A, B, Event, Command, Deliver, Send, IsGenuine, IsGenuineAt, AgreeOnKey}
@@ -66,7 +66,9 @@ abbrev frame : List ℕ → List ℕ
 frame t = link_frame_of 1 (client 1) t
 
 abbrev one_sent : Bool → RxRow → ℕ → RxCounters → List (List ℕ) → List ℕ → List Mark → Trace
-one_sent replay row m counted delivered t marks = trace_at (options_of replay) 1 row m counted (client 1 ∷ []) delivered (frame t ∷ []) (use_of 1 (client 1) t ∷ []) marks
+one_sent replay row m counted delivered t marks =
+    trace_at (options_of replay) 1 row m counted (client 1 ∷ []) delivered (frame t ∷ [])
+    (use_of 1 (client 1) t ∷ []) marks
 
 abbrev after_sending : Bool → List ℕ → Trace
 after_sending replay t = one_sent replay (rx_from 1) 0 no_rx_counters [] t []
@@ -75,10 +77,12 @@ abbrev mark : Bool → Mark
 mark replay = record { at = B; log = 0; number = 1; replay = replay; window = window replay; validated = true }
 
 abbrev after_once : Bool → List ℕ → Trace
-after_once replay t = one_sent replay (heard_row replay) 2 (record no_rx_counters { in_pkts_ok = 1 }) (client 1 ∷ []) t (mark replay ∷ [])
+after_once replay t = one_sent replay (heard_row replay) 2 (record no_rx_counters { in_pkts_ok = 1 }) (client 1 ∷ []) t
+    (mark replay ∷ [])
 
 abbrev after_twice : Bool → List ℕ → Trace
-after_twice replay t = one_sent replay (heard_row replay) 4 (counted_again replay) (client 1 ∷ client 1 ∷ []) t (mark replay ∷ mark replay ∷ [])
+after_twice replay t = one_sent replay (heard_row replay) 4 (counted_again replay) (client 1 ∷ client 1 ∷ []) t
+    (mark replay ∷ mark replay ∷ [])
 
 abbrev at_end : Bool → List ℕ → Trace
 at_end replay t =
@@ -88,35 +92,50 @@ at_end replay t =
 -- ---- the steps
 
 sends : (replay : Bool) → sending_of (ready replay).world.a.state (client 1) ≡ sent_by (tx_from 1) (frame first_tag)
-sends replay = ap (λ (it : Sealed). sent_by (tx_from 1) (link_frame_with 1 (client 1) it)) (sealed bytes (iv 1) (aad 1 (client 1)))
+sends replay = ap (λ (it : Sealed). sent_by (tx_from 1) (link_frame_with 1 (client 1) it))
+    (sealed bytes (iv 1) (aad 1 (client 1)))
 
 is_sent : (replay : Bool) → trace_step (ready replay) (Send A (client 1)) ≡ after_sending replay first_tag
 is_sent replay =
     send_step (ready replay) (client 1) (tx_from 1) (frame first_tag) refl refl (sends replay)
-    ∙ ap (λ (it : Sealed). trace_at (options_of replay) 1 (rx_from 1) 0 no_rx_counters (client 1 ∷ []) [] (frame first_tag ∷ []) (use_with 1 (client 1) it ∷ []) [])
+    ∙ ap (λ (it : Sealed). trace_at (options_of replay) 1 (rx_from 1) 0 no_rx_counters (client 1 ∷ []) []
+    (frame first_tag ∷ []) (use_with 1 (client 1) it ∷ []) [])
     (sealed bytes (iv 1) (aad 1 (client 1)))
 
-once_judged : (replay : Bool) (t : List ℕ) → Opens 1 t → judgement_of (after_sending replay t).world.b.state (frame t) ≡ at_row (rx_from 1) 1 13 Passed (Some (client 1))
-once_judged true t is = ap (judge_opened (rx_options (after_sending true t).world.b.state) (key_row 2 1) (rx_from 1) 1 (parts_at (frame t))) is
-once_judged false t is = ap (judge_opened (rx_options (after_sending false t).world.b.state) (key_row 2 1) (rx_from 1) 1 (parts_at (frame t))) is
+once_judged : (replay : Bool) (t : List ℕ) → Opens 1 t →
+    judgement_of (after_sending replay t).world.b.state (frame t) ≡ at_row (rx_from 1) 1 13 Passed (Some (client 1))
+once_judged true t is = ap (judge_opened (rx_options (after_sending true t).world.b.state) (key_row 2 1) (rx_from 1) 1
+    (parts_at (frame t))) is
+once_judged false t is = ap (judge_opened (rx_options (after_sending false t).world.b.state) (key_row 2 1) (rx_from 1) 1
+    (parts_at (frame t))) is
 
-once_heard : (replay : Bool) (t : List ℕ) → Opens 1 t → trace_step (after_sending replay t) (Deliver B 0) ≡ after_once replay t
-once_heard true t is = deliver_step (after_sending true t) 0 (frame t) (at_row (rx_from 1) 1 13 Passed (Some (client 1))) refl refl refl (once_judged true t is)
-once_heard false t is = deliver_step (after_sending false t) 0 (frame t) (at_row (rx_from 1) 1 13 Passed (Some (client 1))) refl refl refl (once_judged false t is)
+once_heard : (replay : Bool) (t : List ℕ) → Opens 1 t →
+    trace_step (after_sending replay t) (Deliver B 0) ≡ after_once replay t
+once_heard true t is = deliver_step (after_sending true t) 0 (frame t)
+    (at_row (rx_from 1) 1 13 Passed (Some (client 1))) refl refl refl (once_judged true t is)
+once_heard false t is = deliver_step (after_sending false t) 0 (frame t)
+    (at_row (rx_from 1) 1 13 Passed (Some (client 1))) refl refl refl (once_judged false t is)
 
 once_genuine : (replay : Bool) (t : List ℕ) → Opens 1 t → IsGenuineAt (after_sending replay t) (Deliver B 0)
 once_genuine replay t is =
-    genuine_at (after_sending replay t).world.b.state (frame t) (at_row (rx_from 1) 1 13 Passed (Some (client 1))) (after_sending replay t).seals (once_judged replay t is)
+    genuine_at (after_sending replay t).world.b.state (frame t) (at_row (rx_from 1) 1 13 Passed (Some (client 1)))
+    (after_sending replay t).seals (once_judged replay t is)
     (0, omega arith, refl)
 
 again_judged : (replay : Bool) (t : List ℕ) → Opens 1 t →
-    judgement_of (after_once replay t).world.b.state (frame t) ≡ at_row (heard_row replay) 1 13 (again replay) (Some (client 1))
-again_judged true t is = ap (judge_opened (rx_options (after_once true t).world.b.state) (key_row 2 1) (heard_row true) 1 (parts_at (frame t))) is
-again_judged false t is = ap (judge_opened (rx_options (after_once false t).world.b.state) (key_row 2 1) (heard_row false) 1 (parts_at (frame t))) is
+    judgement_of (after_once replay t).world.b.state (frame t) ≡
+    at_row (heard_row replay) 1 13 (again replay) (Some (client 1))
+again_judged true t is = ap (judge_opened (rx_options (after_once true t).world.b.state) (key_row 2 1)
+    (heard_row true) 1 (parts_at (frame t))) is
+again_judged false t is = ap (judge_opened (rx_options (after_once false t).world.b.state) (key_row 2 1)
+    (heard_row false) 1 (parts_at (frame t))) is
 
-again_heard : (replay : Bool) (t : List ℕ) → Opens 1 t → trace_step (after_once replay t) (Deliver B 0) ≡ after_twice replay t
-again_heard true t is = deliver_step (after_once true t) 0 (frame t) (at_row (heard_row true) 1 13 Passed (Some (client 1))) refl refl refl (again_judged true t is)
-again_heard false t is = deliver_step (after_once false t) 0 (frame t) (at_row (heard_row false) 1 13 Delayed (Some (client 1))) refl refl refl (again_judged false t is)
+again_heard : (replay : Bool) (t : List ℕ) → Opens 1 t →
+    trace_step (after_once replay t) (Deliver B 0) ≡ after_twice replay t
+again_heard true t is = deliver_step (after_once true t) 0 (frame t)
+    (at_row (heard_row true) 1 13 Passed (Some (client 1))) refl refl refl (again_judged true t is)
+again_heard false t is = deliver_step (after_once false t) 0 (frame t)
+    (at_row (heard_row false) 1 13 Delayed (Some (client 1))) refl refl refl (again_judged false t is)
 
 again_genuine : (replay : Bool) (t : List ℕ) → Opens 1 t → IsGenuineAt (after_once replay t) (Deliver B 0)
 again_genuine replay t is =
@@ -135,11 +154,15 @@ is_genuine replay =
     let sending = after_sending replay first_tag in
     let once = after_once replay first_tag in
     let two = after_twice replay first_tag in
-    genuine_append (new_trace gcm_a gcm_b) (ready replay) (commands replay) (Send A (client 1) ∷ twice) (tt, (tt, (tt, (tt, (tt, (tt, (tt, (tt, tt)))))))) (is_ready replay)
+    genuine_append (new_trace gcm_a gcm_b) (ready replay) (commands replay) (Send A (client 1) ∷ twice)
+    (tt, (tt, (tt, (tt, (tt, (tt, (tt, (tt, tt)))))))) (is_ready replay)
     (genuine_next (ready replay) (after_sending replay first_tag) (Send A (client 1)) twice (tt {0}) (is_sent replay)
-    (genuine_next sending once (Deliver B 0) (Deliver B 0 ∷ back) (once_genuine replay first_tag first_opens) (once_heard replay first_tag first_opens)
-    (genuine_next once two (Deliver B 0) back (again_genuine replay first_tag first_opens) (again_heard replay first_tag first_opens)
-    (genuine_next (after_twice replay first_tag) (at_end replay first_tag) (Command B (Replay true 0)) [] (tt {0}) (is_back replay first_tag) (tt {0})))))
+    (genuine_next sending once (Deliver B 0) (Deliver B 0 ∷ back) (once_genuine replay first_tag first_opens)
+    (once_heard replay first_tag first_opens)
+    (genuine_next once two (Deliver B 0) back (again_genuine replay first_tag first_opens)
+    (again_heard replay first_tag first_opens)
+    (genuine_next (after_twice replay first_tag) (at_end replay first_tag) (Command B (Replay true 0)) [] (tt {0})
+    (is_back replay first_tag) (tt {0})))))
 
 trace_ends : (replay : Bool) → trace_of gcm_a gcm_b (events replay) ≡ at_end replay first_tag
 trace_ends replay =
@@ -150,31 +173,37 @@ trace_ends replay =
     ∙ is_back replay first_tag
 
 last_world_is : (replay : Bool) → world_after (new_world gcm_a gcm_b) (events replay) ≡ (at_end replay first_tag).world
-last_world_is replay = sym (world_of_trace (new_trace gcm_a gcm_b) (events replay)) ∙ ap (λ (t : Trace). t.world) (trace_ends replay)
+last_world_is replay = sym (world_of_trace (new_trace gcm_a gcm_b) (events replay))
+    ∙ ap (λ (t : Trace). t.world) (trace_ends replay)
 
 -- B is strict at each moment, and its other options but replay and window are the initial ones from the creation of its
 -- SA on
-each_moment : (replay : Bool) (P : State → Type 0) → ((s : State) → s.options ≡ first_options gcm_b → P s) → ((s : State) → s.options ≡ options_of replay → P s) →
+each_moment : (replay : Bool) (P : State → Type 0) → ((s : State) → s.options ≡ first_options gcm_b → P s) →
+    ((s : State) → s.options ≡ options_of replay → P s) →
     AtEach (WhileLive P) (new_world gcm_a gcm_b) (events replay)
 each_moment replay P first so =
     each_append (WhileLive P) (new_world gcm_a gcm_b) (ready replay).world (commands replay) (Send A (client 1) ∷ twice)
     (tt, (tt, (tt, (tt, (tt, (tt, (λ live. first _ refl, (λ live. first _ refl, tt))))))))
     (sym (world_of_trace (new_trace gcm_a gcm_b) (commands replay)) ∙ ap (λ (t : Trace). t.world) (is_ready replay))
-    (live_next P (ready replay) (after_sending replay first_tag) (Send A (client 1)) twice (λ live. so _ refl) (is_sent replay)
-    (live_next P (after_sending replay first_tag) (after_once replay first_tag) (Deliver B 0) (Deliver B 0 ∷ back) (λ live. so _ refl) (once_heard replay first_tag first_opens)
-    (live_next P (after_once replay first_tag) (after_twice replay first_tag) (Deliver B 0) back (λ live. so _ refl) (again_heard replay first_tag first_opens)
-    (live_next P (after_twice replay first_tag) (at_end replay first_tag) (Command B (Replay true 0)) [] (λ live. so _ refl) (is_back replay first_tag) (λ live. first _ refl)))))
+    (live_next P (ready replay) (after_sending replay first_tag) (Send A (client 1)) twice (λ live. so _ refl)
+    (is_sent replay)
+    (live_next P (after_sending replay first_tag) (after_once replay first_tag) (Deliver B 0) (Deliver B 0 ∷ back)
+    (λ live. so _ refl) (once_heard replay first_tag first_opens)
+    (live_next P (after_once replay first_tag) (after_twice replay first_tag) (Deliver B 0) back (λ live. so _ refl)
+    (again_heard replay first_tag first_opens)
+    (live_next P (after_twice replay first_tag) (at_end replay first_tag) (Command B (Replay true 0)) []
+    (λ live. so _ refl) (is_back replay first_tag) (λ live. first _ refl)))))
 
-while_there : (replay : Bool) (P : State → Type 0) → ((s : State) → s.options ≡ first_options gcm_b → P s) → ((s : State) → s.options ≡ options_of replay → P s) →
+while_there : (replay : Bool) (P : State → Type 0) → ((s : State) → s.options ≡ first_options gcm_b → P s) →
+    ((s : State) → s.options ≡ options_of replay → P s) →
     WhileThere gcm_a gcm_b (events replay) B 0 P
-while_there replay P first so k within = at_moment (WhileLive P) (new_world gcm_a gcm_b) (events replay) (each_moment replay P first so) k within
+while_there replay P first so k within = at_moment (WhileLive P) (new_world gcm_a gcm_b) (events replay)
+    (each_moment replay P first so) k within
 
 -- one frame delivered twice is no subsequence of the frame sent once
 no_subsequence : (x : List ℕ) → IsSubsequence (x ∷ x ∷ []) (x ∷ []) → ⊥
-no_subsequence x ([], rising, found) = cc
-no_subsequence x (p ∷ [], rising, found) = cc
 no_subsequence x (p ∷ zero ∷ places, rising, found) = let less : p < 0 = rising 0 (omega arith) in omega (arith, less)
-no_subsequence x (p ∷ suc q ∷ places, rising, found) = cc
+no_subsequence x it = cc
 
 -- ---- the law of order
 
@@ -187,23 +216,29 @@ HasRest false s = s.options.window ≡ 0
 abbrev pub OrderWithRest : Bool → EndConfig → EndConfig → List Event → Type 0
 OrderWithRest replay a b events =
     IsGenuine (new_trace a b) events → AgreeOnKeys (world_after (new_world a b) events) →
-    (e : End) (i : ℕ) → WhileThere a b events e i IsStrict → WhileThere a b events e i (HasRest replay) → HasStrictOrder (end_of (world_after (new_world a b) events) e).state →
+    (e : End) (i : ℕ) → WhileThere a b events e i IsStrict → WhileThere a b events e i (HasRest replay) →
+    HasStrictOrder (end_of (world_after (new_world a b) events) e).state →
     WasSentInOrder (world_after (new_world a b) events) e i
 
 keys_agree : (replay : Bool) → AgreeOnKeys (at_end replay first_tag).world
-keys_agree replay = of_two (λ x y. x.bytes ≡ y.bytes → AgreeOnKey x y) _ _ (λ same. record { suite = refl; salt = λ xpn. refl })
+keys_agree replay = of_two (λ x y. x.bytes ≡ y.bytes → AgreeOnKey x y) _ _
+    (λ same. record { suite = refl; salt = λ xpn. refl })
 
 has_rest : (replay : Bool) → WhileThere gcm_a gcm_b (events replay) B 0 (HasRest replay)
-has_rest true = while_there true (HasRest true) (λ s is. ap (λ (o : Options). o.replay) is) (λ s is. ap (λ (o : Options). o.replay) is)
-has_rest false = while_there false (HasRest false) (λ s is. ap (λ (o : Options). o.window) is) (λ s is. ap (λ (o : Options). o.window) is)
+has_rest true = while_there true (HasRest true) (λ s is. ap (λ (o : Options). o.replay) is)
+    (λ s is. ap (λ (o : Options). o.replay) is)
+has_rest false = while_there false (HasRest false) (λ s is. ap (λ (o : Options). o.window) is)
+    (λ s is. ap (λ (o : Options). o.window) is)
 
 order_fails : (replay : Bool) → OrderWithRest replay gcm_a gcm_b (events replay) → ⊥
 order_fails replay law =
     let in_order : WasSentInOrder (at_end replay first_tag).world B 0 =
     subst (λ (w : WorldState). WasSentInOrder w B 0) (last_world_is replay)
     (law (is_genuine replay) (subst AgreeOnKeys (sym (last_world_is replay)) (keys_agree replay)) B 0
-    (while_there replay IsStrict (λ s is. ap (λ (o : Options). o.mode) is) (λ s is. ap (λ (o : Options). o.mode) is)) (has_rest replay)
-    (subst (λ (w : WorldState). HasStrictOrder w.b.state) (sym (last_world_is replay)) (record { replay = refl; window = refl }))) in
+    (while_there replay IsStrict (λ s is. ap (λ (o : Options). o.mode) is) (λ s is. ap (λ (o : Options). o.mode) is))
+    (has_rest replay)
+    (subst (λ (w : WorldState). HasStrictOrder w.b.state) (sym (last_world_is replay))
+    (record { replay = refl; window = refl }))) in
     no_subsequence (client 1) (in_order (key_row 1 2) (0, omega arith, refl) refl)
 
 -- a window of 1 is too wide

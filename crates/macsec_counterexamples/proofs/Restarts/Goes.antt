@@ -7,6 +7,15 @@ use Rattle.macsec_counterexamples.proofs.Restarts.Names.{sealed_from, sealed_if,
 use Rattle.macsec_counterexamples.proofs.Restarts.Names.{keeping_after, keeping_step, may_go, was_reserved}
 use Rattle.macsec_commands.specs.declared.command.Command.{Command}
 use Rattle.macsec_reserve.proofs.Steps.{by_tests}
+use Rattle.macsec_counterexamples.proofs.Restarts.Names.{map, max, if◌then◌else◌, and_from, le-leb, lt-ltb, ◌≤◌, arith, None, Option, same_octets-refl}
+use Rattle.macsec_counterexamples.proofs.Restarts.Names.{effect}
+use Rattle.macsec_counterexamples.proofs.Restarts.Tables.{after_commands, all_fit, first_carried, first_sound, none_refused}
+use Rattle.std.specs.List.{list_any}
+use Rattle.macsec_suite.specs.declared.refusal.Refusal.{Refusal}
+use Rattle.macsec_secy.specs.Commands.{refusal, unless_refused}
+use Rattle.macsec_secy.specs.Laws.{UsedNumber, number_used}
+use Rattle.macsec_reserve.specs.Entries.{raised_by}
+use Rattle.macsec_reserve.specs.Keeping.{may_use}
 
 abbrev pub command : Command → KeepingInput
 command c = endpoint_input (operator_command c)
@@ -16,24 +25,37 @@ pub record Goes (k : Keeping) (inputs : List KeepingInput) (uses : List CipherUs
   pub ends : keeping_after k inputs ≡ last
   pub sound : StaysSound k inputs
 
-pub ended : (k : Keeping) → IsSound k.secy → Goes k [] [] k
-ended k sound = record { seals = refl; ends = refl; sound = at_each }
-  where
-    at_each : (n : ℕ) → IsSound (keeping_after k (take n [])).secy
-    at_each zero = sound
-    at_each (suc n) = sound
+pub sound_end : (k : Keeping) → IsSound k.secy → StaysSound k []
+sound_end k sound zero = sound
+sound_end k sound (suc n) = sound
 
-pub next_goes : (k after last : Keeping) (input : KeepingInput) (inputs : List KeepingInput) (now uses : List CipherUse) → IsSound k.secy →
-    newly_sealed k input ≡ now → (keeping_step k input).1 ≡ after → Goes after inputs uses last → Goes k (input ∷ inputs) (now ++ uses) last
-next_goes k after last input inputs now uses sound is_now is_after rest = record {
-  seals = ap (λ us. us ++ sealed_from (keeping_step k input).1 inputs) is_now ∙ ap (λ k'. now ++ sealed_from k' inputs) is_after ∙ ap (λ us. now ++ us) rest.seals;
+pub sound_next : (k : Keeping) {after : Keeping} (input : KeepingInput) (inputs : List KeepingInput) → IsSound k.secy →
+    (keeping_step k input).1 ≡ after → StaysSound after inputs → StaysSound k (input ∷ inputs)
+sound_next k input inputs sound is_after rest zero = sound
+sound_next k input inputs sound is_after rest (suc n) =
+    subst (λ (k : Keeping). IsSound (keeping_after k (take n inputs)).secy) (sym is_after) (rest n)
+
+pub ended : (k : Keeping) → IsSound k.secy → Goes k [] [] k
+ended k sound = record { seals = refl; ends = refl; sound = sound_end k sound }
+
+pub next_seals : (k : Keeping) {after : Keeping} (input : KeepingInput) (inputs : List KeepingInput)
+    {now uses : List CipherUse} →
+    newly_sealed k input ≡ now → (keeping_step k input).1 ≡ after → sealed_from after inputs ≡ uses →
+    sealed_from k (input ∷ inputs) ≡ now ++ uses
+next_seals k input inputs {now} is_now is_after rest =
+    ap (λ us. us ++ sealed_from (keeping_step k input).1 inputs) is_now
+    ∙ ap (λ k'. now ++ sealed_from k' inputs) is_after
+    ∙ ap (λ us. now ++ us) rest
+
+pub next_goes : {k after last : Keeping} {input : KeepingInput} {inputs : List KeepingInput}
+    {now uses : List CipherUse} →
+    IsSound k.secy → newly_sealed k input ≡ now → (keeping_step k input).1 ≡ after → Goes after inputs uses last →
+    Goes k (input ∷ inputs) (now ++ uses) last
+next_goes {k} {input} {inputs} sound is_now is_after rest = record {
+  seals = next_seals k input inputs is_now is_after rest.seals;
   ends = ap (λ k'. keeping_after k' inputs) is_after ∙ rest.ends;
-  sound = at_each;
+  sound = sound_next k input inputs sound is_after rest.sound;
 }
-  where
-    at_each : (n : ℕ) → IsSound (keeping_after k (take n (input ∷ inputs))).secy
-    at_each zero = sound
-    at_each (suc n) = subst (λ (k' : Keeping). IsSound (keeping_after k' (take n inputs)).secy) (sym is_after) (rest.sound n)
 
 -- ---- steps
 
@@ -49,8 +71,10 @@ command_step k c new =
     (and_right k.keeps (was_reserved k.before (begins_at k.salt k.secy c)) new)
     ∙ ap (λ (b : Bool). (by_tests false b k (step k.secy (operator_command c))).1) (or_true (not k.keeps))
 
-pub is_new : (before : List Reservation) (name : List ℕ) (n : ℕ) → highest before name < n → (nat_lt 0 n && nat_le n (highest before name)) ≡ false
-is_new before name n free = and_right (nat_lt 0 n) (nat_le n (highest before name)) (lt-leb n (highest before name) free)
+pub is_new : (before : List Reservation) (name : List ℕ) (n : ℕ) → highest before name < n →
+    (nat_lt 0 n && nat_le n (highest before name)) ≡ false
+is_new before name n free = and_right (nat_lt 0 n) (nat_le n (highest before name))
+    (lt-leb n (highest before name) free)
 
 pub command_seals : (k : Keeping) (c : Command) → newly_sealed k (command c) ≡ []
 command_seals k c = ap (λ (b : Bool). sealed_if b []) (or_true (not k.keeps))
@@ -59,11 +83,98 @@ pub frame_step : (k : Keeping) (frame : List ℕ) → may_go k (client_frame fra
     (keeping_step k (endpoint_input (client_frame frame))).1 ≡ record k { secy = (step k.secy (client_frame frame)).1 }
 frame_step k frame goes = ap (λ (b : Bool). (by_tests false b k (step k.secy (client_frame frame))).1) goes
 
-pub frame_seals : (k : Keeping) (frame : List ℕ) → may_go k (client_frame frame) ≡ true → newly_sealed k (endpoint_input (client_frame frame)) ≡ sealed k.secy (client_frame frame)
+pub frame_seals : (k : Keeping) (frame : List ℕ) → may_go k (client_frame frame) ≡ true →
+    newly_sealed k (endpoint_input (client_frame frame)) ≡ sealed k.secy (client_frame frame)
 frame_seals k frame goes = ap (λ (b : Bool). sealed_if b (sealed k.secy (client_frame frame))) goes
 
-pub link_step : (k : Keeping) (frame : List ℕ) → (keeping_step k (endpoint_input (link_frame frame))).1 ≡ record k { secy = (step k.secy (link_frame frame)).1 }
+pub link_step : (k : Keeping) (frame : List ℕ) → (keeping_step k (endpoint_input (link_frame frame))).1 ≡ record k
+    { secy = (step k.secy (link_frame frame)).1 }
 link_step k frame = ap (λ (b : Bool). (by_tests false b k (step k.secy (link_frame frame))).1) (or_true (not k.keeps))
 
 pub link_seals : (k : Keeping) (frame : List ℕ) → newly_sealed k (endpoint_input (link_frame frame)) ≡ []
 link_seals k frame = ap (λ (b : Bool). sealed_if b []) (or_true (not k.keeps))
+
+-- ---- commands that are carried out
+
+-- none creates an SA at a number that was reserved before
+abbrev pub AreNew : Keeping → List Command → Type 0
+AreNew k [] = Unit {0}
+AreNew k (c ∷ cs) =
+    (was_reserved k.before (begins_at k.salt k.secy c) ≡ false) × AreNew (record k { secy = effect k.secy c }) cs
+
+pub carried_step : (k : Keeping) (c : Command) → was_reserved k.before (begins_at k.salt k.secy c) ≡ false →
+    refusal k.secy c ≡ None → (keeping_step k (command c)).1 ≡ record k { secy = effect k.secy c }
+carried_step k c new fits =
+    command_step k c new ∙ ap (λ (r : Option Refusal). record k { secy = unless_refused r k.secy c }) fits
+
+pub commands_by : (P : Keeping → List KeepingInput → Type 0) →
+    ((k : Keeping) (c : Command) (inputs : List KeepingInput) → (keeping_step k (command c)).1 ≡ record k
+    { secy = effect k.secy c } →
+    P (record k { secy = effect k.secy c }) inputs → P k (command c ∷ inputs)) →
+    (cs : List Command) (k : Keeping) (inputs : List KeepingInput) → AreNew k cs → none_refused k.secy cs ≡ true →
+    P (record k { secy = after_commands k.secy cs }) inputs → P k (map command cs ++ inputs)
+commands_by P one [] k inputs new none rest = rest
+commands_by P one (c ∷ cs) k inputs new none rest =
+    let it = first_carried k.secy c cs none in
+    one k c (map command cs ++ inputs) (carried_step k c new.0 it.0)
+    (commands_by P one cs (record k { secy = effect k.secy c }) inputs new.1 it.1 rest)
+
+pub commands_seal : (cs : List Command) (k : Keeping) (inputs : List KeepingInput) {uses : List CipherUse} →
+    AreNew k cs →
+    none_refused k.secy cs ≡ true → sealed_from (record k { secy = after_commands k.secy cs }) inputs ≡ uses →
+    sealed_from k (map command cs ++ inputs) ≡ uses
+commands_seal cs k inputs {uses} new none rest =
+    commands_by (λ k' is. sealed_from k' is ≡ uses)
+    (λ k' c is step more. next_seals k' (command c) is (command_seals k' c) step more) cs k inputs
+    new none rest
+
+pub commands_end : (cs : List Command) (k : Keeping) (inputs : List KeepingInput) {last : Keeping} → AreNew k cs →
+    none_refused k.secy cs ≡ true → keeping_after (record k { secy = after_commands k.secy cs }) inputs ≡ last →
+    keeping_after k (map command cs ++ inputs) ≡ last
+commands_end cs k inputs {last} new none rest =
+    commands_by (λ k' is. keeping_after k' is ≡ last)
+    (λ k' c is step more. ap (λ x. keeping_after x is) step ∙ more) cs k inputs
+    new none rest
+
+pub commands_stay : (cs : List Command) (k : Keeping) (inputs : List KeepingInput) → AreNew k cs →
+    none_refused k.secy cs ≡ true →
+    all_fit k.secy cs ≡ true → IsSound k.secy → StaysSound (record k { secy = after_commands k.secy cs }) inputs →
+    StaysSound k (map command cs ++ inputs)
+commands_stay [] k inputs new none fit sound rest = rest
+commands_stay (c ∷ cs) k inputs new none fit sound rest =
+    let it = first_carried k.secy c cs none in
+    let now = first_sound k.secy c cs it.0 fit sound in
+    sound_next k (command c) (map command cs ++ inputs) sound (carried_step k c new.0 it.0)
+    (commands_stay cs (record k { secy = effect k.secy c }) inputs new.1 it.1 now.1 now.0 rest)
+
+pub commands_go : (cs : List Command) {k last : Keeping} {inputs : List KeepingInput} {uses : List CipherUse} →
+    AreNew k cs →
+    none_refused k.secy cs ≡ true → all_fit k.secy cs ≡ true → IsSound k.secy →
+    Goes (record k { secy = after_commands k.secy cs }) inputs uses last → Goes k (map command cs ++ inputs) uses last
+commands_go cs {k} {inputs} new none fit sound rest = record {
+  seals = commands_seal cs k inputs new none rest.seals;
+  ends = commands_end cs k inputs new none rest.ends;
+  sound = commands_stay cs k inputs new none fit sound rest.sound;
+}
+
+-- ---- the report of the only key's entry, and a frame whose packet number is reserved
+
+pub raised_alone : (name : List ℕ) (n : ℕ) →
+    raised_by (record { name = name; last = n }) (record { name = name; last = 0 }) ≡ record { name = name; last = n }
+raised_alone name n =
+    let most : max 0 n ≡ n = omega arith in
+    ap (λ (same : Bool). if same then record { name = name; last = max 0 n } else record { name = name; last = 0 })
+    (same_octets-refl name) ∙ ap (λ (m : ℕ). record { name = name; last = m }) most
+
+pub is_within : (before : List Reservation) (name : List ℕ) (n last : ℕ) → highest before name < n → n ≤ last →
+    (nat_lt (highest before name) n && nat_le n (highest (record { name = name; last = last } ∷ []) name)) ≡ true
+is_within before name n last free most =
+    and_from _ _ (lt-ltb (highest before name) n free)
+    (ap (λ (same : Bool). nat_le n (if same then max last 0 else 0)) (same_octets-refl name)
+    ∙ le-leb n (max last 0) (omega (arith, most)))
+
+pub may_send : (k : Keeping) (frame : List ℕ) (n : ℕ) → number_used k.secy (client_frame frame) ≡ (0, n) ∷ [] →
+    may_use k (0, n) ≡ true → may_go k (client_frame frame) ≡ true
+may_send k frame n uses may =
+    ap (λ (us : List UsedNumber). not k.keeps || not (list_any (λ u. not (may_use k u)) us)) uses
+    ∙ ap (λ (b : Bool). not k.keeps || not (not b || false)) may ∙ or_true (not k.keeps)

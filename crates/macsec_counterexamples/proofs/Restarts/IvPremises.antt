@@ -10,7 +10,7 @@ use Rattle.macsec_counterexamples.proofs.Restarts.Names.{same_octets-refl, bytes
 use Rattle.std.proofs.lemmas.List.Kept.{AllPairs-cons}
 use Rattle.macsec_counterexamples.proofs.Restarts.Goes.{Goes}
 use Rattle.macsec_counterexamples.proofs.Restarts.Journals.{journal, salt, salt_is, says}
-use Rattle.macsec_counterexamples.proofs.Restarts.Senders.{AtB, AtBReads, AtBSalted, Extended, OtherSalt, ReadSalt, Sender, Short, at_end, config_of, goes, inputs, kept, key_at, key_salt, number_of, reserves, suite_of, use_of}
+use Rattle.macsec_counterexamples.proofs.Restarts.Senders.{Extended, OtherSalt, ReadSalt, Sender, Short, at_end, config_of, goes, inputs, kept, key_at, key_salt, number_of, reserves, suite_of, use_of}
 
 -- the names of the premises
 pub data Premise : Type 0 where
@@ -22,11 +22,13 @@ pub data Premise : Type 0 where
 
 abbrev pub AgreeOnSuites : Run → Run → Type 0
 AgreeOnSuites run later =
-    (x y : InstalledKey) → Contains (closing run).secy.keys x → Contains (closing later).secy.keys y → x.bytes ≡ y.bytes → x.suite ≡ y.suite
+    (x y : InstalledKey) → Contains (closing run).secy.keys x → Contains (closing later).secy.keys y →
+    x.bytes ≡ y.bytes → x.suite ≡ y.suite
 
 abbrev pub AgreeOnSalts : Run → Run → Type 0
 AgreeOnSalts run later =
-    (x y : InstalledKey) → Contains (closing run).secy.keys x → Contains (closing later).secy.keys y → x.bytes ≡ y.bytes → is_xpn x.suite ≡ true → x.salt ≡ y.salt
+    (x y : InstalledKey) → Contains (closing run).secy.keys x → Contains (closing later).secy.keys y →
+    x.bytes ≡ y.bytes → is_xpn x.suite ≡ true → x.salt ≡ y.salt
 
 abbrev pub Holds : List Run → Premise → Type 0
 Holds runs IsSoundAtEachMoment = All (λ run. StaysSound (opening run) run.inputs) runs
@@ -39,7 +41,10 @@ Holds runs IsDurable = AllPairs KeepsDurable runs
 pub premises_suffice : (runs : List Run) → ((p : Premise) → Holds runs p) → IsHistory runs
 premises_suffice runs holds = record {
   sound = holds IsSoundAtEachMoment;
-  agree = λ i j d less within x y there there' same. record { suite = holds SameSuite i j d less within x y there there' same; salt = holds SameKeySalt i j d less within x y there there' same };
+  agree = λ i j d less within x y there there' same. record {
+    suite = holds SameSuite i j d less within x y there there' same;
+    salt = holds SameKeySalt i j d less within x y there there' same;
+  };
   salt = holds SameJournalSalt;
   durable = holds IsDurable;
 }
@@ -63,29 +68,40 @@ pub run_goes : (w : Sender) (other : Bool) (rs : List Reservation) → All IsRes
 run_goes w other rs are free =
     let before : List Reservation = reduced (reservations (journal other rs)) in
     let above : highest before (sending_name (salt other) bytes) < number_of w =
-    omega (arith, reduced_reserves (reservations (journal other rs)) (sending_name (salt other) bytes), says other rs are (sending_name (salt other) bytes), free) in
-    subst (λ (s : List ℕ). Goes (record (opening (run_of w other rs)) { salt = s }) (run_of w other rs).inputs (use_of w ∷ []) (kept (salt other) before (reserves w (salt other) ∷ []) (at_end w)))
+    let name = sending_name (salt other) bytes in
+    omega (arith, reduced_reserves (reservations (journal other rs)) name, says other rs are name, free) in
+    subst (λ (s : List ℕ). Goes (record (opening (run_of w other rs)) { salt = s }) (run_of w other rs).inputs
+    (use_of w ∷ []) (kept (salt other) before (reserves w (salt other) ∷ []) (at_end w)))
     (sym (salt_is other rs)) (goes (salt other) before w above)
 
 pair : {X : Type 0} (R : X → X → Type 0) (x y : X) → R x y → AllPairs R (x ∷ y ∷ [])
 pair R x y holds = AllPairs-cons R x (y ∷ []) (All-cons (R x) y [] holds (All-nil (R x))) (one_alone R y)
 
-refuted : (p q : Run) (u v : CipherUse) (k l : Keeping) → Goes (opening p) p.inputs (u ∷ []) k → Goes (opening q) q.inputs (v ∷ []) l → u.key ≡ v.key → u.iv ≡ v.iv →
+refuted : (p q : Run) (u v : CipherUse) (k l : Keeping) → Goes (opening p) p.inputs (u ∷ []) k →
+    Goes (opening q) q.inputs (v ∷ []) l → u.key ≡ v.key → u.iv ≡ v.iv →
     AllPairs HasOtherIv (sealed_in_all (p ∷ q ∷ [])) → ⊥
 refuted p q u v k l first second same_key same_iv pairs =
-    let is : sealed_in_all (p ∷ q ∷ []) ≡ u ∷ v ∷ [] = ap (λ us. us ++ (sealed_in q ++ [])) first.seals ∙ ap (λ us. u ∷ (us ++ [])) second.seals in
+    let is : sealed_in_all (p ∷ q ∷ []) ≡ u ∷ v ∷ [] = ap (λ us. us ++ (sealed_in q ++ [])) first.seals
+    ∙ ap (λ us. u ∷ (us ++ [])) second.seals in
     subst (AllPairs HasOtherIv) is pairs 0 1 u (omega arith) (omega arith) same_key same_iv
 
-both_sound : (p q : Run) → StaysSound (opening p) p.inputs → StaysSound (opening q) q.inputs → All (λ run. StaysSound (opening run) run.inputs) (p ∷ q ∷ [])
+both_sound : (p q : Run) → StaysSound (opening p) p.inputs → StaysSound (opening q) q.inputs →
+    All (λ run. StaysSound (opening run) run.inputs) (p ∷ q ∷ [])
 both_sound p q first second =
-    All-cons (λ run. StaysSound (opening run) run.inputs) p (q ∷ []) first (All-cons (λ run. StaysSound (opening run) run.inputs) q [] second (All-nil (λ run. StaysSound (opening run) run.inputs)))
+    All-cons (λ run. StaysSound (opening run) run.inputs) p (q ∷ []) first
+    (All-cons (λ run. StaysSound (opening run) run.inputs) q [] second
+    (All-nil (λ run. StaysSound (opening run) run.inputs)))
 
 -- what holds of the two keys holds of any two
-pub of_keys : (R : InstalledKey → InstalledKey → Type 0) (p q : Run) (w v : Sender) → (closing p).secy.keys ≡ key_at w (number_of w + 1) ∷ [] →
-    (closing q).secy.keys ≡ key_at v (number_of v + 1) ∷ [] → R (key_at w (number_of w + 1)) (key_at v (number_of v + 1)) →
+pub of_keys : (R : InstalledKey → InstalledKey → Type 0) (p q : Run) (w v : Sender) →
+    (closing p).secy.keys ≡ key_at w (number_of w + 1) ∷ [] →
+    (closing q).secy.keys ≡ key_at v (number_of v + 1) ∷ [] →
+    R (key_at w (number_of w + 1)) (key_at v (number_of v + 1)) →
     (x y : InstalledKey) → Contains (closing p).secy.keys x → Contains (closing q).secy.keys y → R x y
 of_keys R p q w v is is' holds x y there there' =
-    of_two R (key_at w (number_of w + 1)) (key_at v (number_of v + 1)) holds x y (subst (λ (ks : List InstalledKey). Contains ks x) is there) (subst (λ (ks : List InstalledKey). Contains ks y) is' there')
+    of_two R (key_at w (number_of w + 1)) (key_at v (number_of v + 1)) holds x y
+    (subst (λ (ks : List InstalledKey). Contains ks x) is there)
+    (subst (λ (ks : List InstalledKey). Contains ks y) is' there')
 
 reserves_is : (w : Sender) (s : List ℕ) → All IsReservation (reserves w s ∷ [])
 reserves_is w s = All-cons IsReservation (reserves w s) [] (by_number w) (All-nil IsReservation)
@@ -95,12 +111,7 @@ reserves_is w s = All-cons IsReservation (reserves w s) [] (by_number w) (All-ni
 
     by_number : (v : Sender) → IsReservation (record { name = sending_name s bytes; last = number_of v })
     by_number Short = record { name = name; last = omega arith }
-    by_number Extended = record { name = name; last = omega arith }
-    by_number OtherSalt = record { name = name; last = omega arith }
-    by_number ReadSalt = record { name = name; last = omega arith }
-    by_number AtB = record { name = name; last = omega arith }
-    by_number AtBReads = record { name = name; last = omega arith }
-    by_number AtBSalted = record { name = name; last = omega arith }
+    by_number it = record { name = name; last = omega arith }
 
 -- ---- an earlier run, whose journal is empty, and a later one
 
@@ -115,25 +126,38 @@ is_read : (w v : Sender) (other : Bool) → KeepsDurable (run_of w false []) (ru
 is_read w v other name = omega (arith, says other (after w) (reserves_is w (salt false)) name)
 
 -- the premises, but one, of these two runs
-holds_but : (left_out : Premise) (w v : Sender) (other : Bool) (rs : List Reservation) (k l : Keeping) (us vs : List CipherUse) →
-    Goes (opening (run_of w false [])) (run_of w false []).inputs us k → Goes (opening (run_of v other rs)) (run_of v other rs).inputs vs l →
+holds_but : (left_out : Premise) (w v : Sender) (other : Bool) (rs : List Reservation) (k l : Keeping)
+    (us vs : List CipherUse) →
+    Goes (opening (run_of w false [])) (run_of w false []).inputs us k →
+    Goes (opening (run_of v other rs)) (run_of v other rs).inputs vs l →
     k.secy.keys ≡ key_at w (number_of w + 1) ∷ [] → l.secy.keys ≡ key_at v (number_of v + 1) ∷ [] →
-    (SameSuite ≢ left_out → suite_of w ≡ suite_of v) → (SameKeySalt ≢ left_out → is_xpn (suite_of w) ≡ true → key_salt w ≡ key_salt v) →
-    (SameJournalSalt ≢ left_out → salt other ≡ salt false) → (IsDurable ≢ left_out → KeepsDurable (run_of w false []) (run_of v other rs)) →
+    (SameSuite ≢ left_out → suite_of w ≡ suite_of v) →
+    (SameKeySalt ≢ left_out → is_xpn (suite_of w) ≡ true → key_salt w ≡ key_salt v) →
+    (SameJournalSalt ≢ left_out → salt other ≡ salt false) →
+    (IsDurable ≢ left_out → KeepsDurable (run_of w false []) (run_of v other rs)) →
     (p : Premise) → p ≢ left_out → Holds (run_of w false [] ∷ run_of v other rs ∷ []) p
-holds_but left_out w v other rs k l us vs first second keys keys' suite key_salts journal_salt durable IsSoundAtEachMoment differ =
+holds_but left_out w v other rs k l us vs first second keys keys' suite key_salts journal_salt durable
+    IsSoundAtEachMoment differ =
     both_sound (run_of w false []) (run_of v other rs) first.sound second.sound
-holds_but left_out w v other rs k l us vs first second keys keys' suite key_salts journal_salt durable SameSuite differ =
+holds_but left_out w v other rs k l us vs first second keys keys' suite key_salts journal_salt durable SameSuite
+    differ =
     pair AgreeOnSuites (run_of w false []) (run_of v other rs)
     (of_keys (λ x y. x.bytes ≡ y.bytes → x.suite ≡ y.suite) (run_of w false []) (run_of v other rs) w v
-    (ap (λ (k' : Keeping). k'.secy.keys) first.ends ∙ keys) (ap (λ (k' : Keeping). k'.secy.keys) second.ends ∙ keys') (λ same. suite differ))
-holds_but left_out w v other rs k l us vs first second keys keys' suite key_salts journal_salt durable SameKeySalt differ =
+    (ap (λ (k' : Keeping). k'.secy.keys) first.ends ∙ keys) (ap (λ (k' : Keeping). k'.secy.keys) second.ends ∙ keys')
+    (λ same. suite differ))
+holds_but left_out w v other rs k l us vs first second keys keys' suite key_salts journal_salt durable SameKeySalt
+    differ =
     pair AgreeOnSalts (run_of w false []) (run_of v other rs)
-    (of_keys (λ x y. x.bytes ≡ y.bytes → is_xpn x.suite ≡ true → x.salt ≡ y.salt) (run_of w false []) (run_of v other rs) w v
-    (ap (λ (k' : Keeping). k'.secy.keys) first.ends ∙ keys) (ap (λ (k' : Keeping). k'.secy.keys) second.ends ∙ keys') (λ same. key_salts differ))
-holds_but left_out w v other rs k l us vs first second keys keys' suite key_salts journal_salt durable SameJournalSalt differ =
-    pair SameSalt (run_of w false []) (run_of v other rs) (salt_is other rs ∙ journal_salt differ ∙ sym (salt_is false []))
-holds_but left_out w v other rs k l us vs first second keys keys' suite key_salts journal_salt durable IsDurable differ =
+    (of_keys (λ x y. x.bytes ≡ y.bytes → is_xpn x.suite ≡ true → x.salt ≡ y.salt) (run_of w false [])
+    (run_of v other rs) w v
+    (ap (λ (k' : Keeping). k'.secy.keys) first.ends ∙ keys) (ap (λ (k' : Keeping). k'.secy.keys) second.ends ∙ keys')
+    (λ same. key_salts differ))
+holds_but left_out w v other rs k l us vs first second keys keys' suite key_salts journal_salt durable SameJournalSalt
+    differ =
+    pair SameSalt (run_of w false []) (run_of v other rs)
+    (salt_is other rs ∙ journal_salt differ ∙ sym (salt_is false []))
+holds_but left_out w v other rs k l us vs first second keys keys' suite key_salts journal_salt durable IsDurable
+    differ =
     pair KeepsDurable (run_of w false []) (run_of v other rs) (durable differ)
 
 -- ---- the premises
@@ -143,39 +167,52 @@ pub short_goes : Goes (opening (run_of Short false [])) (run_of Short false []).
 short_goes = run_goes Short false [] nothing (omega arith)
 
 pub extended_goes : Goes (opening (run_of Extended false [])) (run_of Extended false []).inputs (use_of Extended ∷ [])
-    (kept (salt false) (reduced (reservations (journal false []))) (reserves Extended (salt false) ∷ []) (at_end Extended))
+    (kept (salt false) (reduced (reservations (journal false []))) (reserves Extended (salt false) ∷ [])
+    (at_end Extended))
 extended_goes = run_goes Extended false [] nothing (omega arith)
 
 -- both runs begin with an empty journal
 pub durability_needed : LawWithout IsDurable (run_of Short false [] ∷ run_of Short false [] ∷ []) → ⊥
 durability_needed law =
-    refuted (run_of Short false []) (run_of Short false []) (use_of Short) (use_of Short) _ _ short_goes short_goes refl refl
-    (law (holds_but IsDurable Short Short false [] _ _ _ _ short_goes short_goes refl refl (λ d. refl) (λ d xpn. refl) (λ d. refl) (λ d. absurd (d refl))))
+    refuted (run_of Short false []) (run_of Short false []) (use_of Short)
+    (use_of Short) _ _ short_goes short_goes refl refl
+    (law (holds_but IsDurable Short Short false [] _ _ _ _ short_goes short_goes refl refl (λ d. refl) (λ d xpn. refl)
+    (λ d. refl) (λ d. absurd (d refl))))
 
 -- the record of a name reserves its number
 own_number : (w : Sender) → highest (after w) (sending_name (salt false) bytes) ≡ number_of w
-own_number w = highest_of_one (reserves w (salt false)) (sending_name (salt false) bytes) true (same_octets-refl (sending_name (salt false) bytes))
+own_number w = highest_of_one (reserves w (salt false)) (sending_name (salt false) bytes) true
+    (same_octets-refl (sending_name (salt false) bytes))
 
-read_goes : Goes (opening (run_of ReadSalt false (after Short))) (run_of ReadSalt false (after Short)).inputs (use_of ReadSalt ∷ [])
-    (kept (salt false) (reduced (reservations (journal false (after Short)))) (reserves ReadSalt (salt false) ∷ []) (at_end ReadSalt))
+read_goes : Goes (opening (run_of ReadSalt false (after Short))) (run_of ReadSalt false (after Short)).inputs
+    (use_of ReadSalt ∷ [])
+    (kept (salt false) (reduced (reservations (journal false (after Short)))) (reserves ReadSalt (salt false) ∷ [])
+    (at_end ReadSalt))
 read_goes = run_goes ReadSalt false (after Short) (reserves_is Short (salt false)) (omega (arith, own_number Short))
 
 -- the later run has extended packet numbers, and its second IV is the first IV of the earlier run
 pub suite_needed : LawWithout SameSuite (run_of Short false [] ∷ run_of ReadSalt false (after Short) ∷ []) → ⊥
 unfolding sum_with_stream
 suite_needed law =
-    refuted (run_of Short false []) (run_of ReadSalt false (after Short)) (use_of Short) (use_of ReadSalt) _ _ short_goes read_goes refl refl
-    (law (holds_but SameSuite Short ReadSalt false (after Short) _ _ _ _ short_goes read_goes refl refl (λ d. absurd (d refl)) (λ d xpn. cc) (λ d. refl) (λ d. is_read Short ReadSalt false)))
+    refuted (run_of Short false []) (run_of ReadSalt false (after Short)) (use_of Short)
+    (use_of ReadSalt) _ _ short_goes read_goes refl refl
+    (law (holds_but SameSuite Short ReadSalt false (after Short) _ _ _ _ short_goes read_goes refl refl
+    (λ d. absurd (d refl)) (λ d xpn. cc) (λ d. refl) (λ d. is_read Short ReadSalt false)))
 
-other_goes : Goes (opening (run_of OtherSalt false (after Extended))) (run_of OtherSalt false (after Extended)).inputs (use_of OtherSalt ∷ [])
-    (kept (salt false) (reduced (reservations (journal false (after Extended)))) (reserves OtherSalt (salt false) ∷ []) (at_end OtherSalt))
-other_goes = run_goes OtherSalt false (after Extended) (reserves_is Extended (salt false)) (omega (arith, own_number Extended))
+other_goes : Goes (opening (run_of OtherSalt false (after Extended))) (run_of OtherSalt false (after Extended)).inputs
+    (use_of OtherSalt ∷ [])
+    (kept (salt false) (reduced (reservations (journal false (after Extended)))) (reserves OtherSalt (salt false) ∷ [])
+    (at_end OtherSalt))
+other_goes = run_goes OtherSalt false (after Extended) (reserves_is Extended (salt false))
+    (omega (arith, own_number Extended))
 
 -- the later run has another salt for the key, under which its second IV is the first IV of the earlier run
-pub key_salt_needed : LawWithout SameKeySalt (run_of Extended false [] ∷ run_of OtherSalt false (after Extended) ∷ []) → ⊥
+pub key_salt_needed : LawWithout SameKeySalt (run_of Extended false [] ∷ run_of OtherSalt false (after Extended) ∷ []) →
+    ⊥
 unfolding sum_with_stream
 key_salt_needed law =
-    refuted (run_of Extended false []) (run_of OtherSalt false (after Extended)) (use_of Extended) (use_of OtherSalt) _ _ extended_goes other_goes refl refl
+    refuted (run_of Extended false []) (run_of OtherSalt false (after Extended)) (use_of Extended)
+    (use_of OtherSalt) _ _ extended_goes other_goes refl refl
     (law (holds_but SameKeySalt Extended OtherSalt false (after Extended) _ _ _ _ extended_goes other_goes refl refl
     (λ d. refl) (λ d. absurd (d refl)) (λ d. refl) (λ d. is_read Extended OtherSalt false)))
 
@@ -184,13 +221,18 @@ names_differ : same_octets (sending_name (salt false) bytes) (sending_name (salt
 unfolding first_words schedule rounds compress hash_after digest_bytes sha256
 names_differ = refl
 
-renamed_goes : Goes (opening (run_of Short true (after Short))) (run_of Short true (after Short)).inputs (use_of Short ∷ [])
-    (kept (salt true) (reduced (reservations (journal true (after Short)))) (reserves Short (salt true) ∷ []) (at_end Short))
+renamed_goes : Goes (opening (run_of Short true (after Short))) (run_of Short true (after Short)).inputs
+    (use_of Short ∷ [])
+    (kept (salt true) (reduced (reservations (journal true (after Short)))) (reserves Short (salt true) ∷ [])
+    (at_end Short))
 renamed_goes =
-    run_goes Short true (after Short) (reserves_is Short (salt false)) (omega (arith, highest_of_one (reserves Short (salt false)) (sending_name (salt true) bytes) false names_differ))
+    run_goes Short true (after Short) (reserves_is Short (salt false))
+    (omega (arith, highest_of_one (reserves Short (salt false)) (sending_name (salt true) bytes) false names_differ))
 
 -- the later run reads all records, but another salt
 pub journal_salt_needed : LawWithout SameJournalSalt (run_of Short false [] ∷ run_of Short true (after Short) ∷ []) → ⊥
 journal_salt_needed law =
-    refuted (run_of Short false []) (run_of Short true (after Short)) (use_of Short) (use_of Short) _ _ short_goes renamed_goes refl refl
-    (law (holds_but SameJournalSalt Short Short true (after Short) _ _ _ _ short_goes renamed_goes refl refl (λ d. refl) (λ d xpn. refl) (λ d. absurd (d refl)) (λ d. is_read Short Short true)))
+    refuted (run_of Short false []) (run_of Short true (after Short)) (use_of Short)
+    (use_of Short) _ _ short_goes renamed_goes refl refl
+    (law (holds_but SameJournalSalt Short Short true (after Short) _ _ _ _ short_goes renamed_goes refl refl (λ d. refl)
+    (λ d xpn. refl) (λ d. absurd (d refl)) (λ d. is_read Short Short true)))

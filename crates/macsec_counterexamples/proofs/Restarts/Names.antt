@@ -1,7 +1,7 @@
 -- The names of other crates that proofs share.
 pub use Rattle.std.proofs.Common.{◌≡◌, ℕ, zero, suc, Bool, true, false, List, [], ◌∷◌, ◌++◌, take, refl, ap, sym, subst, ◌∙◌, ◌<◌, ◌≢◌, ◌+◌, length}
 pub use Rattle.std.proofs.Common.{arith, All, AllPairs, Contains, ◌≤◌, drop, length-append}
-pub use Rattle.std.specs.Prelude.{◌&&◌, ◌||◌, not, nat_lt, nat_le, codes, replicate, slice_range, max, if◌then◌else◌, ◌^◌, Some, ◌==◌}
+pub use Rattle.std.specs.Prelude.{Option, None, map, ◌&&◌, ◌||◌, not, nat_lt, nat_le, codes, replicate, slice_range, max, if◌then◌else◌, ◌^◌, Some, ◌==◌}
 pub use Rattle.std.proofs.lemmas.Bool.{and_right, lt-leb, and_from, le-leb, lt-ltb}
 pub use Rattle.macsec_suite.specs.CipherUses.{CipherUse}
 pub use Rattle.macsec_secy.specs.Sound.{IsSound}

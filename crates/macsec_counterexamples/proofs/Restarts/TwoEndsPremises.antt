@@ -27,11 +27,14 @@ Agree x y OtherSscis = is_xpn x.suite ≡ true → x.ssci ≢ y.ssci
 -- the premises on a run of each end, without one of them
 pub record AreOfTwoEndsBut (left_out : Premise) (run other : Run) : Type 0 where
   pub sci : OtherScis ≢ left_out → run.config.sci ≢ other.config.sci
-  pub keys : (p : Premise) → p ≢ left_out → (x y : InstalledKey) → Contains (closing run).secy.keys x → Contains (closing other).secy.keys y → x.bytes ≡ y.bytes → Agree x y p
+  pub keys : (p : Premise) → p ≢ left_out → (x y : InstalledKey) → Contains (closing run).secy.keys x →
+      Contains (closing other).secy.keys y → x.bytes ≡ y.bytes → Agree x y p
 
 -- with the one that was left out they are the premises of the promise
-pub premises_suffice : (left_out : Premise) (run other : Run) → AreOfTwoEndsBut left_out run other → run.config.sci ≢ other.config.sci →
-    ((p : Premise) (x y : InstalledKey) → Contains (closing run).secy.keys x → Contains (closing other).secy.keys y → x.bytes ≡ y.bytes → Agree x y p) → AreOfTwoEnds run other
+pub premises_suffice : (left_out : Premise) (run other : Run) → AreOfTwoEndsBut left_out run other →
+    run.config.sci ≢ other.config.sci →
+    ((p : Premise) (x y : InstalledKey) → Contains (closing run).secy.keys x → Contains (closing other).secy.keys y →
+    x.bytes ≡ y.bytes → Agree x y p) → AreOfTwoEnds run other
 premises_suffice left_out run other but sci keys = record {
   sci = sci;
   keys = λ x y there there' same. record {
@@ -42,7 +45,8 @@ premises_suffice left_out run other but sci keys = record {
 
 abbrev pub LawWithout : Premise → Run → Run → Type 0
 LawWithout left_out run other =
-    IsHistory (run ∷ []) → IsHistory (other ∷ []) → AreOfTwoEndsBut left_out run other → AllPairs HasOtherIv (sealed_in_all (run ∷ []) ++ sealed_in_all (other ∷ []))
+    IsHistory (run ∷ []) → IsHistory (other ∷ []) → AreOfTwoEndsBut left_out run other →
+    AllPairs HasOtherIv (sealed_in_all (run ∷ []) ++ sealed_in_all (other ∷ []))
 
 -- ---- two runs, with empty journals
 
@@ -57,31 +61,39 @@ one_run run sound = record {
   durable = one_alone KeepsDurable run;
 }
 
-refuted : (left_out : Premise) (w v : Sender) (k l : Keeping) → Goes (opening (run_with w)) (run_with w).inputs (use_of w ∷ []) k →
-    Goes (opening (run_with v)) (run_with v).inputs (use_of v ∷ []) l → k.secy.keys ≡ key_at w (number_of w + 1) ∷ [] → l.secy.keys ≡ key_at v (number_of v + 1) ∷ [] →
-    (OtherScis ≢ left_out → (config_of w).sci ≢ (config_of v).sci) → ((p : Premise) → p ≢ left_out → Agree (key_at w (number_of w + 1)) (key_at v (number_of v + 1)) p) →
+refuted : (left_out : Premise) (w v : Sender) (k l : Keeping) →
+    Goes (opening (run_with w)) (run_with w).inputs (use_of w ∷ []) k →
+    Goes (opening (run_with v)) (run_with v).inputs (use_of v ∷ []) l → k.secy.keys ≡ key_at w (number_of w + 1) ∷ [] →
+    l.secy.keys ≡ key_at v (number_of v + 1) ∷ [] →
+    (OtherScis ≢ left_out → (config_of w).sci ≢ (config_of v).sci) →
+    ((p : Premise) → p ≢ left_out → Agree (key_at w (number_of w + 1)) (key_at v (number_of v + 1)) p) →
     (use_of w).key ≡ (use_of v).key → (use_of w).iv ≡ (use_of v).iv → LawWithout left_out (run_with w) (run_with v) → ⊥
 refuted left_out w v k l first second keys keys' sci agree same_key same_iv law =
     let is : sealed_in_all (run_with w ∷ []) ++ sealed_in_all (run_with v ∷ []) ≡ use_of w ∷ use_of v ∷ [] =
-    ap (λ us. (us ++ []) ++ (sealed_in (run_with v) ++ [])) first.seals ∙ ap (λ us. use_of w ∷ (us ++ [])) second.seals in
+    ap (λ us. (us ++ []) ++ (sealed_in (run_with v) ++ [])) first.seals
+    ∙ ap (λ us. use_of w ∷ (us ++ [])) second.seals in
     let pairs = law (one_run (run_with w) first.sound) (one_run (run_with v) second.sound)
     (record {
       sci = sci;
       keys = λ p differ.
           of_keys (λ x y. x.bytes ≡ y.bytes → Agree x y p) (run_with w) (run_with v) w v
-          (ap (λ (k' : Keeping). k'.secy.keys) first.ends ∙ keys) (ap (λ (k' : Keeping). k'.secy.keys) second.ends ∙ keys') (λ same. agree p differ);
+          (ap (λ (k' : Keeping). k'.secy.keys) first.ends ∙ keys)
+          (ap (λ (k' : Keeping). k'.secy.keys) second.ends ∙ keys') (λ same. agree p differ);
     }) in
     subst (AllPairs HasOtherIv) is pairs 0 1 (use_of w) (omega arith) (omega arith) same_key same_iv
 
-b_goes : Goes (opening (run_with AtB)) (run_with AtB).inputs (use_of AtB ∷ []) (kept (salt false) (reduced (reservations (journal false []))) (reserves AtB (salt false) ∷ []) (at_end AtB))
+b_goes : Goes (opening (run_with AtB)) (run_with AtB).inputs (use_of AtB ∷ [])
+    (kept (salt false) (reduced (reservations (journal false []))) (reserves AtB (salt false) ∷ []) (at_end AtB))
 b_goes = run_goes AtB false [] nothing (omega arith)
 
 reads_goes : Goes (opening (run_with AtBReads)) (run_with AtBReads).inputs (use_of AtBReads ∷ [])
-    (kept (salt false) (reduced (reservations (journal false []))) (reserves AtBReads (salt false) ∷ []) (at_end AtBReads))
+    (kept (salt false) (reduced (reservations (journal false []))) (reserves AtBReads (salt false) ∷ [])
+    (at_end AtBReads))
 reads_goes = run_goes AtBReads false [] nothing (omega arith)
 
 salted_goes : Goes (opening (run_with AtBSalted)) (run_with AtBSalted).inputs (use_of AtBSalted ∷ [])
-    (kept (salt false) (reduced (reservations (journal false []))) (reserves AtBSalted (salt false) ∷ []) (at_end AtBSalted))
+    (kept (salt false) (reduced (reservations (journal false []))) (reserves AtBSalted (salt false) ∷ [])
+    (at_end AtBSalted))
 salted_goes = run_goes AtBSalted false [] nothing (omega arith)
 
 differ_in_sci : sci_a ≢ sci_b
@@ -96,7 +108,8 @@ agree_short SameKeySalt differ = λ xpn. cc
 agree_short OtherSscis differ = λ xpn. cc
 
 pub other_scis_needed : LawWithout OtherScis (run_with Short) (run_with Short) → ⊥
-other_scis_needed = refuted OtherScis Short Short _ _ short_goes short_goes refl refl (λ d. absurd (d refl)) agree_short refl refl
+other_scis_needed = refuted OtherScis Short Short _ _ short_goes short_goes refl refl
+    (λ d. absurd (d refl)) agree_short refl refl
 
 agree_b : (p : Premise) → p ≢ OtherSscis → Agree (key_at Extended 2) (key_at AtB 2) p
 agree_b OtherScis differ = tt
@@ -106,7 +119,8 @@ agree_b OtherSscis differ = absurd (differ refl)
 
 pub other_sscis_needed : LawWithout OtherSscis (run_with Extended) (run_with AtB) → ⊥
 unfolding sum_with_stream
-other_sscis_needed = refuted OtherSscis Extended AtB _ _ extended_goes b_goes refl refl (λ d. differ_in_sci) agree_b refl refl
+other_sscis_needed = refuted OtherSscis Extended AtB _ _ extended_goes b_goes refl refl
+    (λ d. differ_in_sci) agree_b refl refl
 
 agree_reads : (p : Premise) → p ≢ SameSuite → Agree (key_at Short 2) (key_at AtBReads 2) p
 agree_reads OtherScis differ = tt
@@ -116,7 +130,8 @@ agree_reads OtherSscis differ = λ xpn. cc
 
 pub same_suite_needed : LawWithout SameSuite (run_with Short) (run_with AtBReads) → ⊥
 unfolding sum_with_stream
-same_suite_needed = refuted SameSuite Short AtBReads _ _ short_goes reads_goes refl refl (λ d. differ_in_sci) agree_reads refl refl
+same_suite_needed = refuted SameSuite Short AtBReads _ _ short_goes reads_goes refl refl
+    (λ d. differ_in_sci) agree_reads refl refl
 
 agree_salted : (p : Premise) → p ≢ SameKeySalt → Agree (key_at Extended 2) (key_at AtBSalted 2) p
 agree_salted OtherScis differ = tt
@@ -126,4 +141,5 @@ agree_salted OtherSscis differ = λ xpn same. omega (arith, same)
 
 pub same_salt_needed : LawWithout SameKeySalt (run_with Extended) (run_with AtBSalted) → ⊥
 unfolding sum_with_stream
-same_salt_needed = refuted SameKeySalt Extended AtBSalted _ _ extended_goes salted_goes refl refl (λ d. differ_in_sci) agree_salted refl refl
+same_salt_needed = refuted SameKeySalt Extended AtBSalted _ _ extended_goes salted_goes refl refl
+    (λ d. differ_in_sci) agree_salted refl refl

@@ -1,15 +1,17 @@
 -- The first promise needs the premise that the endpoint is sound at each moment. Each call of a `Keeper` keeps it; an
 -- input that no call can be given breaks it: a key whose salt has no octets. Under it all packet numbers have the same
 -- IV.
-use Rattle.macsec_counterexamples.proofs.Restarts.Names.{◌≡◌, ◌≢◌, ℕ, ◌<◌, Bool, true, false, List, [], ◌∷◌, ◌++◌, refl, ap, subst, ◌∙◌, arith}
-use Rattle.macsec_counterexamples.proofs.Restarts.Names.{AllPairs, ◌||◌, ◌&&◌, not, nat_lt, nat_le, max, if◌then◌else◌, lt-ltb, sum_with_stream}
+use Rattle.macsec_counterexamples.proofs.Restarts.Names.{◌≡◌, ◌≢◌, ℕ, true, false, List, [], ◌∷◌, ◌++◌, refl, ap, subst, ◌∙◌, arith}
+use Rattle.macsec_counterexamples.proofs.Restarts.Names.{AllPairs, sum_with_stream}
 use Rattle.macsec_counterexamples.proofs.Restarts.Names.{Xpn128, CipherUse, InstalledKey, Key, TxOn, TxSa, use_sent, State, no_tx_counters, start}
-use Rattle.macsec_counterexamples.proofs.Restarts.Names.{tx_options, client_frame, Reservation, reduced, KeepsDurable, Run, SameSalt, newly_sealed}
+use Rattle.macsec_counterexamples.proofs.Restarts.Names.{tx_options, client_frame, Reservation, reduced, KeepsDurable, Run, SameSalt}
 use Rattle.macsec_counterexamples.proofs.Restarts.Names.{sealed_from, sealed_in_all, highest, reservations, sending_name, Keeping, KeepingInput}
-use Rattle.macsec_counterexamples.proofs.Restarts.Names.{endpoint_input, keeping_step, may_go, now_durable, HasOtherIv, one_alone, reduced_reserves}
-use Rattle.macsec_counterexamples.proofs.Restarts.Names.{same_octets-refl, bytes, installed_key, new_key, xpn_a}
+use Rattle.macsec_counterexamples.proofs.Restarts.Names.{endpoint_input, may_go, now_durable, HasOtherIv, one_alone, reduced_reserves}
+use Rattle.macsec_counterexamples.proofs.Restarts.Names.{bytes, installed_key, new_key, xpn_a}
 use Rattle.macsec_counterexamples.proofs.Link.WorkedEnds.{client}
-use Rattle.macsec_counterexamples.proofs.Restarts.Goes.{command, command_seals, command_step, frame_seals, frame_step, is_new}
+use Rattle.macsec_counterexamples.proofs.Restarts.Goes.{command, commands_seal, frame_seals, frame_step, is_new, is_within, may_send, next_seals, raised_alone}
+use Rattle.macsec_counterexamples.proofs.Restarts.Tables.{after_commands}
+use Rattle.macsec_commands.specs.declared.command.Command.{Command}
 use Rattle.macsec_counterexamples.proofs.Restarts.IvPremises.{AgreeOnSalts, AgreeOnSuites, Holds, IsDurable, IsSoundAtEachMoment, LawWithout, Premise, SameJournalSalt, SameKeySalt, SameSuite, nothing}
 use Rattle.macsec_counterexamples.proofs.Restarts.Journals.{journal, salt, says}
 use Rattle.macsec_counterexamples.proofs.Restarts.Senders.{kept, row_at}
@@ -28,7 +30,8 @@ abbrev run : Run
 run = record {
   journal = journal false [];
   config = xpn_a;
-  inputs = command (Key (new_key [] 1)) ∷ command (TxSa 0 0 1 false) ∷ command (TxOn 0) ∷ now_durable two ∷ frame ∷ frame ∷ [];
+  inputs = command (Key (new_key [] 1)) ∷ command (TxSa 0 0 1 false) ∷ command (TxOn 0) ∷ now_durable two ∷ frame
+      ∷ frame ∷ [];
 }
 
 -- ---- its states
@@ -36,11 +39,11 @@ run = record {
 abbrev key_at : ℕ → InstalledKey
 key_at first_unused = installed_key Xpn128 [] 1 first_unused
 
-abbrev with_key : State
-with_key = record (start xpn_a) { keys = key_at 1 ∷ [] }
+abbrev commands : List Command
+commands = Key (new_key [] 1) ∷ TxSa 0 0 1 false ∷ TxOn 0 ∷ []
 
-abbrev with_sa : Bool → State
-with_sa on = record (start xpn_a) { keys = key_at 1 ∷ []; tx = row_at 1 on ∷ [] }
+abbrev sending : State
+sending = after_commands (start xpn_a) commands
 
 abbrev after_one : State
 after_one = record (start xpn_a) {
@@ -57,7 +60,7 @@ at granted s = kept (salt false) before granted s
 
 -- what it seals
 abbrev first_use : CipherUse
-first_use = use_sent (tx_options (with_sa true)) (key_at 1) (row_at 1 true) client
+first_use = use_sent (tx_options sending) (key_at 1) (row_at 1 true) client
 
 abbrev second_use : CipherUse
 second_use = use_sent (tx_options after_one) (key_at 2) (row_at 2 true) client
@@ -67,46 +70,23 @@ second_use = use_sent (tx_options after_one) (key_at 2) (row_at 2 true) client
 none : highest before name ≡ 0
 none = reduced_reserves (reservations (journal false [])) name ∙ says false [] nothing name
 
-next_seals : (k after : Keeping) (input : KeepingInput) (inputs : List KeepingInput) (now uses : List CipherUse) → newly_sealed k input ≡ now → (keeping_step k input).1 ≡ after →
-    sealed_from after inputs ≡ uses → sealed_from k (input ∷ inputs) ≡ now ++ uses
-next_seals k after input inputs now uses is_now is_after rest =
-    ap (λ us. us ++ sealed_from (keeping_step k input).1 inputs) is_now ∙ ap (λ k'. now ++ sealed_from k' inputs) is_after ∙ ap (λ us. now ++ us) rest
-
-reserved : (keeping_step (at [] (with_sa true)) (now_durable two)).1 ≡ at (two ∷ []) (with_sa true)
-reserved = ap (λ (same : Bool). at ((if same then record { name = name; last = max 0 2 } else record { name = name; last = 0 }) ∷ []) (with_sa true)) (same_octets-refl name)
-
-may_from : (x y : Bool) → x ≡ true → y ≡ true → not (not (x && y) || false) ≡ true
-may_from true true is is' = refl
-may_from true false is is' = cc
-may_from false y is is' = cc
-
-above : (n : ℕ) → 0 < n → nat_lt (highest before name) n ≡ true
-above n least = let less : highest before name < n = omega (arith, none, least) in lt-ltb (highest before name) n less
-
-first_goes : may_go (at (two ∷ []) (with_sa true)) (client_frame client) ≡ true
-first_goes = may_from _ _ (above 1 (omega arith)) (ap (λ (same : Bool). nat_le 1 (if same then max 2 0 else 0)) (same_octets-refl name))
+first_goes : may_go (at (two ∷ []) sending) (client_frame client) ≡ true
+first_goes = may_send (at (two ∷ []) sending) client 1 refl
+    (is_within before name 1 2 (omega (arith, none)) (omega arith))
 
 second_goes : may_go (at (two ∷ []) after_one) (client_frame client) ≡ true
-second_goes = may_from _ _ (above 2 (omega arith)) (ap (λ (same : Bool). nat_le 2 (if same then max 2 0 else 0)) (same_octets-refl name))
-
-free : highest before name < 1
-free = omega (arith, none)
-
-last : sealed_from (at (two ∷ []) after_one) (frame ∷ []) ≡ second_use ∷ []
-last = ap (λ us. us ++ []) (frame_seals (at (two ∷ []) after_one) client second_goes)
+second_goes = may_send (at (two ∷ []) after_one) client 2 refl
+    (is_within before name 2 2 (omega (arith, none)) (omega arith))
 
 seals : sealed_from (at [] (start xpn_a)) run.inputs ≡ first_use ∷ second_use ∷ []
 seals =
-    next_seals (at [] (start xpn_a)) (at [] with_key) (command (Key (new_key [] 1))) (command (TxSa 0 0 1 false) ∷ command (TxOn 0) ∷ now_durable two ∷ frame ∷ frame ∷ []) [] (first_use ∷ second_use ∷ [])
-    (command_seals (at [] (start xpn_a)) (Key (new_key [] 1))) (command_step (at [] (start xpn_a)) (Key (new_key [] 1)) refl)
-    (next_seals (at [] with_key) (at [] (with_sa false)) (command (TxSa 0 0 1 false)) (command (TxOn 0) ∷ now_durable two ∷ frame ∷ frame ∷ []) [] (first_use ∷ second_use ∷ [])
-    (command_seals (at [] with_key) (TxSa 0 0 1 false)) (command_step (at [] with_key) (TxSa 0 0 1 false) (is_new before name 1 free))
-    (next_seals (at [] (with_sa false)) (at [] (with_sa true)) (command (TxOn 0)) (now_durable two ∷ frame ∷ frame ∷ []) [] (first_use ∷ second_use ∷ [])
-    (command_seals (at [] (with_sa false)) (TxOn 0)) (command_step (at [] (with_sa false)) (TxOn 0) refl)
-    (next_seals (at [] (with_sa true)) (at (two ∷ []) (with_sa true)) (now_durable two) (frame ∷ frame ∷ []) [] (first_use ∷ second_use ∷ []) refl reserved
-    (next_seals (at (two ∷ []) (with_sa true)) (at (two ∷ []) after_one) frame (frame ∷ []) (first_use ∷ []) (second_use ∷ [])
-    (frame_seals (at (two ∷ []) (with_sa true)) client first_goes) (frame_step (at (two ∷ []) (with_sa true)) client first_goes)
-    last))))
+    commands_seal commands (at [] (start xpn_a)) (now_durable two ∷ frame ∷ frame ∷ [])
+    (refl, (is_new before name 1 (omega (arith, none)), (refl, tt))) refl
+    (next_seals (at [] sending) (now_durable two) (frame ∷ frame ∷ []) refl
+    (ap (λ (r : Reservation). at (r ∷ []) sending) (raised_alone name 2))
+    (next_seals (at (two ∷ []) sending) frame (frame ∷ []) (frame_seals (at (two ∷ []) sending) client first_goes)
+    (frame_step (at (two ∷ []) sending) client first_goes)
+    (ap (λ us. us ++ []) (frame_seals (at (two ∷ []) after_one) client second_goes))))
 
 abbrev runs : List Run
 runs = run ∷ []

@@ -1,10 +1,10 @@
--- Runs with extended packet numbers that meet all premises of order and once but one, and in which B delivers a client frame
--- that A never sent with that packet number: B has another own SSCI in its second run, or another salt, and receives the
--- frame that it sent in its first one; the key has another salt at B, under which the frame has the IV of another packet
--- number; or the salt has no octets at both ends, which are not sound, so that all packet numbers have one IV.
-use Rattle.std.proofs.Common.{◌≡◌, ◌≢◌, ℕ, zero, suc, ◌<◌, ◌≤◌, ◌+◌, Bool, true, false, List, [], ◌∷◌, ◌++◌, map, take, refl, ap, sym, subst, ◌∙◌, arith, Contains, All, AllPairs, length}
-use Rattle.std.specs.Prelude.{◌^◌, ◌*◌, ◌||◌, ◌&&◌, not, nat_le, max, replicate, slice_get, if◌then◌else◌, Some, None, IfSome, Option}
-use Rattle.std.proofs.lemmas.Bool.{lt-ltb}
+-- Runs with extended packet numbers that meet all premises of order and once but one, and in which B delivers a client
+-- frame that A never sent with that packet number: B has another own SSCI in its second run, or another salt, and
+-- receives the frame that it sent in its first one; the key has another salt at B, under which the frame has the IV of
+-- another packet number; or the salt has no octets at both ends, which are not sound, so that all packet numbers have
+-- one IV.
+use Rattle.std.proofs.Common.{◌≡◌, ◌≢◌, ℕ, zero, suc, ◌<◌, ◌+◌, Bool, true, false, List, [], ◌∷◌, ◌++◌, map, take, refl, ap, sym, subst, ◌∙◌, arith, Contains, All, AllPairs, length}
+use Rattle.std.specs.Prelude.{◌^◌, ◌*◌, replicate, slice_get, if◌then◌else◌, Some, None, IfSome, Option}
 use Rattle.std.proofs.lemmas.List.Elements.{All-append, All-nil, All-cons}
 use Rattle.macsec_aes.specs.Aes.{add_round_key, added_word, aes, after_rounds, key_expansion, key_words, mix_columns, rot_word, round_key, shift_rows}
 use Rattle.macsec_aes.specs.Aes.{sub_bytes, sub_word, sum_of_words}
@@ -18,50 +18,50 @@ use Rattle.macsec_suite.specs.CipherUses.{CipherUse, cipher_use}
 use Rattle.macsec_suite.specs.KeyRows.{AreKeyRows, InstalledKey, keys_replacing}
 use Rattle.macsec_suite.specs.Suites.{is_xpn, iv_of}
 use Rattle.macsec_suite.specs.declared.suite.Suite.TheVariants.{Xpn128}
-use Rattle.macsec_commands.specs.Scis.{IsSci}
 use Rattle.macsec_commands.specs.declared.command.Command.TheVariants.{Key, RxOn, RxSa, RxSc, TxOn, TxSa, RxDel, Retire}
 use Rattle.macsec_commands.specs.declared.config.EndConfig.{EndConfig}
 use Rattle.macsec_commands.specs.declared.event.End.TheVariants.{A, B}
 use Rattle.macsec_commands.specs.declared.form.TagForm.TheVariants as form
-use Rattle.macsec_tx.specs.Rows.{AreTxRows}
 use Rattle.macsec_tx.specs.Transmit.{tag_sent, use_sent}
 use Rattle.macsec_tx.specs.declared.TxOptions.{TxOptions}
 use Rattle.macsec_tx.specs.declared.TxRow.{TxRow}
 use Rattle.macsec_rx.specs.declared.RxRow.{RxRow}
 use Rattle.macsec_rx.specs.declared.Verdict.TheVariants.{Passed}
 use Rattle.macsec_rx.specs.Judge.{Judgement, at_row, judge_opened}
-use Rattle.macsec_rx.specs.Rows.{AreChannels}
+use Rattle.macsec_rx.specs.Rows.{IsRxRow}
 use Rattle.macsec_secy.specs.Commands.{effect, refusal, unless_refused}
 use Rattle.macsec_secy.specs.Reception.{judgement_of, state_after_receiving}
 use Rattle.macsec_secy.specs.Sound.{IsSound, IsReady}
 use Rattle.macsec_secy.specs.State.{State, no_tx_counters, rx_options, start, tx_options}
 use Rattle.macsec_secy.specs.Step.{client_frame, frame_fault, link_frame, sending_of, step, operator_command}
-use Rattle.macsec_secy.proofs.StaysSound.{after_client_frame, after_effect, at_start}
+use Rattle.macsec_secy.proofs.StaysSound.{after_effect}
 use Rattle.macsec_link.specs.Genuine.{use_opened}
 use Rattle.macsec_link.specs.Origin.{IsSubsequence}
 use Rattle.macsec_reserve.specs.declared.reservation.Reservation.{Reservation}
 use Rattle.macsec_reserve.specs.Histories.{Run, StaysSound, closing, opening, sealed_in_all, AgreeOnKey, AgreeOnKeys}
 use Rattle.macsec_reserve.specs.Journal.{highest, sending_name, receiving_name}
-use Rattle.macsec_reserve.specs.Keeping.{Keeping, KeepingInput, endpoint_input, keeping_after, keeping_step, may_go, now_durable, KeepingOutput}
+use Rattle.macsec_reserve.specs.Keeping.{Keeping, KeepingInput, endpoint_input, keeping_step, may_go, now_durable, KeepingOutput}
 use Rattle.macsec_reserve.proofs.HighestOf.{highest_of_one}
-use Rattle.macsec_reserve.proofs.Written.{same_octets-refl}
 use Rattle.macsec_counterexamples.proofs.Link.Exchange.{client}
 use Rattle.macsec_counterexamples.proofs.Link.SealedFrames.{Sealed, aad_sent, frame_with, items, opens, parts_with, sealed, tag_of, with_tag}
 use Rattle.macsec_counterexamples.proofs.Link.TracedSteps.{genuine_at}
 use Rattle.macsec_counterexamples.proofs.Link.WorkedEnds.{bytes, installed_key, new_key, no_salt, only, rx_from, sci_a, sci_b, tx_from}
-use Rattle.macsec_counterexamples.proofs.Restarts.Goes.{command, command_step, frame_step, is_new, link_step}
+use Rattle.macsec_counterexamples.proofs.Restarts.Goes.{AreNew, carried_step, command, command_step, commands_end, commands_stay, frame_step, is_new, is_within, may_send, raised_alone, sound_end, sound_next}
+use Rattle.macsec_counterexamples.proofs.Restarts.Tables.{after_commands, all_fit, are_small, begins_sound, begins_well, commands_sound, first_carried, first_sound as sound_first, none_refused, sent_sound, small, tables_fit}
+use Rattle.std.proofs.Common.{append-nil, append_assoc}
+use Rattle.macsec_restarts.specs.Happenings.{Happening, begins}
+use Rattle.macsec_restarts.specs.Kept.{last_of}
 use Rattle.macsec_counterexamples.proofs.Restarts.Journals.{journal, salt}
-use Rattle.macsec_counterexamples.proofs.Restarts.Receivers.{channels_are, name_of}
-use Rattle.macsec_counterexamples.proofs.Restarts.Senders.{kept, none_are, other_sci, own_sci, row_at}
-use Rattle.macsec_restarts.specs.Delivered.{Delivery, delivered_at, delivered_by, delivered_from, delivered_in_all, newly_delivered}
+use Rattle.macsec_counterexamples.proofs.Restarts.Receivers.{name_of}
+use Rattle.macsec_counterexamples.proofs.Restarts.Senders.{kept, row_at}
+use Rattle.macsec_restarts.specs.Delivered.{Delivery, delivered_at, delivered_in_all, newly_delivered}
 use Rattle.macsec_restarts.specs.Order.{SavedIn, HasStrictOrder, numbered_delivery, numbered_sent}
-use Rattle.macsec_restarts.specs.Sent.{SentIn, newly_sent, sent_by, sent_from, sent_under}
-use Rattle.macsec_restarts.proofs.Examples.Blocks.{AreOwn, AreSteps, EndRun, after_own, blocks, no_step, step_next}
+use Rattle.macsec_restarts.specs.Sent.{SentIn, newly_sent, sent_by, sent_under}
+use Rattle.macsec_restarts.proofs.Examples.Blocks.{AreOwn, AreSteps, Does, EndRun, after_own, blocks, commands_do, commands_steps, does_end, does_next, first_link, gives_by, is_strict, link_step_by, no_step, heard_by, step_next}
 use Rattle.macsec_restarts.proofs.Examples.Histories.{MeetsAll, meets_all, nothing_saved, one_run_each, refuted, seals_are}
 use Rattle.macsec_restarts.proofs.Examples.NotSent.{names_differ, not_of_none, two_runs_of_b}
 use Rattle.macsec_restarts.proofs.Examples.Premises.{AgreeAtBothBut, AgreeOnKeyBut, ArePeersBut, HasOneSalt, HasOneSuite, HasStrictOrderBut, KeepsSalt, KeepsSsci, KeepsSuite, LawWithout, NoPremise, Premise, StaysSoundAlways}
-use Rattle.macsec_restarts.proofs.Examples.Receivers.{heard_sound, tables}
-use Rattle.macsec_restarts.proofs.Examples.Tags.{are_small, small, small_at, tag_is}
+use Rattle.macsec_restarts.proofs.Examples.Tags.{small_at, tag_is}
 use Rattle.macsec_restarts.proofs.Examples.TwoRunsEach.{is_durable, is_free, none_is, reads, reserved_2, reserved_is}
 use Rattle.macsec_commands.specs.declared.command.Command.{Command}
 use Rattle.macsec_reserve.specs.Forgetting.{forgetting_step, fingerprint, forgetting}
@@ -83,7 +83,6 @@ use Rattle.macsec_restarts.specs.Happenings.{AtEach, comes_in}
 use Rattle.macsec_restarts.specs.Kept.{ArePeerRuns, IsFair, IsFairHere, IsGenuineFrom, IsSoundWith, KeepsDelivered, KeepsSent, RunWith, closing_of, delivered_of_all, inside_of, runs_at, sent_of_all}
 use Rattle.macsec_restarts.specs.Peers.{IsSameEnd}
 use Rattle.macsec_restarts.proofs.Examples.InsideBlocks.{goes_on}
-use Rattle.macsec_restarts.proofs.Pushed.{run_with}
 use Rattle.macsec_aes.specs.declared.Key.TheVariants.{K128}
 use Rattle.macsec_suite.specs.declared.refusal.Refusal.{Refusal}
 
@@ -93,35 +92,6 @@ config_of sci = record { suite = Xpn128; sci = sci; max_frame = 1518; form = for
 
 abbrev key_at : List ℕ → ℕ → ℕ → InstalledKey
 key_at key_salt ssci unused = installed_key Xpn128 key_salt ssci unused
-
-key_is : (ssci n : ℕ) → ssci < 2 ^ 32 → 1 ≤ n → n ≤ 2 ^ 64 → AreKeyRows (key_at no_salt ssci n ∷ [])
-key_is ssci n fits least most = (record { number = omega arith; bytes = refl; salt = refl; ssci = fits; first_unused_least = least; first_unused = most }, refl, tt)
-
--- ---- how a run goes, and that it is sound
-
-record Does (k : Keeping) (inputs : List KeepingInput) (xs : List SentIn) (ds : List Delivery) (last : Keeping) : Type 0 where
-  sends : sent_from k inputs ≡ xs
-  delivers : delivered_from k inputs ≡ ds
-  ends : keeping_after k inputs ≡ last
-
-does_end : (k : Keeping) → Does k [] [] [] k
-does_end k = record { sends = refl; delivers = refl; ends = refl }
-
-does_next : (k after last : Keeping) (input : KeepingInput) (inputs : List KeepingInput) (now sends : List SentIn) (new ds : List Delivery) →
-    newly_sent k input ≡ now → newly_delivered k input ≡ new → (keeping_step k input).1 ≡ after → Does after inputs sends ds last → Does k (input ∷ inputs) (now ++ sends) (new ++ ds) last
-does_next k after last input inputs now sends new ds is_now is_new is_after rest = record {
-  sends = ap (λ xs. xs ++ sent_from (keeping_step k input).1 inputs) is_now ∙ ap (λ k'. now ++ sent_from k' inputs) is_after ∙ ap (λ xs. now ++ xs) rest.sends;
-  delivers = ap (λ xs. xs ++ delivered_from (keeping_step k input).1 inputs) is_new ∙ ap (λ k'. new ++ delivered_from k' inputs) is_after ∙ ap (λ xs. new ++ xs) rest.delivers;
-  ends = ap (λ k'. keeping_after k' inputs) is_after ∙ rest.ends;
-}
-
-sound_end : (k : Keeping) → IsSound k.secy → StaysSound k []
-sound_end k sound zero = sound
-sound_end k sound (suc n) = sound
-
-sound_next : (k after : Keeping) (input : KeepingInput) (inputs : List KeepingInput) → IsSound k.secy → (keeping_step k input).1 ≡ after → StaysSound after inputs → StaysSound k (input ∷ inputs)
-sound_next k after input inputs sound is_after rest zero = sound
-sound_next k after input inputs sound is_after rest (suc n) = subst (λ (k' : Keeping). IsSound (keeping_after k' (take n inputs)).secy) (sym is_after) (rest n)
 
 -- ---- the frame, with packet number 1: under a key with a salt, or with one of no octets
 
@@ -143,7 +113,8 @@ abbrev aad : List ℕ
 aad = aad_sent options (key_at no_salt 1 1) (tx_from 1) (client 1)
 
 abbrev use_by : Salt → Sealed → CipherUse
-use_by s it = cipher_use (key_at (of_salt s) 1 1) (iv s) (parts_with (tag_sent options (tx_from 1) (client 1)) (client 1) it)
+use_by s it = cipher_use (key_at (of_salt s) 1 1) (iv s)
+    (parts_with (tag_sent options (tx_from 1) (client 1)) (client 1) it)
 
 abbrev icv : Salt → List ℕ
 icv s = tag_of bytes (iv s) aad
@@ -159,7 +130,8 @@ opens_it s = opens bytes (iv s) aad
 
 -- it is octets
 block : (s : Salt) → are_small (aes bytes (pre_counter_block (iv s))) ≡ true
-unfolding sum_with_stream pre_counter_block aes after_rounds add_round_key round_key mix_columns shift_rows sub_bytes key_expansion key_words added_word sum_of_words sub_word rot_word
+unfolding sum_with_stream pre_counter_block aes after_rounds add_round_key round_key mix_columns shift_rows sub_bytes
+    key_expansion key_words added_word sum_of_words sub_word rot_word
     s_box affine_transformation inverse byte_product remainder polynomial_product sum_below
 block Zeros = refl
 block Empty = refl
@@ -170,7 +142,8 @@ front = take 22 (frame_of [])
 octets : (s : Salt) → AreOctets (frame_of (icv s))
 octets s =
     All-append (λ x. x < 256) front (items 16 (icv s)) (small front refl)
-    (subst AreOctets (ap (λ (it : Sealed). it.1) (sealed bytes (iv s) aad)) (tag_is bytes (iv s) aad (small_at (aes bytes (pre_counter_block (iv s))) (block s))))
+    (subst AreOctets (ap (λ (it : Sealed). it.1) (sealed bytes (iv s) aad))
+    (tag_is bytes (iv s) aad (small_at (aes bytes (pre_counter_block (iv s))) (block s))))
 
 -- ---- the run that sends it, at either end
 
@@ -186,8 +159,11 @@ on_in = command (TxOn 0)
 abbrev pub report_in : KeepingInput
 report_in = now_durable reserved_2
 
+abbrev tx_set_up : Salt → List Command
+tx_set_up s = Key (new_key (of_salt s) 1) ∷ TxSa 0 0 1 false ∷ TxOn 0 ∷ []
+
 abbrev sends : Salt → List KeepingInput
-sends s = command (Key (new_key (of_salt s) 1)) ∷ sa_in ∷ on_in ∷ report_in ∷ frame_in ∷ []
+sends s = map command (tx_set_up s) ++ report_in ∷ frame_in ∷ []
 
 abbrev tx_state : Salt → Sci → ℕ → List TxRow → ℕ → State
 tx_state s sci unused rows count = record (start (config_of sci)) {
@@ -198,14 +174,6 @@ tx_state s sci unused rows count = record (start (config_of sci)) {
 
 abbrev sent_1 : Salt → SentIn
 sent_1 s = record { seal = use_of s; number = 1; frame = client 1 }
-
-pub row_is : (next : ℕ) (on : Bool) → 1 ≤ next → next ≤ 2 ^ 64 → AreTxRows (row_at next on ∷ [])
-row_is next on least most = (record { an = omega arith; key = omega arith; next_least = least; next = most }, refl, tt)
-
-pub may_from : (x y : Bool) → x ≡ true → y ≡ true → not (not (x && y) || false) ≡ true
-may_from true true is is' = refl
-may_from true false is is' = cc
-may_from false y is is' = cc
 
 abbrev pub tx_name : List ℕ
 tx_name = sending_name (salt false) bytes
@@ -220,11 +188,8 @@ module _ (sci : Sci) where
   abbrev k_begun : Keeping
   k_begun = tx_at [] (start (config_of sci))
 
-  abbrev k_key : Salt → Keeping
-  k_key s = tx_at [] (tx_state s sci 1 [] 0)
-
-  abbrev k_sa : Salt → Bool → Keeping
-  k_sa s on = tx_at [] (tx_state s sci 1 (row_at 1 on ∷ []) 0)
+  abbrev k_on : Salt → Keeping
+  k_on s = tx_at [] (tx_state s sci 1 (row_at 1 true ∷ []) 0)
 
   abbrev k_reserved : Salt → Keeping
   k_reserved s = tx_at (reserved_2 ∷ []) (tx_state s sci 1 (row_at 1 true ∷ []) 0)
@@ -232,76 +197,58 @@ module _ (sci : Sci) where
   abbrev k_sent : Salt → Keeping
   k_sent s = tx_at (reserved_2 ∷ []) (tx_state s sci 2 (row_at 2 true ∷ []) 1)
 
-  seals : (s : Salt) → use_sent (tx_options (start (config_of sci))) (key_at (of_salt s) 1 1) (row_at 1 true) (client 1) ≡ use_of s
+  seals : (s : Salt) → use_sent (tx_options (start (config_of sci))) (key_at (of_salt s) 1 1) (row_at 1 true)
+      (client 1) ≡ use_of s
   seals s = ap (use_by s) (sealed bytes (iv s) aad)
 
-  installs : (s : Salt) → (keeping_step k_begun (command (Key (new_key (of_salt s) 1)))).1 ≡ k_key s
-  installs Zeros = command_step k_begun (Key (new_key no_salt 1)) refl
-  installs Empty = command_step k_begun (Key (new_key [] 1)) refl
+  tx_new : (s : Salt) → AreNew k_begun (tx_set_up s)
+  tx_new s = (refl, (is_new (reads []) tx_name 1 name_free, (refl, tt)))
 
-  makes : (s : Salt) → (keeping_step (k_key s) sa_in).1 ≡ k_sa s false
-  makes Zeros = command_step (k_key Zeros) (TxSa 0 0 1 false) (is_new (reads []) tx_name 1 name_free)
-  makes Empty = command_step (k_key Empty) (TxSa 0 0 1 false) (is_new (reads []) tx_name 1 name_free)
+  tx_none : (s : Salt) → none_refused (start (config_of sci)) (tx_set_up s) ≡ true
+  tx_none Zeros = refl
+  tx_none Empty = refl
 
-  turns_on : (s : Salt) → (keeping_step (k_sa s false) on_in).1 ≡ k_sa s true
-  turns_on Zeros = command_step (k_sa Zeros false) (TxOn 0) refl
-  turns_on Empty = command_step (k_sa Empty false) (TxOn 0) refl
-
-  reserves : (s : Salt) → (keeping_step (k_sa s true) report_in).1 ≡ k_reserved s
-  reserves s =
-      ap (λ (same : Bool). tx_at ((if same then record { name = tx_name; last = max 0 2 } else record { name = tx_name; last = 0 }) ∷ []) (tx_state s sci 1 (row_at 1 true ∷ []) 0)) (same_octets-refl tx_name)
+  reserves : (s : Salt) → (keeping_step (k_on s) report_in).1 ≡ k_reserved s
+  reserves s = ap (λ (r : Reservation). tx_at (r ∷ []) (tx_state s sci 1 (row_at 1 true ∷ []) 0))
+      (raised_alone tx_name 2)
 
   goes : (s : Salt) → may_go (k_reserved s) (client_frame (client 1)) ≡ true
-  goes s = may_from _ _ (lt-ltb (highest (reads []) tx_name) 1 name_free) (ap (λ (same : Bool). nat_le 1 (if same then max 2 0 else 0)) (same_octets-refl tx_name))
+  goes s = may_send (k_reserved s) (client 1) 1 refl (is_within (reads []) tx_name 1 2 name_free (omega arith))
 
   lists : (s : Salt) → newly_sent (k_reserved s) frame_in ≡ sent_1 s ∷ []
   lists s =
-      ap (λ (b : Bool). if b then sent_by (k_reserved s).secy (client 1) (frame_fault (client 1)) (sending_of (k_reserved s).secy (client 1)).by else []) (goes s)
+      ap (λ (b : Bool). if b then sent_by (k_reserved s).secy (client 1) (frame_fault (client 1))
+      (sending_of (k_reserved s).secy (client 1)).by else []) (goes s)
       ∙ ap (λ (seal : CipherUse). record { seal = seal; number = 1; frame = client 1 } ∷ []) (seals s)
 
   sender_does : (s : Salt) → Does k_begun (sends s) (sent_1 s ∷ []) [] (k_sent s)
   sender_does s =
-      does_next k_begun (k_key s) (k_sent s) (command (Key (new_key (of_salt s) 1))) (sa_in ∷ on_in ∷ report_in ∷ frame_in ∷ []) [] (sent_1 s ∷ []) [] [] refl refl (installs s)
-      (does_next (k_key s) (k_sa s false) (k_sent s) sa_in (on_in ∷ report_in ∷ frame_in ∷ []) [] (sent_1 s ∷ []) [] [] refl refl (makes s)
-      (does_next (k_sa s false) (k_sa s true) (k_sent s) on_in (report_in ∷ frame_in ∷ []) [] (sent_1 s ∷ []) [] [] refl refl (turns_on s)
-      (does_next (k_sa s true) (k_reserved s) (k_sent s) report_in (frame_in ∷ []) [] (sent_1 s ∷ []) [] [] refl refl (reserves s)
-      (does_next (k_reserved s) (k_sent s) (k_sent s) frame_in [] (sent_1 s ∷ []) [] [] [] (lists s) refl (frame_step (k_reserved s) (client 1) (goes s)) (does_end (k_sent s))))))
+      commands_do (tx_set_up s) (tx_new s) (tx_none s)
+      (does_next refl refl (reserves s) (does_next (lists s) refl
+      (frame_step (k_reserved s) (client 1) (goes s)) does_end))
 
-  module _ (is_sci : IsSci sci) where
-    start_sound : IsSound (start (config_of sci))
-    start_sound = at_start (config_of sci) refl is_sci (record { keys = tt; tx = tt; rx = none_are })
-
-    key_sound : IsSound (tx_state Zeros sci 1 [] 0)
-    key_sound = after_effect (start (config_of sci)) (Key (new_key no_salt 1)) refl (record { keys = key_is 1 1 (omega arith) (omega arith) (omega arith); tx = tt; rx = none_are }) start_sound
-
-    sa_sound : IsSound (tx_state Zeros sci 1 (row_at 1 false ∷ []) 0)
-    sa_sound =
-        after_effect (tx_state Zeros sci 1 [] 0) (TxSa 0 0 1 false) refl
-        (record { keys = key_is 1 1 (omega arith) (omega arith) (omega arith); tx = row_is 1 false (omega arith) (omega arith); rx = none_are }) key_sound
+  module _ (well : begins_well (config_of sci) ≡ true) where
+    first_sound : IsSound (start (config_of sci))
+    first_sound = begins_sound (config_of sci) well
 
     on_sound : IsSound (tx_state Zeros sci 1 (row_at 1 true ∷ []) 0)
-    on_sound =
-        after_effect (tx_state Zeros sci 1 (row_at 1 false ∷ []) 0) (TxOn 0) refl
-        (record { keys = key_is 1 1 (omega arith) (omega arith) (omega arith); tx = row_is 1 true (omega arith) (omega arith); rx = none_are }) sa_sound
+    on_sound = commands_sound (tx_set_up Zeros) refl refl first_sound
 
-    sent_sound : IsSound (tx_state Zeros sci 2 (row_at 2 true ∷ []) 1)
-    sent_sound =
-        after_client_frame (tx_state Zeros sci 1 (row_at 1 true ∷ []) 0) (client 1)
-        (record { keys = key_is 1 2 (omega arith) (omega arith) (omega arith); tx = row_is 2 true (omega arith) (omega arith); rx = none_are }) on_sound
+    last_sound_a : IsSound (tx_state Zeros sci 2 (row_at 2 true ∷ []) 1)
+    last_sound_a = sent_sound (client 1) refl refl on_sound
 
     sender_sound : StaysSound k_begun (sends Zeros)
     sender_sound =
-        sound_next k_begun (k_key Zeros) (command (Key (new_key no_salt 1))) (sa_in ∷ on_in ∷ report_in ∷ frame_in ∷ []) start_sound (installs Zeros)
-        (sound_next (k_key Zeros) (k_sa Zeros false) sa_in (on_in ∷ report_in ∷ frame_in ∷ []) key_sound (makes Zeros)
-        (sound_next (k_sa Zeros false) (k_sa Zeros true) on_in (report_in ∷ frame_in ∷ []) sa_sound (turns_on Zeros)
-        (sound_next (k_sa Zeros true) (k_reserved Zeros) report_in (frame_in ∷ []) on_sound (reserves Zeros)
-        (sound_next (k_reserved Zeros) (k_sent Zeros) frame_in [] on_sound (frame_step (k_reserved Zeros) (client 1) (goes Zeros)) (sound_end (k_sent Zeros) sent_sound)))))
+        commands_stay (tx_set_up Zeros) k_begun (report_in ∷ frame_in ∷ []) (tx_new Zeros) refl refl first_sound
+        (sound_next (k_on Zeros) report_in (frame_in ∷ []) on_sound (reserves Zeros)
+        (sound_next (k_reserved Zeros) frame_in [] on_sound (frame_step (k_reserved Zeros) (client 1) (goes Zeros))
+        (sound_end (k_sent Zeros) last_sound_a)))
 
 abbrev run_s : Salt → Sci → Run
 run_s s sci = record { journal = journal false []; config = config_of sci; inputs = sends s }
 
--- ---- B receives it: with the same salt, from packet number 1 on; from 2^32 on, with a salt that flips the lowest bit of the
--- upper half, or with one of no octets; or with a salt under which A's SSCI gives the IV of B's own
+-- ---- B receives it: with the same salt, from packet number 1 on; from 2^32 on, with a salt that flips the lowest bit of
+-- the upper half, or with one of no octets; or with a salt under which A's SSCI gives the IV of B's own
 
 pub data Receiver : Type 0 where
   Same : Receiver
@@ -346,32 +293,15 @@ peer_ssci r = 1
 abbrev rx_key : Receiver → InstalledKey
 rx_key r = key_at (salt_of_key r) (own_ssci r) 1
 
-abbrev with_key : Receiver → State
-with_key r = effect (start (config_of sci_b)) (Key (new_key (salt_of_key r) (own_ssci r)))
-
-abbrev with_sc : Receiver → State
-with_sc r = effect (with_key r) (RxSc sci_a)
-
-abbrev with_sa : Receiver → State
-with_sa r = effect (with_sc r) (RxSa sci_a 0 0 (peer_ssci r) (lowest_of r))
+abbrev set_up : Receiver → List Command
+set_up r = Key (new_key (salt_of_key r) (own_ssci r)) ∷ RxSc sci_a ∷ RxSa sci_a 0 0 (peer_ssci r) (lowest_of r)
+    ∷ RxOn sci_a 0 ∷ []
 
 abbrev ready : Receiver → State
-ready r = effect (with_sa r) (RxOn sci_a 0)
-
-abbrev key_in : Receiver → KeepingInput
-key_in r = command (Key (new_key (salt_of_key r) (own_ssci r)))
-
-abbrev sc_in : KeepingInput
-sc_in = command (RxSc sci_a)
-
-abbrev rx_sa_in : Receiver → KeepingInput
-rx_sa_in r = command (RxSa sci_a 0 0 (peer_ssci r) (lowest_of r))
-
-abbrev rx_on_in : KeepingInput
-rx_on_in = command (RxOn sci_a 0)
+ready r = after_commands (start (config_of sci_b)) (set_up r)
 
 abbrev commands : Receiver → List KeepingInput
-commands r = key_in r ∷ sc_in ∷ rx_sa_in r ∷ rx_on_in ∷ []
+commands r = map command (set_up r)
 
 abbrev f : Receiver → List ℕ
 f r = frame_of (icv (sender_salt r))
@@ -392,23 +322,29 @@ iv_is Salted = refl
 iv_is Unsalted = refl
 iv_is Turned = refl
 
-opens_as : (r : Receiver) → open_of bytes (iv_of Xpn128 sci_a (peer_ssci r) (salt_of_key r) (number_of r)) aad [] (items 16 (icv (sender_salt r))) ≡ Some []
-opens_as r = ap (λ (i : List ℕ). open_of bytes i aad [] (items 16 (icv (sender_salt r)))) (iv_is r) ∙ opens_it (sender_salt r)
+opens_as : (r : Receiver) → open_of bytes (iv_of Xpn128 sci_a (peer_ssci r) (salt_of_key r) (number_of r)) aad []
+    (items 16 (icv (sender_salt r))) ≡ Some []
+opens_as r = ap (λ (i : List ℕ). open_of bytes i aad [] (items 16 (icv (sender_salt r)))) (iv_is r)
+    ∙ opens_it (sender_salt r)
 
 judged : (r : Receiver) → judgement_of (ready r) (f r) ≡ accepts r
-judged Same = ap (judge_opened (rx_options (ready Same)) (rx_key Same) (rx_from 1) 1 (parts_at (f Same))) (opens_as Same)
-judged Salted = ap (judge_opened (rx_options (ready Salted)) (rx_key Salted) (rx_from (2 ^ 32)) (2 ^ 32 + 1) (parts_at (f Salted))) (opens_as Salted)
-judged Unsalted = ap (judge_opened (rx_options (ready Unsalted)) (rx_key Unsalted) (rx_from (2 ^ 32)) (2 ^ 32 + 1) (parts_at (f Unsalted))) (opens_as Unsalted)
-judged Turned = ap (judge_opened (rx_options (ready Turned)) (rx_key Turned) (row_from Turned) 1 (parts_at (f Turned))) (opens_as Turned)
+judged Same = ap (judge_opened (rx_options (ready Same)) (rx_key Same) (rx_from 1) 1 (parts_at (f Same)))
+    (opens_as Same)
+judged Salted = ap (judge_opened (rx_options (ready Salted)) (rx_key Salted) (rx_from (2 ^ 32)) (2 ^ 32 + 1)
+    (parts_at (f Salted))) (opens_as Salted)
+judged Unsalted = ap (judge_opened (rx_options (ready Unsalted)) (rx_key Unsalted) (rx_from (2 ^ 32)) (2 ^ 32 + 1)
+    (parts_at (f Unsalted))) (opens_as Unsalted)
+judged Turned = ap (judge_opened (rx_options (ready Turned)) (rx_key Turned) (row_from Turned) 1 (parts_at (f Turned)))
+    (opens_as Turned)
+
+whole : (r : Receiver) → frame_fault (f r) ≡ None
+whole Same = refl
+whole Salted = refl
+whole Unsalted = refl
+whole Turned = refl
 
 abbrev heard : Receiver → State
 heard r = state_after_receiving (ready r) (f r) (accepts r)
-
-is_heard : (r : Receiver) → (step (ready r) (link_frame (f r))).1 ≡ heard r
-is_heard Same = ap (λ (j : Judgement). state_after_receiving (ready Same) (f Same) j) (judged Same)
-is_heard Salted = ap (λ (j : Judgement). state_after_receiving (ready Salted) (f Salted) j) (judged Salted)
-is_heard Unsalted = ap (λ (j : Judgement). state_after_receiving (ready Unsalted) (f Unsalted) j) (judged Unsalted)
-is_heard Turned = ap (λ (j : Judgement). state_after_receiving (ready Turned) (f Turned) j) (judged Turned)
 
 abbrev delivery : Receiver → Delivery
 delivery r = record { bytes = bytes; sci = sci_a; an = 0; number = number_of r; frame = client 1 }
@@ -417,158 +353,99 @@ module _ (before : List Reservation) (free : highest (reads before) (name_of (sa
   abbrev at : State → Keeping
   at s = kept (salt false) (reads before) [] s
 
-  keyed : (r : Receiver) → (keeping_step (at (start (config_of sci_b))) (key_in r)).1 ≡ at (with_key r)
-  keyed Same = command_step (at (start (config_of sci_b))) (Key (new_key no_salt 2)) refl
-  keyed Salted = command_step (at (start (config_of sci_b))) (Key (new_key (salt_of_key Salted) 2)) refl
-  keyed Unsalted = command_step (at (start (config_of sci_b))) (Key (new_key [] 2)) refl
-  keyed Turned = command_step (at (start (config_of sci_b))) (Key (new_key (salt_of_key Turned) 1)) refl
+  are_new : (r : Receiver) → AreNew (at (start (config_of sci_b))) (set_up r)
+  are_new Same = (refl, (refl, (is_new (reads before) (name_of (salt false)) 1 free, (refl, tt))))
+  are_new Salted = (refl, (refl, (is_new (reads before) (name_of (salt false)) (2 ^ 32) (omega (arith, free)), (refl, tt))))
+  are_new Unsalted = (refl, (refl, (is_new (reads before) (name_of (salt false)) (2 ^ 32) (omega (arith, free)), (refl, tt))))
+  are_new Turned = (refl, (refl, (is_new (reads before) (name_of (salt false)) 1 free, (refl, tt))))
 
-  channelled : (r : Receiver) → (keeping_step (at (with_key r)) sc_in).1 ≡ at (with_sc r)
-  channelled Same = command_step (at (with_key Same)) (RxSc sci_a) refl
-  channelled Salted = command_step (at (with_key Salted)) (RxSc sci_a) refl
-  channelled Unsalted = command_step (at (with_key Unsalted)) (RxSc sci_a) refl
-  channelled Turned = command_step (at (with_key Turned)) (RxSc sci_a) refl
-
-  creates : (r : Receiver) → (keeping_step (at (with_sc r)) (rx_sa_in r)).1 ≡ at (with_sa r)
-  creates Same = command_step (at (with_sc Same)) (RxSa sci_a 0 0 1 1) (is_new (reads before) (name_of (salt false)) 1 free)
-  creates Salted = command_step (at (with_sc Salted)) (RxSa sci_a 0 0 1 (2 ^ 32)) (is_new (reads before) (name_of (salt false)) (2 ^ 32) (omega (arith, free)))
-  creates Unsalted = command_step (at (with_sc Unsalted)) (RxSa sci_a 0 0 1 (2 ^ 32)) (is_new (reads before) (name_of (salt false)) (2 ^ 32) (omega (arith, free)))
-  creates Turned = command_step (at (with_sc Turned)) (RxSa sci_a 0 0 2 1) (is_new (reads before) (name_of (salt false)) 1 free)
-
-  enables : (r : Receiver) → (keeping_step (at (with_sa r)) rx_on_in).1 ≡ at (ready r)
-  enables Same = command_step (at (with_sa Same)) (RxOn sci_a 0) refl
-  enables Salted = command_step (at (with_sa Salted)) (RxOn sci_a 0) refl
-  enables Unsalted = command_step (at (with_sa Unsalted)) (RxOn sci_a 0) refl
-  enables Turned = command_step (at (with_sa Turned)) (RxOn sci_a 0) refl
+  none : (r : Receiver) → none_refused (start (config_of sci_b)) (set_up r) ≡ true
+  none Same = refl
+  none Salted = refl
+  none Unsalted = refl
+  none Turned = refl
 
   hears : (r : Receiver) → (keeping_step (at (ready r)) (link r)).1 ≡ at (heard r)
-  hears r = link_step (at (ready r)) (f r) ∙ ap at (is_heard r)
+  hears r = link_step_by (at (ready r)) (f r) (accepts r) (whole r) (judged r)
 
   gives : (r : Receiver) → newly_delivered (at (ready r)) (link r) ≡ delivery r ∷ []
-  gives Same = ap (λ (j : Judgement). delivered_by (ready Same) j None j.row j.delivered) (judged Same)
-  gives Salted = ap (λ (j : Judgement). delivered_by (ready Salted) j None j.row j.delivered) (judged Salted)
-  gives Unsalted = ap (λ (j : Judgement). delivered_by (ready Unsalted) j None j.row j.delivered) (judged Unsalted)
-  gives Turned = ap (λ (j : Judgement). delivered_by (ready Turned) j None j.row j.delivered) (judged Turned)
+  gives Same = gives_by (at (ready Same)) (f Same) (accepts Same) refl (judged Same)
+  gives Salted = gives_by (at (ready Salted)) (f Salted) (accepts Salted) refl (judged Salted)
+  gives Unsalted = gives_by (at (ready Unsalted)) (f Unsalted) (accepts Unsalted) refl (judged Unsalted)
+  gives Turned = gives_by (at (ready Turned)) (f Turned) (accepts Turned) refl (judged Turned)
 
-  does_from : (r : Receiver) (inputs : List KeepingInput) (ds : List Delivery) (last : Keeping) → Does (at (ready r)) inputs [] ds last →
-      Does (at (start (config_of sci_b))) (commands r ++ inputs) [] ds last
-  does_from r inputs ds last rest =
-      does_next (at (start (config_of sci_b))) (at (with_key r)) last (key_in r) (sc_in ∷ rx_sa_in r ∷ rx_on_in ∷ inputs) [] [] [] ds refl refl (keyed r)
-      (does_next (at (with_key r)) (at (with_sc r)) last sc_in (rx_sa_in r ∷ rx_on_in ∷ inputs) [] [] [] ds refl refl (channelled r)
-      (does_next (at (with_sc r)) (at (with_sa r)) last (rx_sa_in r) (rx_on_in ∷ inputs) [] [] [] ds refl refl (creates r)
-      (does_next (at (with_sa r)) (at (ready r)) last rx_on_in inputs [] [] [] ds refl refl (enables r) rest)))
+  receiver_does : (r : Receiver) → Does (at (start (config_of sci_b))) (commands r ++ link r ∷ []) [] (delivery r ∷ [])
+      (at (heard r))
+  receiver_does r = commands_do (set_up r) (are_new r) (none r) (does_next refl (gives r) (hears r) does_end)
 
-  receiver_does : (r : Receiver) → Does (at (start (config_of sci_b))) (commands r ++ link r ∷ []) [] (delivery r ∷ []) (at (heard r))
-  receiver_does r =
-      does_from r (link r ∷ []) (delivery r ∷ []) (at (heard r))
-      (does_next (at (ready r)) (at (heard r)) (at (heard r)) (link r) [] [] [] (delivery r ∷ []) [] refl (gives r) (hears r) (does_end (at (heard r))))
-
-  genuine : (r : Receiver) (uses : List CipherUse) → Contains uses (use_of (sender_salt r)) → IfSome (use_opened (ready r) (f r)) (Contains uses)
+  genuine : (r : Receiver) (uses : List CipherUse) → Contains uses (use_of (sender_salt r)) →
+      IfSome (use_opened (ready r) (f r)) (Contains uses)
   genuine Same uses there =
-      genuine_at (ready Same) (f Same) (accepts Same) uses (judged Same) (subst (λ (i : List ℕ). Contains uses (record (use_of Zeros) { iv = i })) (sym (iv_is Same)) there)
+      genuine_at (ready Same) (f Same) (accepts Same) uses (judged Same)
+      (subst (λ (i : List ℕ). Contains uses (record (use_of Zeros) { iv = i })) (sym (iv_is Same)) there)
   genuine Salted uses there =
-      genuine_at (ready Salted) (f Salted) (accepts Salted) uses (judged Salted) (subst (λ (i : List ℕ). Contains uses (record (use_of Zeros) { iv = i })) (sym (iv_is Salted)) there)
+      genuine_at (ready Salted) (f Salted) (accepts Salted) uses (judged Salted)
+      (subst (λ (i : List ℕ). Contains uses (record (use_of Zeros) { iv = i })) (sym (iv_is Salted)) there)
   genuine Unsalted uses there =
-      genuine_at (ready Unsalted) (f Unsalted) (accepts Unsalted) uses (judged Unsalted) (subst (λ (i : List ℕ). Contains uses (record (use_of Empty) { iv = i })) (sym (iv_is Unsalted)) there)
+      genuine_at (ready Unsalted) (f Unsalted) (accepts Unsalted) uses (judged Unsalted)
+      (subst (λ (i : List ℕ). Contains uses (record (use_of Empty) { iv = i })) (sym (iv_is Unsalted)) there)
   genuine Turned uses there =
-      genuine_at (ready Turned) (f Turned) (accepts Turned) uses (judged Turned) (subst (λ (i : List ℕ). Contains uses (record (use_of Zeros) { iv = i })) (sym (iv_is Turned)) there)
+      genuine_at (ready Turned) (f Turned) (accepts Turned) uses (judged Turned)
+      (subst (λ (i : List ℕ). Contains uses (record (use_of Zeros) { iv = i })) (sym (iv_is Turned)) there)
 
   strict : (left_out : Premise) (r : Receiver) → HasStrictOrderBut left_out (ready r)
-  strict left_out Same = record { mode = λ n. refl; replay = λ n. refl; window = λ n. refl }
-  strict left_out Salted = record { mode = λ n. refl; replay = λ n. refl; window = λ n. refl }
-  strict left_out Unsalted = record { mode = λ n. refl; replay = λ n. refl; window = λ n. refl }
-  strict left_out Turned = record { mode = λ n. refl; replay = λ n. refl; window = λ n. refl }
+  strict left_out Same = is_strict refl refl refl
+  strict left_out Salted = is_strict refl refl refl
+  strict left_out Unsalted = is_strict refl refl refl
+  strict left_out Turned = is_strict refl refl refl
 
-  receiver_steps : (left_out : Premise) (r : Receiver) (b : Run) → opening b ≡ at (start (config_of sci_b)) → (uses : List CipherUse) → Contains uses (use_of (sender_salt r)) →
+  receiver_steps : (left_out : Premise) (r : Receiver) (b : Run) → opening b ≡ at (start (config_of sci_b)) →
+      (uses : List CipherUse) → Contains uses (use_of (sender_salt r)) →
       AreSteps left_out bytes sci_a 0 (opening b) [] uses (commands r ++ link r ∷ [])
   receiver_steps left_out r b opened uses there =
-      after_own left_out bytes sci_a 0 (commands r) (link r ∷ []) (opening b) uses (tt, (tt, (tt, (tt, tt))))
-      (subst (λ (k : Keeping). AreSteps left_out bytes sci_a 0 k [] uses (link r ∷ []))
-      (sym (ap (λ (k : Keeping). keeping_after k (commands r)) opened ∙ (does_from r [] [] (at (ready r)) (does_end (at (ready r)))).ends))
-      (step_next left_out bytes sci_a 0 (at (ready r)) (at (heard r)) [] (delivery r ∷ []) uses (link r) []
-      (record {
-        genuine = λ d. genuine r uses there;
-        octets = octets (sender_salt r);
-        order = λ d among. strict left_out r;
-        creates = λ d row there' under fresh. All-nil (λ (d' : Delivery). d'.number < row.next);
-      }) (hears r) (gives r) no_step))
+      subst (λ (k : Keeping). AreSteps left_out bytes sci_a 0 k [] uses (commands r ++ link r ∷ [])) (sym opened)
+      (commands_steps left_out bytes sci_a 0 (set_up r) (are_new r) (none r)
+      (step_next (first_link (λ d. genuine r uses there) (octets (sender_salt r)) (strict left_out r)) (hears r)
+      (gives r) no_step))
 
   -- ---- it is sound, with a salt of 12 octets
 
   abbrev has_salt : Receiver → Bool
-  has_salt Same = true
-  has_salt Salted = true
   has_salt Unsalted = false
-  has_salt Turned = true
+  has_salt r = true
 
   rx_start : IsSound (start (config_of sci_b))
-  rx_start = at_start (config_of sci_b) refl other_sci (record { keys = tt; tx = tt; rx = none_are })
+  rx_start = begins_sound (config_of sci_b) refl
 
-  rx_key_is : (r : Receiver) → has_salt r ≡ true → AreKeyRows (rx_key r ∷ [])
-  rx_key_is Same is = (record { number = omega arith; bytes = refl; salt = refl; ssci = omega arith; first_unused_least = omega arith; first_unused = omega arith }, refl, tt)
-  rx_key_is Salted is = (record { number = omega arith; bytes = refl; salt = refl; ssci = omega arith; first_unused_least = omega arith; first_unused = omega arith }, refl, tt)
-  rx_key_is Unsalted is = cc
-  rx_key_is Turned is = (record { number = omega arith; bytes = refl; salt = refl; ssci = omega arith; first_unused_least = omega arith; first_unused = omega arith }, refl, tt)
-
-  rx_key_sound : (r : Receiver) → has_salt r ≡ true → IsSound (with_key r)
-  rx_key_sound Same is = after_effect (start (config_of sci_b)) (Key (new_key no_salt 2)) refl (record { keys = rx_key_is Same is; tx = tt; rx = none_are }) rx_start
-  rx_key_sound Salted is = after_effect (start (config_of sci_b)) (Key (new_key (salt_of_key Salted) 2)) refl (record { keys = rx_key_is Salted is; tx = tt; rx = none_are }) rx_start
-  rx_key_sound Unsalted is = cc
-  rx_key_sound Turned is = after_effect (start (config_of sci_b)) (Key (new_key (salt_of_key Turned) 1)) refl (record { keys = rx_key_is Turned is; tx = tt; rx = none_are }) rx_start
-
-  rx_sc_sound : (r : Receiver) → has_salt r ≡ true → IsSound (with_sc r)
-  rx_sc_sound Same is = after_effect (with_key Same) (RxSc sci_a) refl (record { keys = rx_key_is Same is; tx = tt; rx = channels_are [] tt }) (rx_key_sound Same is)
-  rx_sc_sound Salted is = after_effect (with_key Salted) (RxSc sci_a) refl (record { keys = rx_key_is Salted is; tx = tt; rx = channels_are [] tt }) (rx_key_sound Salted is)
-  rx_sc_sound Unsalted is = cc
-  rx_sc_sound Turned is = after_effect (with_key Turned) (RxSc sci_a) refl (record { keys = rx_key_is Turned is; tx = tt; rx = channels_are [] tt }) (rx_key_sound Turned is)
-
-  turned_tables : (number : ℕ) (on : Bool) → 1 ≤ number → number ≤ 2 ^ 64 →
-      AreChannels (record { scis = sci_a ∷ []; rows = record { sci = sci_a; an = 0; key = 0; ssci = 2; next = number; lowest = number; on = on } ∷ [] })
-  turned_tables number on least most =
-      channels_are _ (record { channel = refl; an = omega arith; key = omega arith; ssci = omega arith; next = most; lowest_least = least; lowest = omega arith }, refl, tt)
-
-  rx_sa_sound : (r : Receiver) → has_salt r ≡ true → IsSound (with_sa r)
-  rx_sa_sound Same is =
-      after_effect (with_sc Same) (RxSa sci_a 0 0 1 1) refl (record { keys = rx_key_is Same is; tx = tt; rx = tables 1 1 false (omega arith) (omega arith) (omega arith) }) (rx_sc_sound Same is)
-  rx_sa_sound Salted is =
-      after_effect (with_sc Salted) (RxSa sci_a 0 0 1 (2 ^ 32)) refl
-      (record { keys = rx_key_is Salted is; tx = tt; rx = tables (2 ^ 32) (2 ^ 32) false (omega arith) (omega arith) (omega arith) }) (rx_sc_sound Salted is)
-  rx_sa_sound Unsalted is = cc
-  rx_sa_sound Turned is =
-      after_effect (with_sc Turned) (RxSa sci_a 0 0 2 1) refl (record { keys = rx_key_is Turned is; tx = tt; rx = turned_tables 1 false (omega arith) (omega arith) }) (rx_sc_sound Turned is)
+  all_are_fit : (r : Receiver) → has_salt r ≡ true → all_fit (start (config_of sci_b)) (set_up r) ≡ true
+  all_are_fit Same is = refl
+  all_are_fit Salted is = refl
+  all_are_fit Unsalted is = cc
+  all_are_fit Turned is = refl
 
   ready_sound : (r : Receiver) → has_salt r ≡ true → IsSound (ready r)
-  ready_sound Same is =
-      after_effect (with_sa Same) (RxOn sci_a 0) refl (record { keys = rx_key_is Same is; tx = tt; rx = tables 1 1 true (omega arith) (omega arith) (omega arith) }) (rx_sa_sound Same is)
-  ready_sound Salted is =
-      after_effect (with_sa Salted) (RxOn sci_a 0) refl
-      (record { keys = rx_key_is Salted is; tx = tt; rx = tables (2 ^ 32) (2 ^ 32) true (omega arith) (omega arith) (omega arith) }) (rx_sa_sound Salted is)
-  ready_sound Unsalted is = cc
-  ready_sound Turned is =
-      after_effect (with_sa Turned) (RxOn sci_a 0) refl (record { keys = rx_key_is Turned is; tx = tt; rx = turned_tables 1 true (omega arith) (omega arith) }) (rx_sa_sound Turned is)
+  ready_sound r is = commands_sound (set_up r) (none r) (all_are_fit r is) rx_start
+
+  heard_fits : (r : Receiver) → has_salt r ≡ true → tables_fit (heard r) ≡ true
+  heard_fits Same is = refl
+  heard_fits Salted is = refl
+  heard_fits Unsalted is = cc
+  heard_fits Turned is = refl
 
   heard_is_sound : (r : Receiver) → has_salt r ≡ true → IsSound (heard r)
-  heard_is_sound Same is =
-      heard_sound (ready Same) (f Same) (accepts Same) (is_heard Same)
-      (record { keys = rx_key_is Same is; tx = tt; rx = tables 2 2 true (omega arith) (omega arith) (omega arith) }) (ready_sound Same is)
-  heard_is_sound Salted is =
-      heard_sound (ready Salted) (f Salted) (accepts Salted) (is_heard Salted)
-      (record { keys = rx_key_is Salted is; tx = tt; rx = tables (2 ^ 32 + 2) (2 ^ 32 + 2) true (omega arith) (omega arith) (omega arith) }) (ready_sound Salted is)
-  heard_is_sound Unsalted is = cc
-  heard_is_sound Turned is =
-      heard_sound (ready Turned) (f Turned) (accepts Turned) (is_heard Turned)
-      (record { keys = rx_key_is Turned is; tx = tt; rx = turned_tables 2 true (omega arith) (omega arith) }) (ready_sound Turned is)
+  heard_is_sound r is = heard_by (f r) (whole r) (judged r) (heard_fits r is) (ready_sound r is)
 
-  receiver_sound : (r : Receiver) → has_salt r ≡ true → StaysSound (at (start (config_of sci_b))) (commands r ++ link r ∷ [])
+  receiver_sound : (r : Receiver) → has_salt r ≡ true →
+      StaysSound (at (start (config_of sci_b))) (commands r ++ link r ∷ [])
   receiver_sound r is =
-      sound_next (at (start (config_of sci_b))) (at (with_key r)) (key_in r) (sc_in ∷ rx_sa_in r ∷ rx_on_in ∷ link r ∷ []) rx_start (keyed r)
-      (sound_next (at (with_key r)) (at (with_sc r)) sc_in (rx_sa_in r ∷ rx_on_in ∷ link r ∷ []) (rx_key_sound r is) (channelled r)
-      (sound_next (at (with_sc r)) (at (with_sa r)) (rx_sa_in r) (rx_on_in ∷ link r ∷ []) (rx_sc_sound r is) (creates r)
-      (sound_next (at (with_sa r)) (at (ready r)) rx_on_in (link r ∷ []) (rx_sa_sound r is) (enables r)
-      (sound_next (at (ready r)) (at (heard r)) (link r) [] (ready_sound r is) (hears r) (sound_end (at (heard r)) (heard_is_sound r is))))))
+      commands_stay (set_up r) (at (start (config_of sci_b))) (link r ∷ []) (are_new r) (none r)
+      (all_are_fit r is) rx_start
+      (sound_next (at (ready r)) (link r) [] (ready_sound r is) (hears r)
+      (sound_end (at (heard r)) (heard_is_sound r is)))
 
 -- what holds of the keys of two runs
-pub of_last : (R : InstalledKey → InstalledKey → Type 0) (p q : Run) (x y : InstalledKey) → (closing p).secy.keys ≡ x ∷ [] → (closing q).secy.keys ≡ y ∷ [] → R x y →
+pub of_last : (R : InstalledKey → InstalledKey → Type 0) (p q : Run) (x y : InstalledKey) →
+    (closing p).secy.keys ≡ x ∷ [] → (closing q).secy.keys ≡ y ∷ [] → R x y →
     (x' y' : InstalledKey) → Contains (closing p).secy.keys x' → Contains (closing q).secy.keys y' → R x' y'
 of_last R p q x y keys keys' holds x' y' there there' =
     let first = only x x' (subst (λ (ks : List InstalledKey). Contains ks x') keys there) in
@@ -584,17 +461,21 @@ abbrev first_run : Run
 first_run = run_s Zeros sci_b
 
 free_r : highest (reads (reserved_2 ∷ [])) (name_of (salt false)) < 1
-free_r = is_free (reserved_2 ∷ []) (name_of (salt false)) 1 reserved_is (omega (arith, highest_of_one reserved_2 (name_of (salt false)) false names_differ))
+free_r = is_free (reserved_2 ∷ []) (name_of (salt false)) 1 reserved_is
+    (omega (arith, highest_of_one reserved_2 (name_of (salt false)) false names_differ))
 
 does_s : Does (opening first_run) (sends Zeros) (sent_1 Zeros ∷ []) [] (k_sent sci_b Zeros)
 does_s = sender_does sci_b Zeros
 
-does_r : (r : Receiver) → Does (opening (run_r r)) (commands r ++ link r ∷ []) [] (delivery r ∷ []) (at (reserved_2 ∷ []) free_r (heard r))
+does_r : (r : Receiver) → Does (opening (run_r r)) (commands r ++ link r ∷ []) [] (delivery r ∷ [])
+    (at (reserved_2 ∷ []) free_r (heard r))
 does_r r = receiver_does (reserved_2 ∷ []) free_r r
 
 sealed_s : Contains (sealed_in_all [] ++ sealed_in_all (first_run ∷ [])) (use_of Zeros)
 sealed_s =
-    subst (λ (us : List CipherUse). Contains us (use_of Zeros)) (sym (seals_are (first_run ∷ []) (sent_1 Zeros ∷ []) (ap (λ (xs : List SentIn). xs ++ []) does_s.sends))) (0, omega arith, refl)
+    subst (λ (us : List CipherUse). Contains us (use_of Zeros))
+    (sym (seals_are (first_run ∷ []) (sent_1 Zeros ∷ []) (ap (λ (xs : List SentIn). xs ++ []) does_s.sends)))
+    (0, omega arith, refl)
 
 none_yet : delivered_in_all (first_run ∷ []) ≡ []
 none_yet = ap (λ (xs : List Delivery). xs ++ []) does_s.delivers
@@ -602,18 +483,23 @@ none_yet = ap (λ (xs : List Delivery). xs ++ []) does_s.delivers
 abbrev reflected : Receiver → List EndRun
 reflected r = (B, first_run) ∷ (B, run_r r) ∷ []
 
-module _ (left_out : Premise) (r : Receiver) (salted : has_salt (reserved_2 ∷ []) free_r r ≡ true) (keys : (closing (run_r r)).secy.keys ≡ rx_key r ∷ []) (seals : sender_salt r ≡ Zeros)
-    (agree : AgreeOnKeyBut KeepsSuite KeepsSalt left_out (key_at no_salt 1 2) (rx_key r)) (ssci : KeepsSsci ≢ left_out → 1 ≡ own_ssci r) where
+module _ (left_out : Premise) (r : Receiver) (salted : has_salt (reserved_2 ∷ []) free_r r ≡ true)
+    (keys : (closing (run_r r)).secy.keys ≡ rx_key r ∷ []) (seals : sender_salt r ≡ Zeros)
+    (agree : AgreeOnKeyBut KeepsSuite KeepsSalt left_out (key_at no_salt 1 2) (rx_key r))
+    (ssci : KeepsSsci ≢ left_out → 1 ≡ own_ssci r) where
   keys_s : (closing first_run).secy.keys ≡ key_at no_salt 1 2 ∷ []
   keys_s = ap (λ (k : Keeping). k.secy.keys) does_s.ends
 
   reflected_peers : ArePeersBut left_out (blocks (reflected r))
   reflected_peers =
-      two_runs_of_b left_out first_run (run_r r) (sender_sound sci_b other_sci) (receiver_sound (reserved_2 ∷ []) free_r r salted)
-      (of_last (λ x y. x.bytes ≡ y.bytes → AgreeOnKeyBut KeepsSuite KeepsSalt left_out x y) first_run (run_r r) (key_at no_salt 1 2) (rx_key r) keys_s keys (λ same. agree))
+      two_runs_of_b left_out first_run (run_r r) (sender_sound sci_b refl)
+      (receiver_sound (reserved_2 ∷ []) free_r r salted)
+      (of_last (λ x y. x.bytes ≡ y.bytes → AgreeOnKeyBut KeepsSuite KeepsSalt left_out x y) first_run (run_r r)
+      (key_at no_salt 1 2) (rx_key r) keys_s keys (λ same. agree))
       refl (is_durable reserved_2 reserved_is) (record {
         sci = λ d. refl;
-        ssci = λ d. of_last (λ x y. x.bytes ≡ y.bytes → is_xpn x.suite ≡ true → x.ssci ≡ y.ssci) first_run (run_r r) (key_at no_salt 1 2) (rx_key r) keys_s keys (λ same xpn. ssci d);
+        ssci = λ d. of_last (λ x y. x.bytes ≡ y.bytes → is_xpn x.suite ≡ true → x.ssci ≡ y.ssci) first_run (run_r r)
+            (key_at no_salt 1 2) (rx_key r) keys_s keys (λ same xpn. ssci d);
       })
 
   reflects : LawWithout left_out (blocks (reflected r)) → ⊥
@@ -621,28 +507,35 @@ module _ (left_out : Premise) (r : Receiver) (salted : has_salt (reserved_2 ∷ 
       refuted left_out (reflected r) [] (delivery r ∷ []) (
         (
           (λ d. nothing_saved first_run.journal),
-          after_own left_out bytes sci_a 0 (sends Zeros) [] (opening first_run) (sealed_in_all [] ++ sealed_in_all []) (tt, (tt, (tt, (tt, (tt, tt))))) no_step,
+          after_own left_out bytes sci_a 0 (sends Zeros) [] (opening first_run) (sealed_in_all [] ++ sealed_in_all [])
+              (tt, (tt, (tt, (tt, (tt, tt))))) no_step,
         ),
         (
           (
-            (λ d. subst (λ (xs : List Delivery). SavedIn (run_r r).journal bytes sci_a 0 (delivered_at bytes sci_a 0 xs)) (sym none_yet) (nothing_saved (run_r r).journal)),
-            receiver_steps (reserved_2 ∷ []) free_r left_out r (run_r r) refl (sealed_in_all [] ++ sealed_in_all (first_run ∷ []))
-                (subst (λ (s : Salt). Contains (sealed_in_all [] ++ sealed_in_all (first_run ∷ [])) (use_of s)) (sym seals) sealed_s),
+            (λ d. subst (λ (xs : List Delivery). SavedIn (run_r r).journal bytes sci_a 0
+                (delivered_at bytes sci_a 0 xs)) (sym none_yet) (nothing_saved (run_r r).journal)),
+            receiver_steps (reserved_2 ∷ []) free_r left_out r (run_r r) refl
+                (sealed_in_all [] ++ sealed_in_all (first_run ∷ []))
+                (subst (λ (s : Salt). Contains (sealed_in_all [] ++ sealed_in_all (first_run ∷ [])) (use_of s))
+                (sym seals) sealed_s),
           ),
           tt,
         ),
       )
       reflected_peers refl
-      (ap (λ (xs : List Delivery). xs ++ delivered_in_all (run_r r ∷ [])) does_s.delivers ∙ ap (λ (xs : List Delivery). xs ++ []) (does_r r).delivers)
+      (ap (λ (xs : List Delivery). xs ++ delivered_in_all (run_r r ∷ [])) does_s.delivers
+      ∙ ap (λ (xs : List Delivery). xs ++ []) (does_r r).delivers)
       (not_of_none (number_of r ∷ client 1))
 
 pub same_ssci_needed : LawWithout KeepsSsci (blocks (reflected Same)) → ⊥
 same_ssci_needed =
-    reflects KeepsSsci Same refl (ap (λ (k : Keeping). k.secy.keys) (does_r Same).ends) refl (record { suite = λ d. refl; salt = λ d xpn. refl }) (λ d. absurd (d refl))
+    reflects KeepsSsci Same refl (ap (λ (k : Keeping). k.secy.keys) (does_r Same).ends) refl
+    (record { suite = λ d. refl; salt = λ d xpn. refl }) (λ d. absurd (d refl))
 
 pub kept_salt_needed : LawWithout KeepsSalt (blocks (reflected Turned)) → ⊥
 kept_salt_needed =
-    reflects KeepsSalt Turned refl (ap (λ (k : Keeping). k.secy.keys) (does_r Turned).ends) refl (record { suite = λ d. refl; salt = λ d. absurd (d refl) }) (λ d. refl)
+    reflects KeepsSalt Turned refl (ap (λ (k : Keeping). k.secy.keys) (does_r Turned).ends) refl
+    (record { suite = λ d. refl; salt = λ d. absurd (d refl) }) (λ d. refl)
 
 -- ---- the key has another salt at B, or none at both: B delivers A's frame with another packet number
 
@@ -655,23 +548,29 @@ run_a r = run_s (sender_salt r) sci_a
 free_b : highest (reads []) (name_of (salt false)) < 1
 free_b = is_free [] (name_of (salt false)) 1 none_is (omega arith)
 
-does_a : (r : Receiver) → Does (opening (run_a r)) (sends (sender_salt r)) (sent_1 (sender_salt r) ∷ []) [] (k_sent sci_a (sender_salt r))
+does_a : (r : Receiver) → Does (opening (run_a r)) (sends (sender_salt r)) (sent_1 (sender_salt r) ∷ []) []
+    (k_sent sci_a (sender_salt r))
 does_a r = sender_does sci_a (sender_salt r)
 
-does_b : (r : Receiver) → Does (opening (run_b r)) (commands r ++ link r ∷ []) [] (delivery r ∷ []) (at [] free_b (heard r))
+does_b : (r : Receiver) → Does (opening (run_b r)) (commands r ++ link r ∷ []) [] (delivery r ∷ [])
+    (at [] free_b (heard r))
 does_b r = receiver_does [] free_b r
 
 sealed_a : (r : Receiver) → Contains (sealed_in_all (run_a r ∷ []) ++ sealed_in_all []) (use_of (sender_salt r))
 sealed_a r =
     subst (λ (us : List CipherUse). Contains (us ++ []) (use_of (sender_salt r)))
-    (sym (seals_are (run_a r ∷ []) (sent_1 (sender_salt r) ∷ []) (ap (λ (xs : List SentIn). xs ++ []) (does_a r).sends))) (0, omega arith, refl)
+    (sym (seals_are (run_a r ∷ []) (sent_1 (sender_salt r) ∷ [])
+    (ap (λ (xs : List SentIn). xs ++ []) (does_a r).sends))) (0, omega arith, refl)
 
 abbrev shifted : Receiver → List EndRun
 shifted r = (A, run_a r) ∷ (B, run_b r) ∷ []
 
-ends_agree : (left_out : Premise) (r : Receiver) → AgreeOnKeyBut HasOneSuite HasOneSalt left_out (key_at (of_salt (sender_salt r)) 1 2) (rx_key r) → AgreeAtBothBut left_out (run_a r) (run_b r)
+ends_agree : (left_out : Premise) (r : Receiver) →
+    AgreeOnKeyBut HasOneSuite HasOneSalt left_out (key_at (of_salt (sender_salt r)) 1 2) (rx_key r) →
+    AgreeAtBothBut left_out (run_a r) (run_b r)
 ends_agree left_out r agree =
-    of_last (λ x y. x.bytes ≡ y.bytes → AgreeOnKeyBut HasOneSuite HasOneSalt left_out x y) (run_a r) (run_b r) (key_at (of_salt (sender_salt r)) 1 2) (rx_key r)
+    of_last (λ x y. x.bytes ≡ y.bytes → AgreeOnKeyBut HasOneSuite HasOneSalt left_out x y) (run_a r) (run_b r)
+    (key_at (of_salt (sender_salt r)) 1 2) (rx_key r)
     (ap (λ (k : Keeping). k.secy.keys) (does_a r).ends) (keys_at_end r) (λ same. agree)
   where
     keys_at_end : (r' : Receiver) → (closing (run_b r')).secy.keys ≡ rx_key r' ∷ []
@@ -699,9 +598,11 @@ pub same_salt_needed : LawWithout HasOneSalt (blocks (shifted Salted)) → ⊥
 same_salt_needed =
     refuted HasOneSalt (shifted Salted) (sent_1 Zeros ∷ []) (delivery Salted ∷ [])
     (own_a, (((λ d. nothing_saved (run_b Salted).journal), receiver_steps [] free_b HasOneSalt Salted (run_b Salted) refl (sealed_in_all (run_a Salted ∷ []) ++ sealed_in_all []) (sealed_a Salted)), tt))
-    (one_run_each HasOneSalt (run_a Salted) (run_b Salted) (λ d. sender_sound sci_a own_sci) (λ d. receiver_sound [] free_b Salted refl)
+    (one_run_each HasOneSalt (run_a Salted) (run_b Salted) (λ d. sender_sound sci_a refl)
+    (λ d. receiver_sound [] free_b Salted refl)
     (ends_agree HasOneSalt Salted (record { suite = λ d. refl; salt = λ d. absurd (d refl) })))
-    (ap (λ (xs : List SentIn). xs ++ []) (does_a Salted).sends) (ap (λ (xs : List Delivery). xs ++ []) (does_b Salted).delivers)
+    (ap (λ (xs : List SentIn). xs ++ []) (does_a Salted).sends)
+    (ap (λ (xs : List Delivery). xs ++ []) (does_b Salted).delivers)
     (not_of_other (2 ^ 32 + 1) 1 (client 1) (client 1) (λ same. omega (arith, same)))
 
 -- no call installs a key whose salt has no octets: its endpoint is not sound
@@ -711,7 +612,8 @@ soundness_needed =
     (own_unsalted, (((λ d. nothing_saved (run_b Unsalted).journal), receiver_steps [] free_b StaysSoundAlways Unsalted (run_b Unsalted) refl (sealed_in_all (run_a Unsalted ∷ []) ++ sealed_in_all []) (sealed_a Unsalted)), tt))
     (one_run_each StaysSoundAlways (run_a Unsalted) (run_b Unsalted) (λ d. absurd (d refl)) (λ d. absurd (d refl))
     (ends_agree StaysSoundAlways Unsalted (record { suite = λ d. refl; salt = λ d xpn. refl })))
-    (ap (λ (xs : List SentIn). xs ++ []) (does_a Unsalted).sends) (ap (λ (xs : List Delivery). xs ++ []) (does_b Unsalted).delivers)
+    (ap (λ (xs : List SentIn). xs ++ []) (does_a Unsalted).sends)
+    (ap (λ (xs : List Delivery). xs ++ []) (does_b Unsalted).delivers)
     (not_of_other (2 ^ 32 + 1) 1 (client 1) (client 1) (λ same. omega (arith, same)))
 
 -- ---- the key has the same salt at both ends, and another own SSCI: all premises are met, and B delivers what A sent
@@ -720,16 +622,19 @@ pub extended_meets : MeetsAll (shifted Same) ((1 ∷ client 1) ∷ []) ((1 ∷ c
 extended_meets =
     meets_all (shifted Same) (sent_1 Zeros ∷ []) (delivery Same ∷ [])
     (own_a, (((λ d. nothing_saved (run_b Same).journal), receiver_steps [] free_b NoPremise Same (run_b Same) refl (sealed_in_all (run_a Same ∷ []) ++ sealed_in_all []) (sealed_a Same)), tt))
-    (one_run_each NoPremise (run_a Same) (run_b Same) (λ d. sender_sound sci_a own_sci) (λ d. receiver_sound [] free_b Same refl)
+    (one_run_each NoPremise (run_a Same) (run_b Same) (λ d. sender_sound sci_a refl)
+    (λ d. receiver_sound [] free_b Same refl)
     (ends_agree NoPremise Same (record { suite = λ d. refl; salt = λ d xpn. refl })))
-    (ap (λ (xs : List SentIn). xs ++ []) (does_a Same).sends) (ap (λ (xs : List Delivery). xs ++ []) (does_b Same).delivers)
+    (ap (λ (xs : List SentIn). xs ++ []) (does_a Same).sends)
+    (ap (λ (xs : List Delivery). xs ++ []) (does_b Same).delivers)
 
 -- ---- then B deletes the SA and retires the key, its endpoint forgets the key, and it has an SA under another key
 
 abbrev a_of : Keeping → Ahead
 a_of k = record { k = k; ahead = false; taken = []; ended = no_ends }
 
-record DoesWith (a : Ahead) (inputs : List KeepingInput) (xs : List SentIn) (ds : List Delivery) (last : Ahead) : Type 0 where
+record DoesWith (a : Ahead) (inputs : List KeepingInput) (xs : List SentIn) (ds : List Delivery)
+    (last : Ahead) : Type 0 where
   sends : sent_from_forgetting a inputs ≡ xs
   delivers : delivered_from_forgetting a inputs ≡ ds
   ends : ahead_forgetting_after a inputs ≡ last
@@ -742,18 +647,23 @@ with_end a sound = record { sends = refl; delivers = refl; ends = refl; sound = 
     at_each zero = sound
     at_each (suc n) = sound
 
-with_next : (a after last : Ahead) (input : KeepingInput) (inputs : List KeepingInput) (now sends : List SentIn) (new ds : List Delivery) → IsSound a.k.secy → newly_sent a.k input ≡ now →
-    newly_delivered_with a input ≡ new → (ahead_forgetting_step a input).1 ≡ after → DoesWith after inputs sends ds last → DoesWith a (input ∷ inputs) (now ++ sends) (new ++ ds) last
-with_next a after last input inputs now sends new ds sound is_now is_new is_after rest = record {
-  sends = ap (λ xs. xs ++ sent_from_forgetting (ahead_forgetting_step a input).1 inputs) is_now ∙ ap (λ x. now ++ sent_from_forgetting x inputs) is_after ∙ ap (λ xs. now ++ xs) rest.sends;
-  delivers = ap (λ xs. xs ++ delivered_from_forgetting (ahead_forgetting_step a input).1 inputs) is_new ∙ ap (λ x. new ++ delivered_from_forgetting x inputs) is_after ∙ ap (λ xs. new ++ xs) rest.delivers;
+with_next : {a after last : Ahead} {input : KeepingInput} {inputs : List KeepingInput} {now sends : List SentIn}
+    {new ds : List Delivery} → IsSound a.k.secy → newly_sent a.k input ≡ now → newly_delivered_with a input ≡ new →
+    (ahead_forgetting_step a input).1 ≡ after → DoesWith after inputs sends ds last →
+    DoesWith a (input ∷ inputs) (now ++ sends) (new ++ ds) last
+with_next {a} {input} {inputs} {now} {new} sound is_now is_new is_after rest = record {
+  sends = ap (λ xs. xs ++ sent_from_forgetting (ahead_forgetting_step a input).1 inputs) is_now
+      ∙ ap (λ x. now ++ sent_from_forgetting x inputs) is_after ∙ ap (λ xs. now ++ xs) rest.sends;
+  delivers = ap (λ xs. xs ++ delivered_from_forgetting (ahead_forgetting_step a input).1 inputs) is_new
+      ∙ ap (λ x. new ++ delivered_from_forgetting x inputs) is_after ∙ ap (λ xs. new ++ xs) rest.delivers;
   ends = ap (λ x. ahead_forgetting_after x inputs) is_after ∙ rest.ends;
   sound = at_each;
 }
   where
     at_each : (n : ℕ) → IsSound (ahead_forgetting_after a (take n (input ∷ inputs))).k.secy
     at_each zero = sound
-    at_each (suc n) = subst (λ (x : Ahead). IsSound (ahead_forgetting_after x (take n inputs)).k.secy) (sym is_after) (rest.sound n)
+    at_each (suc n) = subst (λ (x : Ahead). IsSound (ahead_forgetting_after x (take n inputs)).k.secy) (sym is_after)
+        (rest.sound n)
 
 -- all inputs come to the endpoint that forgets none, and to the keeping endpoint inside
 record IsWhole (a : Ahead) (inputs : List KeepingInput) : Type 0 where
@@ -763,86 +673,132 @@ record IsWhole (a : Ahead) (inputs : List KeepingInput) : Type 0 where
 whole_end : (a : Ahead) → IsWhole a []
 whole_end a = record { given = refl; reaches = refl }
 
-whole_next : (a after : Ahead) (input : KeepingInput) (inputs : List KeepingInput) → installs_retired a.k input ≡ false → lets_through a input ≡ true → (ahead_forgetting_step a input).1 ≡ after →
-    (ahead_step a input).1 ≡ after → IsWhole after inputs → IsWhole a (input ∷ inputs)
-whole_next a after input inputs new lets forgets goes' rest = record {
-  given = ap (λ (b : Bool). if b then others_with (ahead_forgetting_step a input).1 inputs else input ∷ others_with (ahead_forgetting_step a input).1 inputs) new
-      ∙ ap (λ (x : Ahead). input ∷ others_with x inputs) forgets ∙ ap (λ (is : List KeepingInput). input ∷ is) rest.given;
-  reaches = ap (λ (b : Bool). if b then input ∷ through (ahead_step a input).1 inputs else through (ahead_step a input).1 inputs) lets
+whole_next : {a after : Ahead} {input : KeepingInput} {inputs : List KeepingInput} →
+    installs_retired a.k input ≡ false →
+    lets_through a input ≡ true → (ahead_forgetting_step a input).1 ≡ after → (ahead_step a input).1 ≡ after →
+    IsWhole after inputs → IsWhole a (input ∷ inputs)
+whole_next {a} {input} {inputs} new lets forgets goes' rest = record {
+  given = ap (λ (b : Bool). if b then others_with (ahead_forgetting_step a input).1 inputs
+      else input ∷ others_with (ahead_forgetting_step a input).1 inputs) new
+      ∙ ap (λ (x : Ahead). input ∷ others_with x inputs) forgets
+      ∙ ap (λ (is : List KeepingInput). input ∷ is) rest.given;
+  reaches = ap (λ (b : Bool). if b then input ∷ through (ahead_step a input).1 inputs
+      else through (ahead_step a input).1 inputs) lets
       ∙ ap (λ (x : Ahead). input ∷ through x inputs) goes' ∙ ap (λ (is : List KeepingInput). input ∷ is) rest.reaches;
 }
 
 inside_whole : (run : Run) → IsWhole (opening_with false run) run.inputs → inner false run ≡ run
 inside_whole run it =
-    ap (λ (is : List KeepingInput). record run { inputs = through (opening_with false run) is }) it.given ∙ ap (λ (is : List KeepingInput). record run { inputs = is }) it.reaches
+    ap (λ (is : List KeepingInput). record run { inputs = through (opening_with false run) is }) it.given
+    ∙ ap (λ (is : List KeepingInput). record run { inputs = is }) it.reaches
+
+newly_none : (a : Ahead) (c : Command) → newly_delivered_with a (command c) ≡ []
+newly_none a c = by_test (lets_through a (command c))
+  where
+    by_test : (b : Bool) → (if b then newly_delivered a.k (command c) else []) ≡ []
+    by_test true = refl
+    by_test false = refl
 
 -- a command that forgets nothing
-command_goes : (k k' : Keeping) (ended : Ends) (c : Command) → begins_again (a_of k) (operator_command c) ≡ false → forgetting_step k (command c) ≡ keeping_step k (command c) →
-    (keeping_step k (command c)).1 ≡ k' → ended_after (a_of k) (operator_command c) ((keeping_step k (command c)).0, k') ≡ ended → (ahead_forgetting_step (a_of k) (command c)).1 ≡ record (a_of k') { ended = ended }
+command_goes : (k k' : Keeping) (ended : Ends) (c : Command) → begins_again (a_of k) (operator_command c) ≡ false →
+    forgetting_step k (command c) ≡ keeping_step k (command c) →
+    (keeping_step k (command c)).1 ≡ k' → ended_after (a_of k) (operator_command c)
+    ((keeping_step k (command c)).0, k') ≡ ended → (ahead_forgetting_step (a_of k) (command c)).1 ≡ record (a_of k')
+    { ended = ended }
 command_goes k k' ended c again same is ends =
     ap (λ (b : Bool). (ahead_by b passes (a_of k) (operator_command c) (forgetting_step k (command c))).1) again
     ∙ ap (λ (x : KeepingOutput × Keeping). (ahead_by false passes (a_of k) (operator_command c) x).1) same
-    ∙ ap (λ (x : Keeping). record (a_of x) { ended = ended_after (a_of k) (operator_command c) ((keeping_step k (command c)).0, x) }) is
+    ∙ ap (λ (x : Keeping). record (a_of x)
+    { ended = ended_after (a_of k) (operator_command c) ((keeping_step k (command c)).0, x) }) is
     ∙ ap (λ (e : Ends). record (a_of k') { ended = e }) ends
 
-command_goes_on : (k k' : Keeping) (c : Command) → begins_again (a_of k) (operator_command c) ≡ false → (keeping_step k (command c)).1 ≡ k' →
-    ended_after (a_of k) (operator_command c) ((keeping_step k (command c)).0, k') ≡ no_ends → (ahead_step (a_of k) (command c)).1 ≡ a_of k'
+command_goes_on : (k k' : Keeping) (c : Command) → begins_again (a_of k) (operator_command c) ≡ false →
+    (keeping_step k (command c)).1 ≡ k' →
+    ended_after (a_of k) (operator_command c) ((keeping_step k (command c)).0, k') ≡ no_ends →
+    (ahead_step (a_of k) (command c)).1 ≡ a_of k'
 command_goes_on k k' c again is ends =
     ap (λ (b : Bool). (ahead_by b passes (a_of k) (operator_command c) (keeping_step k (command c))).1) again
-    ∙ ap (λ (x : Keeping). record (a_of x) { ended = ended_after (a_of k) (operator_command c) ((keeping_step k (command c)).0, x) }) is
+    ∙ ap (λ (x : Keeping). record (a_of x)
+    { ended = ended_after (a_of k) (operator_command c) ((keeping_step k (command c)).0, x) }) is
     ∙ ap (λ (e : Ends). record (a_of k') { ended = e }) ends
+
+-- commands that forget nothing, install no key again and end no SA
+record IsPlain (k : Keeping) (c : Command) : Type 0 where
+  again : begins_again (a_of k) (operator_command c) ≡ false
+  same : forgetting_step k (command c) ≡ keeping_step k (command c)
+  ends : ended_after (a_of k) (operator_command c)
+      ((keeping_step k (command c)).0, record k { secy = effect k.secy c }) ≡ no_ends
+  new : installs_retired k (command c) ≡ false
+  lets : lets_through (a_of k) (command c) ≡ true
+
+abbrev ArePlain : Keeping → List Command → Type 0
+ArePlain k [] = Unit {0}
+ArePlain k (c ∷ cs) = IsPlain k c × ArePlain (record k { secy = effect k.secy c }) cs
+
+commands_with : (cs : List Command) {k : Keeping} {last : Ahead} {inputs : List KeepingInput} {xs : List SentIn}
+    {ds : List Delivery} → AreNew k cs → none_refused k.secy cs ≡ true → all_fit k.secy cs ≡ true → ArePlain k cs →
+    IsSound k.secy → DoesWith (a_of (record k { secy = after_commands k.secy cs })) inputs xs ds last →
+    DoesWith (a_of k) (map command cs ++ inputs) xs ds last
+commands_with [] new none fit plain sound rest = rest
+commands_with (c ∷ cs) {k} new none fit plain sound rest =
+    let it = first_carried k.secy c cs none in
+    let now = sound_first k.secy c cs it.0 fit sound in
+    let p = plain.0 in
+    with_next sound refl (newly_none (a_of k) c)
+    (command_goes k (record k { secy = effect k.secy c }) no_ends c p.again p.same (carried_step k c new.0 it.0) p.ends)
+    (commands_with cs new.1 it.1 now.1 plain.1 now.0 rest)
+
+commands_whole : (cs : List Command) {k : Keeping} {inputs : List KeepingInput} → AreNew k cs →
+    none_refused k.secy cs ≡ true →
+    ArePlain k cs → IsWhole (a_of (record k { secy = after_commands k.secy cs })) inputs →
+    IsWhole (a_of k) (map command cs ++ inputs)
+commands_whole [] new none plain rest = rest
+commands_whole (c ∷ cs) {k} new none plain rest =
+    let it = first_carried k.secy c cs none in
+    let k' = record k { secy = effect k.secy c } in
+    let p = plain.0 in
+    let step = carried_step k c new.0 it.0 in
+    whole_next p.new p.lets (command_goes k k' no_ends c p.again p.same step p.ends)
+    (command_goes_on k k' c p.again step p.ends)
+    (commands_whole cs new.1 it.1 plain.1 rest)
 
 -- A's run
 
 abbrev a_sends : List KeepingInput
 a_sends = sends Zeros
 
-abbrev key_a : Command
-key_a = Key (new_key no_salt 1)
-
-keys_a : (ahead_forgetting_step (a_of (k_begun sci_a)) (command key_a)).1 ≡ a_of (k_key sci_a Zeros)
-keys_a = command_goes (k_begun sci_a) (k_key sci_a Zeros) no_ends key_a refl refl (installs sci_a Zeros) refl
-
-makes_a : (ahead_forgetting_step (a_of (k_key sci_a Zeros)) sa_in).1 ≡ a_of (k_sa sci_a Zeros false)
-makes_a = command_goes (k_key sci_a Zeros) (k_sa sci_a Zeros false) no_ends (TxSa 0 0 1 false) refl refl (makes sci_a Zeros) refl
-
-turns_a : (ahead_forgetting_step (a_of (k_sa sci_a Zeros false)) on_in).1 ≡ a_of (k_sa sci_a Zeros true)
-turns_a = command_goes (k_sa sci_a Zeros false) (k_sa sci_a Zeros true) no_ends (TxOn 0) refl refl (turns_on sci_a Zeros) refl
-
-reserves_a : (ahead_step (a_of (k_sa sci_a Zeros true)) report_in).1 ≡ a_of (k_reserved sci_a Zeros)
+reserves_a : (ahead_step (a_of (k_on sci_a Zeros)) report_in).1 ≡ a_of (k_reserved sci_a Zeros)
 reserves_a = ap a_of (reserves sci_a Zeros)
 
 sends_a : (ahead_step (a_of (k_reserved sci_a Zeros)) frame_in).1 ≡ a_of (k_sent sci_a Zeros)
 sends_a = ap a_of (frame_step (k_reserved sci_a Zeros) (client 1) (goes sci_a Zeros))
 
+is_plain : {k : Keeping} {c : Command} → begins_again (a_of k) (operator_command c) ≡ false →
+    forgetting_step k (command c) ≡ keeping_step k (command c) →
+    ended_after (a_of k) (operator_command c) ((keeping_step k (command c)).0, record k { secy = effect k.secy c }) ≡
+    no_ends →
+    installs_retired k (command c) ≡ false → lets_through (a_of k) (command c) ≡ true → IsPlain k c
+is_plain again same ends new lets = record { again = again; same = same; ends = ends; new = new; lets = lets }
+
+plain_a : ArePlain (k_begun sci_a) (tx_set_up Zeros)
+plain_a = (is_plain refl refl refl refl refl, (is_plain refl refl refl refl refl, (is_plain refl refl refl refl refl, tt)))
+
 a_does : DoesWith (a_of (k_begun sci_a)) a_sends (sent_1 Zeros ∷ []) [] (a_of (k_sent sci_a Zeros))
 a_does =
-    let last = a_of (k_sent sci_a Zeros) in
-    let ones = sent_1 Zeros ∷ [] in
-    with_next (a_of (k_begun sci_a)) (a_of (k_key sci_a Zeros)) last (command key_a) (sa_in ∷ on_in ∷ report_in ∷ frame_in ∷ []) [] ones [] [] (start_sound sci_a own_sci) refl refl keys_a
-    (with_next (a_of (k_key sci_a Zeros)) (a_of (k_sa sci_a Zeros false)) last sa_in (on_in ∷ report_in ∷ frame_in ∷ []) [] ones [] [] (key_sound sci_a own_sci) refl refl makes_a
-    (with_next (a_of (k_sa sci_a Zeros false)) (a_of (k_sa sci_a Zeros true)) last on_in (report_in ∷ frame_in ∷ []) [] ones [] [] (sa_sound sci_a own_sci) refl refl turns_a
-    (with_next (a_of (k_sa sci_a Zeros true)) (a_of (k_reserved sci_a Zeros)) last report_in (frame_in ∷ []) [] ones [] [] (on_sound sci_a own_sci) refl refl reserves_a
-    (with_next (a_of (k_reserved sci_a Zeros)) last last frame_in [] ones [] [] [] (on_sound sci_a own_sci) (lists sci_a Zeros) refl sends_a (with_end last (sent_sound sci_a own_sci))))))
+    commands_with (tx_set_up Zeros) (tx_new sci_a Zeros) refl refl plain_a (first_sound sci_a refl)
+    (with_next (on_sound sci_a refl) refl refl reserves_a
+    (with_next (on_sound sci_a refl) (lists sci_a Zeros) refl sends_a (with_end _ (last_sound_a sci_a refl))))
 
 a_whole : IsWhole (a_of (k_begun sci_a)) a_sends
 a_whole =
-    whole_next (a_of (k_begun sci_a)) (a_of (k_key sci_a Zeros)) (command key_a) (sa_in ∷ on_in ∷ report_in ∷ frame_in ∷ []) refl refl keys_a
-    (command_goes_on (k_begun sci_a) (k_key sci_a Zeros) key_a refl (installs sci_a Zeros) refl)
-    (whole_next (a_of (k_key sci_a Zeros)) (a_of (k_sa sci_a Zeros false)) sa_in (on_in ∷ report_in ∷ frame_in ∷ []) refl refl makes_a
-    (command_goes_on (k_key sci_a Zeros) (k_sa sci_a Zeros false) (TxSa 0 0 1 false) refl (makes sci_a Zeros) refl)
-    (whole_next (a_of (k_sa sci_a Zeros false)) (a_of (k_sa sci_a Zeros true)) on_in (report_in ∷ frame_in ∷ []) refl refl turns_a
-    (command_goes_on (k_sa sci_a Zeros false) (k_sa sci_a Zeros true) (TxOn 0) refl (turns_on sci_a Zeros) refl)
-    (whole_next (a_of (k_sa sci_a Zeros true)) (a_of (k_reserved sci_a Zeros)) report_in (frame_in ∷ []) refl refl reserves_a reserves_a
-    (whole_next (a_of (k_reserved sci_a Zeros)) (a_of (k_sent sci_a Zeros)) frame_in [] refl refl sends_a sends_a (whole_end (a_of (k_sent sci_a Zeros)))))))
+    commands_whole (tx_set_up Zeros) (tx_new sci_a Zeros) refl plain_a
+    (whole_next refl refl reserves_a reserves_a (whole_next refl refl sends_a sends_a
+    (whole_end (a_of (k_sent sci_a Zeros)))))
 
 -- B's run: the commands, the frame, then the SA is deleted and the key retired, and another key is installed and used
 
 abbrev b_at : State → Keeping
 b_at s = at [] free_b s
-
-abbrev key_b : Command
-key_b = Key (new_key no_salt 2)
 
 abbrev deletes : KeepingInput
 deletes = command (RxDel sci_a 0)
@@ -860,23 +816,20 @@ key_2 = Key (record (new_key no_salt 2) { number = 1; bytes = K128 octets_2 })
 abbrev sa_2 : Command
 sa_2 = RxSa sci_a 0 1 1 1
 
+abbrev then_commands : List Command
+then_commands = RxDel sci_a 0 ∷ Retire 0 ∷ key_2 ∷ sa_2 ∷ []
+
 abbrev then_on : List KeepingInput
-then_on = deletes ∷ retires ∷ command key_2 ∷ command sa_2 ∷ []
+then_on = map command then_commands
 
 abbrev run_f : Run
 run_f = record { journal = journal false []; config = config_of sci_b; inputs = commands Same ++ link Same ∷ then_on }
 
-keys_b : (ahead_forgetting_step (a_of (b_at (start (config_of sci_b)))) (key_in Same)).1 ≡ a_of (b_at (with_key Same))
-keys_b = command_goes (b_at (start (config_of sci_b))) (b_at (with_key Same)) no_ends key_b refl refl (keyed [] free_b Same) refl
-
-channels_b : (ahead_forgetting_step (a_of (b_at (with_key Same))) sc_in).1 ≡ a_of (b_at (with_sc Same))
-channels_b = command_goes (b_at (with_key Same)) (b_at (with_sc Same)) no_ends (RxSc sci_a) refl refl (channelled [] free_b Same) refl
-
-creates_b : (ahead_forgetting_step (a_of (b_at (with_sc Same))) (rx_sa_in Same)).1 ≡ a_of (b_at (with_sa Same))
-creates_b = command_goes (b_at (with_sc Same)) (b_at (with_sa Same)) no_ends (RxSa sci_a 0 0 1 1) refl refl (creates [] free_b Same) refl
-
-enables_b : (ahead_forgetting_step (a_of (b_at (with_sa Same))) rx_on_in).1 ≡ a_of (b_at (ready Same))
-enables_b = command_goes (b_at (with_sa Same)) (b_at (ready Same)) no_ends (RxOn sci_a 0) refl refl (enables [] free_b Same) refl
+plain_b : ArePlain (b_at (start (config_of sci_b))) (set_up Same)
+plain_b = (
+  is_plain refl refl refl refl refl,
+  (is_plain refl refl refl refl refl, (is_plain refl refl refl refl refl, (is_plain refl refl refl refl refl, tt))),
+)
 
 lets_b : lets_through (a_of (b_at (ready Same))) (link Same) ≡ true
 lets_b = ap (λ (j : Judgement). is_through false (standing_by (a_of (b_at (ready Same))) j None j.row)) (judged Same)
@@ -885,7 +838,8 @@ hears_b : (ahead_step (a_of (b_at (ready Same))) (link Same)).1 ≡ a_of (b_at (
 hears_b = goes_on (a_of (b_at (ready Same))) (link_frame (f Same)) (b_at (heard Same)) lets_b (hears [] free_b Same)
 
 gives_b : newly_delivered_with (a_of (b_at (ready Same))) (link Same) ≡ delivery Same ∷ []
-gives_b = ap (λ (b : Bool). if b then newly_delivered (b_at (ready Same)) (link Same) else []) lets_b ∙ gives [] free_b Same
+gives_b = ap (λ (b : Bool). if b then newly_delivered (b_at (ready Same)) (link Same) else []) lets_b
+    ∙ gives [] free_b Same
 
 abbrev deleted : State
 deleted = effect (heard Same) (RxDel sci_a 0)
@@ -896,8 +850,10 @@ retired = effect deleted (Retire 0)
 abbrev ends_b : Ends
 ends_b = record no_ends { entries = record { key = 0; sci = sci_a; an = 0; last = 1 } ∷ [] }
 
-deletes_b : (ahead_forgetting_step (a_of (b_at (heard Same))) deletes).1 ≡ record (a_of (b_at deleted)) { ended = ends_b }
-deletes_b = command_goes (b_at (heard Same)) (b_at deleted) ends_b (RxDel sci_a 0) refl refl (command_step (b_at (heard Same)) (RxDel sci_a 0) refl) refl
+deletes_b : (ahead_forgetting_step (a_of (b_at (heard Same))) deletes).1 ≡ record (a_of (b_at deleted))
+    { ended = ends_b }
+deletes_b = command_goes (b_at (heard Same)) (b_at deleted) ends_b (RxDel sci_a 0) refl refl
+    (command_step (b_at (heard Same)) (RxDel sci_a 0) refl) refl
 
 -- in the end the key has its fingerprint
 
@@ -916,22 +872,30 @@ abbrev forgotten : State
 forgotten = replacing 0 print retired
 
 deleted_sound : IsSound deleted
-deleted_sound =
-    after_effect (heard Same) (RxDel sci_a 0) refl (record { keys = rx_key_is [] free_b Same refl; tx = tt; rx = channels_are [] tt }) (heard_is_sound [] free_b Same refl)
-
-retired_is : AreKeyRows retired.keys
-retired_is = (record { number = omega arith; bytes = refl; salt = refl; ssci = omega arith; first_unused_least = omega arith; first_unused = omega arith }, refl, tt)
+deleted_sound = commands_sound (RxDel sci_a 0 ∷ []) refl refl (heard_is_sound [] free_b Same refl)
 
 retired_sound : IsSound retired
-retired_sound = after_effect deleted (Retire 0) refl (record { keys = retired_is; tx = tt; rx = channels_are [] tt }) deleted_sound
+retired_sound = commands_sound (Retire 0 ∷ []) refl refl deleted_sound
 
 forgotten_is : AreKeyRows forgotten.keys
-forgotten_is = (record { number = omega arith; bytes = long_b; salt = refl; ssci = omega arith; first_unused_least = omega arith; first_unused = omega arith }, refl, tt)
+forgotten_is = (
+  record {
+    number = omega arith;
+    bytes = long_b;
+    salt = refl;
+    ssci = omega arith;
+    first_unused_least = omega arith;
+    first_unused = omega arith;
+  },
+  refl,
+  tt,
+)
 
 forgotten_sound : IsSound forgotten
 forgotten_sound =
     let it : IsReady forgotten max_frame_len =
-    ready_by_keys retired 0 print (keys_replacing retired.keys 0 print) true max_frame_len (sym can_b) refl tt forgotten_is (record { sound = retired_sound; room = refl }) in
+    ready_by_keys retired 0 print (keys_replacing retired.keys 0 print) true max_frame_len
+    (sym can_b) refl tt forgotten_is (record { sound = retired_sound; room = refl }) in
     it.sound
 
 abbrev k_forgot : Keeping
@@ -957,7 +921,8 @@ abbrev k_two : Keeping
 k_two = record k_forgot { secy = with_two }
 
 installs_2 : (keeping_step k_forgot (command key_2)).1 ≡ k_two
-installs_2 = command_step k_forgot key_2 refl ∙ ap (λ (r : Option Refusal). record k_forgot { secy = unless_refused r forgotten key_2 }) is_fit
+installs_2 = command_step k_forgot key_2 refl
+    ∙ ap (λ (r : Option Refusal). record k_forgot { secy = unless_refused r forgotten key_2 }) is_fit
 
 keys_2 : (ahead_forgetting_step (a_of k_forgot) (command key_2)).1 ≡ a_of k_two
 keys_2 = command_goes k_forgot k_two no_ends key_2 refl not_known installs_2 refl
@@ -970,7 +935,8 @@ two_are = (
 )
 
 two_sound : IsSound with_two
-two_sound = after_effect forgotten key_2 is_fit (record { keys = two_are; tx = tt; rx = channels_are [] tt }) forgotten_sound
+two_sound = after_effect forgotten key_2 is_fit
+    (record { keys = two_are; tx = tt; rx = forgotten_sound.rx }) forgotten_sound
 
 -- and an SA under it
 
@@ -994,47 +960,43 @@ sas_2 = command_goes k_two k_last no_ends sa_2 refl refl creates_2 refl
 
 last_sound : IsSound with_sa_2
 last_sound =
-    after_effect with_two sa_2 refl
-    (record {
+    let row : IsRxRow (sci_a ∷ [])
+    (record { sci = sci_a; an = 0; key = 1; ssci = 1; next = 1; lowest = 1; on = false }) = record {
+      channel = refl;
+      an = omega arith;
+      key = omega arith;
+      ssci = omega arith;
+      next = omega arith;
+      lowest_least = omega arith;
+      lowest = omega arith;
+    } in
+    after_effect with_two sa_2 refl (record {
       keys = two_are;
       tx = tt;
-      rx = channels_are _ (record { channel = refl; an = omega arith; key = omega arith; ssci = omega arith; next = omega arith; lowest_least = omega arith; lowest = omega arith }, refl, tt);
+      rx = record { count = two_sound.rx.count; scis = two_sound.rx.scis; rows = (row, refl, tt) };
     }) two_sound
 
 abbrev last_b : Ahead
 last_b = a_of k_last
 
-b_does_from : (inputs : List KeepingInput) (ds : List Delivery) (last : Ahead) → DoesWith (a_of (b_at (ready Same))) inputs [] ds last →
-    DoesWith (a_of (b_at (start (config_of sci_b)))) (commands Same ++ inputs) [] ds last
-b_does_from inputs ds last rest =
-    with_next (a_of (b_at (start (config_of sci_b)))) (a_of (b_at (with_key Same))) last (key_in Same) (sc_in ∷ rx_sa_in Same ∷ rx_on_in ∷ inputs) [] [] [] ds (rx_start [] free_b) refl refl keys_b
-    (with_next (a_of (b_at (with_key Same))) (a_of (b_at (with_sc Same))) last sc_in (rx_sa_in Same ∷ rx_on_in ∷ inputs) [] [] [] ds (rx_key_sound [] free_b Same refl) refl refl channels_b
-    (with_next (a_of (b_at (with_sc Same))) (a_of (b_at (with_sa Same))) last (rx_sa_in Same) (rx_on_in ∷ inputs) [] [] [] ds (rx_sc_sound [] free_b Same refl) refl refl creates_b
-    (with_next (a_of (b_at (with_sa Same))) (a_of (b_at (ready Same))) last rx_on_in inputs [] [] [] ds (rx_sa_sound [] free_b Same refl) refl refl enables_b rest)))
-
-b_does : DoesWith (a_of (b_at (start (config_of sci_b)))) (commands Same ++ link Same ∷ then_on) [] (delivery Same ∷ []) last_b
+b_does : DoesWith (a_of (b_at (start (config_of sci_b)))) (commands Same ++ link Same ∷ then_on) []
+    (delivery Same ∷ []) last_b
 b_does =
-    let a3 = record (a_of (b_at deleted)) { ended = ends_b } in
-    b_does_from (link Same ∷ then_on) (delivery Same ∷ []) last_b
-    (with_next (a_of (b_at (ready Same))) (a_of (b_at (heard Same))) last_b (link Same) then_on [] [] (delivery Same ∷ []) [] (ready_sound [] free_b Same refl) refl gives_b hears_b
-    (with_next (a_of (b_at (heard Same))) a3 last_b deletes (retires ∷ command key_2 ∷ command sa_2 ∷ []) [] [] [] [] (heard_is_sound [] free_b Same refl) refl refl deletes_b
-    (with_next a3 (a_of k_forgot) last_b retires (command key_2 ∷ command sa_2 ∷ []) [] [] [] [] deleted_sound refl refl retires_b
-    (with_next (a_of k_forgot) (a_of k_two) last_b (command key_2) (command sa_2 ∷ []) [] [] [] [] forgotten_sound refl refl keys_2
-    (with_next (a_of k_two) last_b last_b (command sa_2) [] [] [] [] [] two_sound refl refl sas_2 (with_end last_b last_sound))))))
+    commands_with (set_up Same) (are_new [] free_b Same) refl refl plain_b (rx_start [] free_b)
+    (with_next (ready_sound [] free_b Same refl) refl gives_b hears_b
+    (with_next (heard_is_sound [] free_b Same refl) refl refl deletes_b
+    (with_next deleted_sound refl refl retires_b
+    (with_next forgotten_sound refl refl keys_2 (with_next two_sound refl refl sas_2 (with_end last_b last_sound))))))
 
 b_commands : DoesWith (a_of (b_at (start (config_of sci_b)))) (commands Same) [] [] (a_of (b_at (ready Same)))
-b_commands = b_does_from [] [] (a_of (b_at (ready Same))) (with_end (a_of (b_at (ready Same))) (ready_sound [] free_b Same refl))
+b_commands =
+    commands_with (set_up Same) {inputs = []} (are_new [] free_b Same) refl refl plain_b (rx_start [] free_b)
+    (with_end (a_of (b_at (ready Same))) (ready_sound [] free_b Same refl))
 
 b_whole : IsWhole (a_of (b_at (start (config_of sci_b)))) (commands Same)
 b_whole =
-    whole_next (a_of (b_at (start (config_of sci_b)))) (a_of (b_at (with_key Same))) (key_in Same) (sc_in ∷ rx_sa_in Same ∷ rx_on_in ∷ []) refl refl keys_b
-    (command_goes_on (b_at (start (config_of sci_b))) (b_at (with_key Same)) key_b refl (keyed [] free_b Same) refl)
-    (whole_next (a_of (b_at (with_key Same))) (a_of (b_at (with_sc Same))) sc_in (rx_sa_in Same ∷ rx_on_in ∷ []) refl refl channels_b
-    (command_goes_on (b_at (with_key Same)) (b_at (with_sc Same)) (RxSc sci_a) refl (channelled [] free_b Same) refl)
-    (whole_next (a_of (b_at (with_sc Same))) (a_of (b_at (with_sa Same))) (rx_sa_in Same) (rx_on_in ∷ []) refl refl creates_b
-    (command_goes_on (b_at (with_sc Same)) (b_at (with_sa Same)) (RxSa sci_a 0 0 1 1) refl (creates [] free_b Same) refl)
-    (whole_next (a_of (b_at (with_sa Same))) (a_of (b_at (ready Same))) rx_on_in [] refl refl enables_b
-    (command_goes_on (b_at (with_sa Same)) (b_at (ready Same)) (RxOn sci_a 0) refl (enables [] free_b Same) refl) (whole_end (a_of (b_at (ready Same)))))))
+    commands_whole (set_up Same) {inputs = []} (are_new [] free_b Same) refl plain_b
+    (whole_end (a_of (b_at (ready Same))))
 
 -- ---- all premises of order and origin, of the endpoints that forget
 
@@ -1053,7 +1015,8 @@ inside_a = inside_whole (run_a Same) a_whole
 inside_so_far : inside_of (with_none so_far) ≡ so_far
 inside_so_far = inside_whole so_far b_whole
 
-no_command : (l : Ahead) (c : Command) (d : Delivery) → Contains (delivered_at bytes sci_a 0 (newly_delivered_with l (command c))) d → ⊥
+no_command : (l : Ahead) (c : Command) (d : Delivery) →
+    Contains (delivered_at bytes sci_a 0 (newly_delivered_with l (command c))) d → ⊥
 no_command l c d there = by_test (lets_through l (command c)) there
   where
     by_test : (b : Bool) → Contains (delivered_at bytes sci_a 0 (if b then [] else [])) d → ⊥
@@ -1064,37 +1027,85 @@ keys_of_a : (closing (run_a Same)).secy.keys ≡ key_at no_salt 1 2 ∷ []
 keys_of_a = ap (λ (k : Keeping). k.secy.keys) (does_a Same).ends
 
 keys_so_far : (closing so_far).secy.keys ≡ rx_key Same ∷ []
-keys_so_far = ap (λ (k : Keeping). k.secy.keys) (does_from [] free_b Same [] [] (b_at (ready Same)) (does_end (b_at (ready Same)))).ends
+keys_so_far = ap (λ (k : Keeping). k.secy.keys)
+    (commands_end (set_up Same) (b_at (start (config_of sci_b))) [] (are_new [] free_b Same) refl refl)
 
 agree_so_far : AgreeOnKeys (run_a Same) so_far
 agree_so_far =
-    of_last (λ x y. x.bytes ≡ y.bytes → AgreeOnKey x y) (run_a Same) so_far (key_at no_salt 1 2) (rx_key Same) keys_of_a keys_so_far (λ same. record { suite = refl; salt = λ xpn. refl })
+    of_last (λ x y. x.bytes ≡ y.bytes → AgreeOnKey x y) (run_a Same) so_far (key_at no_salt 1 2)
+    (rx_key Same) keys_of_a keys_so_far (λ same. record { suite = refl; salt = λ xpn. refl })
 
 peers_so_far : ArePeerRuns (with_none (run_a Same) ∷ []) (with_none so_far ∷ [])
 peers_so_far = record {
   agree_a = one_alone AgreeOnKeys (inside_of (with_none (run_a Same)));
   agree_b = one_alone AgreeOnKeys (inside_of (with_none so_far));
-  agree = All-cons (λ p. All (AgreeOnKeys p) (inside_of (with_none so_far) ∷ [])) (inside_of (with_none (run_a Same))) []
+  agree = All-cons (λ p. All (AgreeOnKeys p) (inside_of (with_none so_far) ∷ []))
+      (inside_of (with_none (run_a Same))) []
       (All-cons (AgreeOnKeys (inside_of (with_none (run_a Same)))) (inside_of (with_none so_far)) []
-      (subst (λ (p : Run). AgreeOnKeys p (inside_of (with_none so_far))) (sym inside_a) (subst (AgreeOnKeys (run_a Same)) (sym inside_so_far) agree_so_far))
-      (All-nil (AgreeOnKeys (inside_of (with_none (run_a Same)))))) (All-nil (λ p. All (AgreeOnKeys p) (inside_of (with_none so_far) ∷ [])));
+      (subst (λ (p : Run). AgreeOnKeys p (inside_of (with_none so_far))) (sym inside_a)
+      (subst (AgreeOnKeys (run_a Same)) (sym inside_so_far) agree_so_far))
+      (All-nil (AgreeOnKeys (inside_of (with_none (run_a Same))))))
+      (All-nil (λ p. All (AgreeOnKeys p) (inside_of (with_none so_far) ∷ [])));
   one_a = one_alone IsSameEnd (inside_of (with_none (run_a Same)));
   one_b = one_alone IsSameEnd (inside_of (with_none so_far));
 }
 
-fair_frame : IsFair (with_none (run_a Same) ∷ []) (with_none so_far ∷ []) (closing_of (with_none so_far)) (comes_in B (link Same)) (link Same)
+fair_frame : IsFair (with_none (run_a Same) ∷ []) (with_none so_far ∷ []) (closing_of (with_none so_far))
+    (comes_in B (link Same)) (link Same)
 fair_frame =
     let sends : sent_of_all (with_none (run_a Same) ∷ []) ++ sent_of_all (with_none so_far ∷ []) ≡ sent_1 Zeros ∷ [] =
-    ap (λ (xs : List SentIn). (xs ++ []) ++ sent_of_all (with_none so_far ∷ [])) a_does.sends ∙ ap (λ (xs : List SentIn). sent_1 Zeros ∷ (xs ++ [])) b_commands.sends in
-    let there : IfSome (use_opened (ready Same) (f Same)) (Contains (map seal_of (sent_1 Zeros ∷ []))) = genuine [] free_b Same (use_of Zeros ∷ []) (0, omega arith, refl) in
-    let own : IfSome (use_opened (ready Same) (f Same)) (Contains (map seal_of (sent_of_all (with_none (run_a Same) ∷ []) ++ sent_of_all (with_none so_far ∷ [])))) =
-    subst (λ (xs : List SentIn). IfSome (use_opened (ready Same) (f Same)) (Contains (map seal_of xs))) (sym sends) there in
+    ap (λ (xs : List SentIn). (xs ++ []) ++ sent_of_all (with_none so_far ∷ [])) a_does.sends
+    ∙ ap (λ (xs : List SentIn). sent_1 Zeros ∷ (xs ++ [])) b_commands.sends in
+    let there : IfSome (use_opened (ready Same) (f Same)) (Contains (map seal_of (sent_1 Zeros ∷ []))) =
+    genuine [] free_b Same (use_of Zeros ∷ []) (0, omega arith, refl) in
+    let own : IfSome (use_opened (ready Same) (f Same))
+    (Contains (map seal_of (sent_of_all (with_none (run_a Same) ∷ []) ++ sent_of_all (with_none so_far ∷ [])))) =
+    subst (λ (xs : List SentIn). IfSome (use_opened (ready Same) (f Same)) (Contains (map seal_of xs)))
+    (sym sends) there in
     record {
-      order = subst (λ (l : Ahead). HasStrictOrder l.k.secy) (sym b_commands.ends) (record { mode = refl; replay = refl; window = refl });
+      order = subst (λ (l : Ahead). HasStrictOrder l.k.secy) (sym b_commands.ends)
+          (record { mode = refl; replay = refl; window = refl });
       octets = octets Zeros;
-      genuine = subst (λ (l : Ahead). IsGenuineFrom (sent_of_all (with_none (run_a Same) ∷ []) ++ sent_of_all (with_none so_far ∷ [])) l (link Same)) (sym b_commands.ends) own;
+      genuine = subst (λ (l : Ahead). IsGenuineFrom
+          (sent_of_all (with_none (run_a Same) ∷ []) ++ sent_of_all (with_none so_far ∷ [])) l (link Same))
+          (sym b_commands.ends) own;
       peers = peers_so_far;
     }
+
+-- nothing is asked at an input of A, and at a command of B
+abbrev IsFairB : List Happening → Happening → Type 0
+IsFairB = IsFairHere never B bytes sci_a 0
+
+fair_a : (inputs : List KeepingInput) (before more : List Happening) →
+    AtEach IsFairB (before ++ map (comes_in A) inputs) more →
+    AtEach IsFairB before (map (comes_in A) inputs ++ more)
+fair_a [] before more rest = subst (λ (hs : List Happening). AtEach IsFairB hs more) (append-nil before) rest
+fair_a (input ∷ inputs) before more rest = (
+  (λ same. cc),
+  fair_a inputs (before ++ comes_in A input ∷ []) more
+      (subst (λ (hs : List Happening). AtEach IsFairB hs more)
+      (sym (append_assoc before (comes_in A input ∷ []) (map (comes_in A) inputs))) rest),
+)
+
+fair_b : (cs : List Command) (before more : List Happening) →
+    AtEach IsFairB (before ++ map (comes_in B) (map command cs)) more →
+    AtEach IsFairB before (map (comes_in B) (map command cs) ++ more)
+fair_b [] before more rest = subst (λ (hs : List Happening). AtEach IsFairB hs more) (append-nil before) rest
+fair_b (c ∷ cs) before more rest = (
+  (λ same. by_run (last_of (runs_at never B before))),
+  fair_b cs (before ++ comes_in B (command c) ∷ []) more
+      (subst (λ (hs : List Happening). AtEach IsFairB hs more)
+      (sym (append_assoc before (comes_in B (command c) ∷ []) (map (comes_in B) (map command cs)))) rest),
+)
+  where
+    by_run : (o : Option RunWith) → IfSome o (λ r. (d : Delivery) →
+        Contains (delivered_at bytes sci_a 0 (newly_delivered_with (closing_of r) (command c))) d →
+        IsFair (runs_at never A before) (runs_at never B before) (closing_of r) (comes_in B (command c)) (command c))
+    by_run None = tt
+    by_run (Some r) = λ d there. absurd (no_command (closing_of r) c d there)
+
+abbrev b_begun : List Happening
+b_begun = blocks ((A, run_a Same) ∷ []) ++ begins B (config_of sci_b) (journal false []) ∷ []
 
 abbrev forgets_its : List EndRun
 forgets_its = (A, run_a Same) ∷ (B, run_f) ∷ []
@@ -1106,58 +1117,21 @@ pub record MeetsAllForgetting (its : List EndRun) (sent delivered : List (List �
   pub kept_sent : AllPairs (KeepsSent bytes) (runs_at never A (blocks its))
   pub kept_delivered : AllPairs (KeepsDelivered bytes sci_a 0) (runs_at never B (blocks its))
   pub sends : map numbered_sent (sent_under bytes (sent_of_all (runs_at never A (blocks its)))) ≡ sent
-  pub delivers : map numbered_delivery (delivered_at bytes sci_a 0 (delivered_of_all (runs_at never B (blocks its)))) ≡ delivered
-  pub keys : (closing_of (with_none run_f)).k.secy.keys ≡ record (rx_key Same) { bytes = print; retired = true } ∷ record (rx_key Same) { number = 1; bytes = octets_2 } ∷ []
+  pub delivers : map numbered_delivery (delivered_at bytes sci_a 0 (delivered_of_all (runs_at never B (blocks its)))) ≡
+      delivered
+  pub keys : (closing_of (with_none run_f)).k.secy.keys ≡ record (rx_key Same)
+      { bytes = print; retired = true } ∷ record (rx_key Same) { number = 1; bytes = octets_2 } ∷ []
 
 pub extended_forgets : MeetsAllForgetting forgets_its ((1 ∷ client 1) ∷ []) ((1 ∷ client 1) ∷ [])
 extended_forgets = record {
   sounds = by_end;
   fair = (
     tt,
-    (
-      (λ same. cc),
-      (
-        (λ same. cc),
-        (
-          (λ same. cc),
-          (
-            (λ same. cc),
-            (
-              (λ same. cc),
-              (
-                tt,
-                (
-                  (λ same d there. absurd (no_command (closing_of (with_none (run_with (config_of sci_b) (journal false []) []))) key_b d there)),
-                  (
-                    (λ same d there. absurd (no_command (closing_of (with_none (run_with (config_of sci_b) (journal false []) (key_in Same ∷ [])))) (RxSc sci_a) d there)),
-                    (
-                      (λ same d there. absurd (no_command (closing_of (with_none (run_with (config_of sci_b) (journal false []) (key_in Same ∷ sc_in ∷ [])))) (RxSa sci_a 0 0 1 1) d there)),
-                      (
-                        (λ same d there. absurd (no_command (closing_of (with_none (run_with (config_of sci_b) (journal false []) (key_in Same ∷ sc_in ∷ rx_sa_in Same ∷ [])))) (RxOn sci_a 0) d there)),
-                        (
-                          (λ same d there. fair_frame),
-                          (
-                            (λ same d there. absurd (no_command (closing_of (with_none (run_with (config_of sci_b) (journal false []) (commands Same ++ link Same ∷ [])))) (RxDel sci_a 0) d there)),
-                            (
-                              (λ same d there. absurd (no_command (closing_of (with_none (run_with (config_of sci_b) (journal false []) (commands Same ++ link Same ∷ deletes ∷ [])))) (Retire 0) d there)),
-                              (
-                                (λ same d there. absurd (no_command (closing_of (with_none (run_with (config_of sci_b) (journal false []) (commands Same ++ link Same ∷ deletes ∷ retires ∷ [])))) key_2 d there)),
-                                (
-                                  (λ same d there. absurd (no_command (closing_of (with_none (run_with (config_of sci_b) (journal false []) (commands Same ++ link Same ∷ deletes ∷ retires ∷ command key_2 ∷ [])))) sa_2 d there)),
-                                  tt,
-                                ),
-                              ),
-                            ),
-                          ),
-                        ),
-                      ),
-                    ),
-                  ),
-                ),
-              ),
-            ),
-          ),
-        ),
+    fair_a (sends Zeros) (begins A (config_of sci_a) (journal false []) ∷ []) (blocks ((B, run_f) ∷ [])) (
+      tt,
+      fair_b (set_up Same) b_begun (map (comes_in B) (link Same ∷ then_on)) (
+        (λ same d there. fair_frame),
+        fair_b then_commands (b_begun ++ map (comes_in B) (commands Same ++ link Same ∷ [])) [] tt,
       ),
     ),
   );

@@ -1,5 +1,5 @@
--- A run in which a key is installed and retired, with the option of reserving ahead: the endpoint that forgets keys is sound
--- at each moment. In the end the key has its fingerprint instead of its octets.
+-- A run in which a key is installed and retired, with the option of reserving ahead: the endpoint that forgets keys is
+-- sound at each moment. In the end the key has its fingerprint instead of its octets.
 use Rattle.std.proofs.Common.{◌≡◌, ℕ, zero, suc, Bool, true, false, List, [], ◌∷◌, length, refl, ap, sym, subst, arith}
 use Rattle.std.specs.Prelude.{if◌then◌else◌}
 use Rattle.sha2.specs.Sha256.{compress, digest_bytes, first_words, hash_after, rounds, schedule, sha256}
@@ -12,7 +12,6 @@ use Rattle.macsec_secy.specs.GivenUp.{replacing}
 use Rattle.macsec_secy.specs.Sound.{IsReady, IsSound}
 use Rattle.macsec_secy.specs.State.{State, start}
 use Rattle.macsec_secy.proofs.KeyReplaced.{ready_by_keys}
-use Rattle.macsec_secy.proofs.StaysSound.{after_effect, at_start}
 use Rattle.macsec_reserve.specs.Forgetting.{fingerprint, forgetting}
 use Rattle.macsec_reserve.specs.Histories.{Run}
 use Rattle.macsec_reserve.specs.Keeping.{Keeping, KeepingInput}
@@ -20,8 +19,8 @@ use Rattle.macsec_counterexamples.proofs.Link.Exchange.{key_row}
 use Rattle.macsec_counterexamples.proofs.Link.WorkedEnds.{bytes, gcm_b, new_key, no_salt}
 use Rattle.macsec_counterexamples.proofs.Restarts.Goes.{command}
 use Rattle.macsec_counterexamples.proofs.Restarts.Journals.{journal, salt}
-use Rattle.macsec_counterexamples.proofs.Restarts.Receivers.{keys_are}
-use Rattle.macsec_counterexamples.proofs.Restarts.Senders.{kept, none_are, other_sci}
+use Rattle.macsec_counterexamples.proofs.Restarts.Senders.{kept}
+use Rattle.macsec_counterexamples.proofs.Restarts.Tables.{begins_sound, commands_sound}
 use Rattle.macsec_restarts.specs.AheadForgetting.{IsSoundForgetting}
 use Rattle.macsec_restarts.specs.ForgettingOrder.{closing_forgetting}
 use Rattle.macsec_restarts.proofs.Examples.TwoRunsEach.{reads}
@@ -47,16 +46,13 @@ abbrev forgotten : State
 forgotten = replacing 0 octets retired
 
 start_sound : IsSound (start gcm_b)
-start_sound = at_start gcm_b refl other_sci (record { keys = tt; tx = tt; rx = none_are })
+start_sound = begins_sound gcm_b refl
 
 key_sound : IsSound with_key
-key_sound = after_effect (start gcm_b) (Key (new_key no_salt 2)) refl (record { keys = keys_are; tx = tt; rx = none_are }) start_sound
-
-retired_is : AreKeyRows retired.keys
-retired_is = (record { number = omega arith; bytes = refl; salt = refl; ssci = omega arith; first_unused_least = omega arith; first_unused = omega arith }, refl, tt)
+key_sound = commands_sound (Key (new_key no_salt 2) ∷ []) refl refl start_sound
 
 retired_sound : IsSound retired
-retired_sound = after_effect with_key (Retire 0) refl (record { keys = retired_is; tx = tt; rx = none_are }) key_sound
+retired_sound = commands_sound (Retire 0 ∷ []) refl refl key_sound
 
 -- no key has the fingerprint, and it is as long as the key
 can : can_replace retired.keys 0 octets ≡ true
@@ -68,12 +64,24 @@ unfolding first_words schedule rounds compress hash_after digest_bytes sha256
 long = refl
 
 forgotten_is : AreKeyRows forgotten.keys
-forgotten_is = (record { number = omega arith; bytes = long; salt = refl; ssci = omega arith; first_unused_least = omega arith; first_unused = omega arith }, refl, tt)
+forgotten_is = (
+  record {
+    number = omega arith;
+    bytes = long;
+    salt = refl;
+    ssci = omega arith;
+    first_unused_least = omega arith;
+    first_unused = omega arith;
+  },
+  refl,
+  tt,
+)
 
 forgotten_sound : IsSound forgotten
 forgotten_sound =
     let it : IsReady forgotten max_frame_len =
-    ready_by_keys retired 0 octets (keys_replacing retired.keys 0 octets) true max_frame_len (sym can) refl tt forgotten_is (record { sound = retired_sound; room = refl }) in
+    ready_by_keys retired 0 octets (keys_replacing retired.keys 0 octets) true max_frame_len
+    (sym can) refl tt forgotten_is (record { sound = retired_sound; room = refl }) in
     it.sound
 
 -- ---- the run

@@ -6,8 +6,15 @@ use Rattle.macsec_commands.specs.declared.event.End.{End}
 use Rattle.macsec_commands.specs.declared.event.End.TheVariants.{A, B}
 use Rattle.macsec_reserve.specs.Histories.{Run}
 use Rattle.macsec_reserve.specs.Keeping.{Keeping, KeepingInput, KeepingOutput, endpoint_input, keeping_step}
-use Rattle.macsec_secy.specs.Step.{Input}
+use Rattle.macsec_secy.specs.Step.{Input, operator_command}
 use Rattle.macsec_ahead.specs.Ahead.{Ahead, Standing, ahead_after, ahead_by, ahead_step, before_this_run, begins_again, closing_with, ended_after, is_through, lets_through, not_yet, opening_with, passes, run_inside, standing, through}
+use Rattle.macsec_commands.specs.declared.command.Command.{Command}
+use Rattle.macsec_secy.specs.Commands.{effect}
+use Rattle.macsec_ahead.specs.Ends.{Ends}
+use Rattle.macsec_counterexamples.proofs.Restarts.Goes.{AreNew, carried_step, command}
+use Rattle.macsec_counterexamples.proofs.Restarts.Tables.{after_commands, first_carried, none_refused}
+use Rattle.macsec_restarts.specs.AheadRuns.{accepted_from, newly_accepted}
+use Rattle.macsec_restarts.specs.Delivered.{Delivery}
 use Rattle.macsec_restarts.specs.AheadOrder.{is_inside, reaches_inside}
 use Rattle.macsec_restarts.specs.Happenings.{Happening, begins, comes_in, last_run, passing_from, runs_of, same_end}
 use Rattle.macsec_restarts.proofs.AheadInside.{stays}
@@ -17,42 +24,79 @@ use Rattle.macsec_restarts.proofs.Pushed.{last_run-push, last_run-with_last, run
 
 -- ---- a run, input by input: what is let through, and the last state
 
-pub record Through (a : Ahead) (inputs inner : List KeepingInput) (last : Ahead) : Type 0 where
+pub record Through (a : Ahead) (inputs inner : List KeepingInput) (ds : List Delivery) (last : Ahead) : Type 0 where
   pub is : through a inputs ≡ inner
+  pub accepts : accepted_from a inputs ≡ ds
   pub ends : ahead_after a inputs ≡ last
 
-pub through_end : (a : Ahead) → Through a [] [] a
-through_end a = record { is = refl; ends = refl }
+pub through_end : (a : Ahead) → Through a [] [] [] a
+through_end a = record { is = refl; accepts = refl; ends = refl }
 
-pub passes_next : (a after last : Ahead) (input : KeepingInput) (inputs inner : List KeepingInput) → lets_through a input ≡ true → (ahead_step a input).1 ≡ after →
-    Through after inputs inner last → Through a (input ∷ inputs) (input ∷ inner) last
-passes_next a after last input inputs inner lets is_after rest = record {
-  is = ap (λ (b : Bool). if b then input ∷ through (ahead_step a input).1 inputs else through (ahead_step a input).1 inputs) lets
+pub passes_next : {a after last : Ahead} {input : KeepingInput} {inputs inner : List KeepingInput}
+    {new ds : List Delivery} →
+    lets_through a input ≡ true → newly_accepted a input ≡ new → (ahead_step a input).1 ≡ after →
+    Through after inputs inner ds last → Through a (input ∷ inputs) (input ∷ inner) (new ++ ds) last
+passes_next {a} {input} {inputs} {new} lets is_new is_after rest = record {
+  is = ap (λ (b : Bool). if b then input ∷ through (ahead_step a input).1 inputs
+      else through (ahead_step a input).1 inputs) lets
       ∙ ap (λ (x : Ahead). input ∷ through x inputs) is_after ∙ ap (λ is. input ∷ is) rest.is;
+  accepts = ap (λ (xs : List Delivery). xs ++ accepted_from (ahead_step a input).1 inputs) is_new
+      ∙ ap (λ (x : Ahead). new ++ accepted_from x inputs) is_after
+      ∙ ap (λ (xs : List Delivery). new ++ xs) rest.accepts;
   ends = ap (λ (x : Ahead). ahead_after x inputs) is_after ∙ rest.ends;
 }
 
-pub drops_next : (a last : Ahead) (input : KeepingInput) (inputs inner : List KeepingInput) → lets_through a input ≡ false → Through a inputs inner last → Through a (input ∷ inputs) inner last
-drops_next a last input inputs inner lets rest = record {
-  is = ap (λ (b : Bool). if b then input ∷ through (ahead_step a input).1 inputs else through (ahead_step a input).1 inputs) lets
+pub drops_next : {a last : Ahead} {input : KeepingInput} {inputs inner : List KeepingInput} {ds : List Delivery} →
+    lets_through a input ≡ false → newly_accepted a input ≡ [] → Through a inputs inner ds last →
+    Through a (input ∷ inputs) inner ds last
+drops_next {a} {input} {inputs} lets none rest = record {
+  is = ap (λ (b : Bool). if b then input ∷ through (ahead_step a input).1 inputs
+      else through (ahead_step a input).1 inputs) lets
       ∙ ap (λ (x : Ahead). through x inputs) (stays a input lets) ∙ rest.is;
+  accepts = ap (λ (xs : List Delivery). xs ++ accepted_from (ahead_step a input).1 inputs) none
+      ∙ ap (λ (x : Ahead). accepted_from x inputs) (stays a input lets) ∙ rest.accepts;
   ends = ap (λ (x : Ahead). ahead_after x inputs) (stays a input lets) ∙ rest.ends;
 }
 
 -- the state after an input that is let through
-by_standing : (again : Bool) (it : Standing) (a : Ahead) (input : Input) (answer : KeepingOutput × Keeping) → is_through again it ≡ true →
+by_standing : (again : Bool) (it : Standing) (a : Ahead) (input : Input) (answer : KeepingOutput × Keeping) →
+    is_through again it ≡ true →
     (ahead_by again it a input answer).1 ≡ record a { k = answer.1; ended = ended_after a input answer }
 by_standing true it a input answer is = cc
 by_standing false passes a input answer is = refl
 by_standing false (not_yet at) a input answer is = cc
 by_standing false (before_this_run at) a input answer is = cc
 
-pub goes_on : (a : Ahead) (input : Input) (k : Keeping) → lets_through a (endpoint_input input) ≡ true → (keeping_step a.k (endpoint_input input)).1 ≡ k →
-    (ahead_step a (endpoint_input input)).1 ≡ record a { k = k; ended = ended_after a input ((keeping_step a.k (endpoint_input input)).0, k) }
+pub goes_on : (a : Ahead) (input : Input) (k : Keeping) → lets_through a (endpoint_input input) ≡ true →
+    (keeping_step a.k (endpoint_input input)).1 ≡ k →
+    (ahead_step a (endpoint_input input)).1 ≡ record a
+    { k = k; ended = ended_after a input ((keeping_step a.k (endpoint_input input)).0, k) }
 goes_on a input k lets is =
     let answer = keeping_step a.k (endpoint_input input) in
     by_standing (begins_again a input) (standing a input) a input answer lets
     ∙ ap (λ (x : Keeping). record a { k = x; ended = ended_after a input (answer.0, x) }) is
+
+-- commands that pass and end no SA
+abbrev pub ArePassed : Ahead → List Command → Type 0
+ArePassed a [] = Unit {0}
+ArePassed a (c ∷ cs) =
+    let k = record a.k { secy = effect a.k.secy c } in
+    (lets_through a (command c) ≡ true)
+    × (ended_after a (operator_command c) ((keeping_step a.k (command c)).0, k) ≡ a.ended)
+    × ArePassed (record a { k = k }) cs
+
+pub commands_pass : (cs : List Command) {a last : Ahead} {inputs inner : List KeepingInput} {ds : List Delivery} →
+    AreNew a.k cs → none_refused a.k.secy cs ≡ true → ArePassed a cs →
+    Through (record a { k = record a.k { secy = after_commands a.k.secy cs } }) inputs inner ds last →
+    Through a (map command cs ++ inputs) (map command cs ++ inner) ds last
+commands_pass [] new none pass rest = rest
+commands_pass (c ∷ cs) {a} new none pass rest =
+    let it = first_carried a.k.secy c cs none in
+    let k = record a.k { secy = effect a.k.secy c } in
+    passes_next {new = []} pass.0 refl
+    (goes_on a (operator_command c) k pass.0 (carried_step a.k c new.0 it.0)
+    ∙ ap (λ (e : Ends). record a { k = k; ended = e }) pass.1)
+    (commands_pass cs new.1 it.1 pass.2 rest)
 
 -- ---- a list of runs
 
@@ -61,15 +105,21 @@ own_end A = refl
 own_end B = refl
 
 module _ (ahead : End → Bool) where
-  inputs_inside : (e : End) (inputs : List KeepingInput) (before more : List Happening) (run : Run) (a : Ahead) → last_run (runs_of e before) ≡ Some run → closing_with (ahead e) run ≡ a →
-      passing_from (is_inside ahead) before (map (comes_in e) inputs ++ more) ≡ map (comes_in e) (through a inputs) ++ passing_from (is_inside ahead) (before ++ map (comes_in e) inputs) more
-  inputs_inside e [] before more run a last is = ap (λ hs. passing_from (is_inside ahead) hs more) (sym (append-nil before))
+  inputs_inside : (e : End) (inputs : List KeepingInput) (before more : List Happening) (run : Run) (a : Ahead) →
+      last_run (runs_of e before) ≡ Some run → closing_with (ahead e) run ≡ a →
+      passing_from (is_inside ahead) before (map (comes_in e) inputs ++ more) ≡
+      map (comes_in e) (through a inputs) ++ passing_from (is_inside ahead) (before ++ map (comes_in e) inputs) more
+  inputs_inside e [] before more run a last is =
+      ap (λ hs. passing_from (is_inside ahead) hs more) (sym (append-nil before))
   inputs_inside e (input ∷ inputs) before more run a last is =
-      by_test (lets_through a input) (ap (reaches_inside (ahead e) input) last ∙ ap (λ (x : Ahead). lets_through x input) is)
+      by_test (lets_through a input) (ap (reaches_inside (ahead e) input) last
+      ∙ ap (λ (x : Ahead). lets_through x input) is)
       (inputs_inside e inputs (before ++ h ∷ []) more (with_input input run) (ahead_step a input).1
-      (ap last_run (runs_of-input e e input before (own_end e)) ∙ last_run-with_last input (runs_of e before) ∙ ap (option_map (with_input input)) last)
+      (ap last_run (runs_of-input e e input before (own_end e)) ∙ last_run-with_last input (runs_of e before)
+      ∙ ap (option_map (with_input input)) last)
       (closing_with-input (ahead e) input run ∙ ap (λ (x : Ahead). (ahead_step x input).1) is)
-      ∙ ap (λ hs. map (comes_in e) (through (ahead_step a input).1 inputs) ++ passing_from (is_inside ahead) hs more) (append_assoc before (h ∷ []) (map (comes_in e) inputs)))
+      ∙ ap (λ hs. map (comes_in e) (through (ahead_step a input).1 inputs) ++ passing_from (is_inside ahead) hs more)
+      (append_assoc before (h ∷ []) (map (comes_in e) inputs)))
     where
       h : Happening
       h = comes_in e input
@@ -80,22 +130,29 @@ module _ (ahead : End → Bool) where
       next : List Happening
       next = passing_from (is_inside ahead) (before ++ h ∷ []) (map (comes_in e) inputs ++ more)
 
-      by_test : (b : Bool) → is_inside ahead before h ≡ b → next ≡ map (comes_in e) (through (ahead_step a input).1 inputs) ++ later →
-          (if is_inside ahead before h then h ∷ next else next) ≡ map (comes_in e) (if b then input ∷ through (ahead_step a input).1 inputs else through (ahead_step a input).1 inputs) ++ later
+      by_test : (b : Bool) → is_inside ahead before h ≡ b →
+          next ≡ map (comes_in e) (through (ahead_step a input).1 inputs) ++ later →
+          (if is_inside ahead before h then h ∷ next else next) ≡
+          map (comes_in e) (if b then input ∷ through (ahead_step a input).1 inputs
+          else through (ahead_step a input).1 inputs) ++ later
       by_test true reaches rest = ap (λ (c : Bool). if c then h ∷ next else next) reaches ∙ ap (λ hs. h ∷ hs) rest
       by_test false reaches rest = ap (λ (c : Bool). if c then h ∷ next else next) reaches ∙ rest
 
   abbrev pub inside_of : EndRun → EndRun
   inside_of it = (it.0, run_inside (ahead it.0) it.1)
 
-  pub inside_blocks : (before : List Happening) (its : List EndRun) → passing_from (is_inside ahead) before (blocks its) ≡ blocks (map inside_of its)
+  pub inside_blocks : (before : List Happening) (its : List EndRun) →
+      passing_from (is_inside ahead) before (blocks its) ≡ blocks (map inside_of its)
   inside_blocks before [] = refl
   inside_blocks before (it ∷ more) =
       let first = begins it.0 it.1.config it.1.journal in
       let new = run_with it.1.config it.1.journal [] in
       let last : last_run (runs_of it.0 (before ++ first ∷ [])) ≡ Some new =
-      ap last_run (runs_of-begins it.0 it.0 it.1.config it.1.journal before ∙ ap (λ (b : Bool). runs_of it.0 before ++ (if b then new ∷ [] else [])) (own_end it.0))
+      ap last_run (runs_of-begins it.0 it.0 it.1.config it.1.journal before
+      ∙ ap (λ (b : Bool). runs_of it.0 before ++ (if b then new ∷ [] else [])) (own_end it.0))
       ∙ last_run-push (runs_of it.0 before) new in
       ap (λ hs. first ∷ hs)
-      (inputs_inside it.0 it.1.inputs (before ++ first ∷ []) (blocks more) new (opening_with (ahead it.0) it.1) last refl
-      ∙ ap (λ hs. map (comes_in it.0) (through (opening_with (ahead it.0) it.1) it.1.inputs) ++ hs) (inside_blocks ((before ++ first ∷ []) ++ map (comes_in it.0) it.1.inputs) more))
+      (inputs_inside it.0 it.1.inputs (before ++ first ∷ []) (blocks more) new
+      (opening_with (ahead it.0) it.1) last refl
+      ∙ ap (λ hs. map (comes_in it.0) (through (opening_with (ahead it.0) it.1) it.1.inputs) ++ hs)
+      (inside_blocks ((before ++ first ∷ []) ++ map (comes_in it.0) it.1.inputs) more))

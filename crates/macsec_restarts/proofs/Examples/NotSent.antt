@@ -1,5 +1,5 @@
--- Runs that meet all premises of order and once but one, and in which B delivers a client frame that A never sent: an ICV
--- is forged; B does not validate; B sent the frame itself, in an earlier run with another SCI.
+-- Runs that meet all premises of order and once but one, and in which B delivers a client frame that A never sent: an
+-- ICV is forged; B does not validate; B sent the frame itself, in an earlier run with another SCI.
 use Rattle.std.proofs.Common.{◌≡◌, ℕ, ◌<◌, true, false, List, [], ◌∷◌, ◌++◌, map, refl, ap, sym, subst, ◌∙◌, arith, All, AllPairs, Contains, append-nil}
 use Rattle.std.specs.Prelude.{slice_get, Some}
 use Rattle.std.proofs.lemmas.List.Elements.{All-cons, All-nil}
@@ -12,36 +12,36 @@ use Rattle.macsec_commands.specs.declared.event.End.TheVariants.{A, B}
 use Rattle.macsec_commands.specs.declared.mode.Mode.TheVariants.{Disabled}
 use Rattle.macsec_rx.specs.declared.Verdict.TheVariants.{Unchecked}
 use Rattle.macsec_rx.specs.Judge.{Judgement, at_row}
-use Rattle.macsec_secy.specs.Commands.{effect}
 use Rattle.macsec_secy.specs.Reception.{judgement_of, state_after_receiving}
 use Rattle.macsec_secy.specs.Sound.{IsSound}
-use Rattle.macsec_secy.specs.State.{State}
-use Rattle.macsec_secy.specs.Step.{link_frame, step}
-use Rattle.macsec_secy.proofs.StaysSound.{after_effect}
+use Rattle.macsec_secy.specs.State.{State, start}
 use Rattle.macsec_link.specs.Origin.{IsSubsequence}
 use Rattle.macsec_reserve.specs.Histories.{KeepsDurable, Run, SameSalt, opening, sealed_in_all}
 use Rattle.macsec_reserve.specs.Journal.{highest, sending_name}
-use Rattle.macsec_reserve.specs.Keeping.{Keeping, KeepingInput, keeping_after, keeping_step}
+use Rattle.macsec_reserve.specs.Keeping.{Keeping, KeepingInput}
 use Rattle.macsec_reserve.proofs.HighestOf.{highest_of_one}
 use Rattle.macsec_reserve.proofs.Pairs.{no_pairs, one_alone}
 use Rattle.macsec_counterexamples.proofs.Link.Exchange.{client, key_row}
 use Rattle.macsec_counterexamples.proofs.Link.TracedSteps.{genuine_at}
 use Rattle.macsec_counterexamples.proofs.Link.WorkedEnds.{bytes, gcm_b, rx_from, sci_a, sci_b}
-use Rattle.macsec_counterexamples.proofs.Restarts.Goes.{command, command_step}
+use Rattle.macsec_counterexamples.proofs.Restarts.Goes.{AreNew, command, is_new}
+use Rattle.macsec_counterexamples.proofs.Restarts.Tables.{after_commands, begins_sound, commands_sound}
+use Rattle.macsec_commands.specs.declared.command.Command.{Command}
 use Rattle.macsec_counterexamples.proofs.Restarts.Journals.{journal, salt}
-use Rattle.macsec_counterexamples.proofs.Restarts.Receivers.{keys_are, name_of}
-use Rattle.macsec_restarts.specs.Delivered.{Delivery, delivered_at, delivered_in_all, newly_delivered}
+use Rattle.macsec_counterexamples.proofs.Restarts.Receivers.{name_of}
+use Rattle.macsec_restarts.specs.Delivered.{Delivery, delivered_at, delivered_in_all}
 use Rattle.macsec_restarts.specs.Happenings.{runs_of}
 use Rattle.macsec_restarts.specs.Order.{SavedIn}
 use Rattle.macsec_restarts.specs.Sent.{SentIn}
-use Rattle.macsec_restarts.proofs.Examples.Blocks.{AreOwn, AreSteps, EndRun, Told, after_own, blocks, no_step, runs_of-blocks, step_next, told_end, told_next}
+use Rattle.macsec_restarts.proofs.Examples.Blocks.{AreOwn, AreSteps, EndRun, IsStep, Told, after_own, blocks, commands_steps, commands_told, first_link, is_strict, no_step, heard_by, runs_of-blocks, step_link, told_end, told_link}
 use Rattle.macsec_restarts.proofs.Examples.Histories.{IsRunOf, agree, nothing_saved, of_keys, peers, refuted, run_told, seals_are}
 use Rattle.macsec_restarts.proofs.Examples.Premises.{AgreeAtBothBut, AgreeInRunsBut, ArePeersBut, IsHistoryBut, IsNotForged, IsSameEndBut, IsStrict, KeepsSalt, KeepsSci, KeepsSuite, LawWithout, Premise, keys_but}
 use Rattle.macsec_restarts.proofs.Examples.Receivers as receiver
 use Rattle.macsec_restarts.proofs.Examples.Tags.{octets_1}
 use Rattle.macsec_restarts.proofs.SoundRuns.{IsSoundRun}
 use Rattle.macsec_restarts.proofs.Examples.Senders as sender
-use Rattle.macsec_restarts.proofs.Examples.TwoRunsEach.{Facts, both, facts_a, is_durable, is_free, none_is, opens_1, pair, reads, reserved_2, reserved_is, run_a, t, use_1}
+use Rattle.macsec_restarts.proofs.Examples.TwoRunsEach.{Facts, both, facts_of, facts_a, is_durable, is_free, none_is, opens_1, pair, reads, reserved_2, reserved_is, run_a, t, use_1}
+use Rattle.macsec_reserve.specs.declared.reservation.Reservation.{Reservation}
 
 -- nothing is a subsequence of no frames but no frames
 pub not_of_none : (x : List ℕ) → IsSubsequence (x ∷ []) [] → ⊥
@@ -53,13 +53,17 @@ not_of_none x it = by_places it.0 it.2
 
 -- ---- one run of B, and none of A
 
-module _ (left_out : Premise) (b : Run) (last : Keeping) (told : Told (opening b) b.inputs [] (receiver.delivery 1 ∷ []) last) (of_sci : b.config.sci ≡ sci_b)
+module _ (left_out : Premise) (b : Run) (last : Keeping)
+    (told : Told (opening b) b.inputs [] (receiver.delivery 1 ∷ []) last) (of_sci : b.config.sci ≡ sci_b)
     (keys : last.secy.keys ≡ key_row 2 1 ∷ []) where
-  alone : ((uses : List CipherUse) → AreSteps left_out bytes sci_a 0 (opening b) [] uses b.inputs) → LawWithout left_out (blocks ((B, b) ∷ [])) → ⊥
+  alone : ((uses : List CipherUse) → AreSteps left_out bytes sci_a 0 (opening b) [] uses b.inputs) →
+      LawWithout left_out (blocks ((B, b) ∷ [])) → ⊥
   alone steps =
-      refuted left_out ((B, b) ∷ []) [] (receiver.delivery 1 ∷ []) (((λ d. nothing_saved b.journal), steps (sealed_in_all [] ++ sealed_in_all [])), tt)
+      refuted left_out ((B, b) ∷ []) [] (receiver.delivery 1 ∷ [])
+      (((λ d. nothing_saved b.journal), steps (sealed_in_all [] ++ sealed_in_all [])), tt)
       (peers left_out ((B, b) ∷ []) (All-nil (IsRunOf 1 sci_a)) (no_pairs SameSalt) (no_pairs KeepsDurable)
-      (All-cons (IsRunOf 2 sci_b) b [] (run_told 2 1 sci_b b [] (receiver.delivery 1 ∷ []) last of_sci keys told) (All-nil (IsRunOf 2 sci_b))) (one_alone SameSalt b) (one_alone KeepsDurable b))
+      (All-cons (IsRunOf 2 sci_b) b [] (run_told 2 1 sci_b b [] (receiver.delivery 1 ∷ []) last of_sci keys told)
+      (All-nil (IsRunOf 2 sci_b))) (one_alone SameSalt b) (one_alone KeepsDurable b))
       refl (ap (λ (xs : List Delivery). xs ++ []) told.delivers) (not_of_none (1 ∷ client 1))
 
 -- ---- it receives the frame, whose ICV is valid
@@ -73,49 +77,41 @@ free_b = is_free [] (name_of (salt false)) 1 none_is (omega arith)
 abbrev run_with : List KeepingInput → Run
 run_with inputs = record { journal = journal false []; config = gcm_b; inputs = receiver.commands false ++ inputs }
 
-pub commands_end : (inputs : List KeepingInput) → keeping_after (opening (run_with inputs)) (receiver.commands false) ≡ at_b (receiver.ready false)
-commands_end inputs = (receiver.told (salt false) (reads []) false [] [] (at_b (receiver.ready false)) free_b (told_end (at_b (receiver.ready false)) (receiver.ready_sound false))).ends
-
 abbrev pub plain : Run
 plain = run_with (receiver.link 1 t ∷ [])
 
-hears : (keeping_step (at_b (receiver.ready false)) (receiver.link 1 t)).1 ≡ at_b (receiver.heard_1 t)
-hears = receiver.next_is (salt false) (reads []) (receiver.ready false) 1 t receiver.accepts_1 (receiver.is_heard_1 t opens_1)
+abbrev f1 : List ℕ
+f1 = receiver.frame 1 t
 
-gives : newly_delivered (at_b (receiver.ready false)) (receiver.link 1 t) ≡ receiver.delivery 1 ∷ []
-gives = receiver.delivers (at_b (receiver.ready false)) 1 t receiver.accepts_1 (receiver.judged_1 t opens_1)
+-- the step of the frame
+pub accepts_now : (left_out : Premise) (before : List Reservation) (uses : List CipherUse) → Contains uses use_1 →
+    IsStep left_out bytes sci_a 0 (receiver.at (salt false) before (receiver.ready false)) [] uses (receiver.link 1 t)
+accepts_now left_out before uses there =
+    first_link (λ d. genuine_at (receiver.ready false) f1 receiver.accepts_1 uses (receiver.judged_1 t opens_1) there)
+    octets_1
+    (is_strict refl refl refl)
 
 pub plain_told : Told (opening plain) plain.inputs [] (receiver.delivery 1 ∷ []) (at_b (receiver.heard_1 t))
 plain_told =
-    receiver.told (salt false) (reads []) false (receiver.link 1 t ∷ []) (receiver.delivery 1 ∷ []) (at_b (receiver.heard_1 t)) free_b
-    (told_next (at_b (receiver.ready false)) (at_b (receiver.heard_1 t)) (at_b (receiver.heard_1 t)) (receiver.link 1 t) [] [] [] (receiver.delivery 1 ∷ []) [] (receiver.ready_sound false) refl
-    gives hears (told_end (at_b (receiver.heard_1 t)) (receiver.heard_1_sound t opens_1)))
+    receiver.told (salt false) (reads []) false free_b
+    (told_link receiver.accepts_1 refl (receiver.judged_1 t opens_1) (receiver.ready_sound false)
+    (told_end _ (receiver.heard_1_sound t opens_1)))
 
 -- a frame that nobody sealed is delivered
 pub not_forged_needed : LawWithout IsNotForged (blocks ((B, plain) ∷ [])) → ⊥
 not_forged_needed =
     alone IsNotForged plain (at_b (receiver.heard_1 t)) plain_told refl refl
-    (λ uses. after_own IsNotForged bytes sci_a 0 (receiver.commands false) (receiver.link 1 t ∷ []) (opening plain) uses (tt, (tt, (tt, (tt, tt))))
-    (subst (λ (k : Keeping). AreSteps IsNotForged bytes sci_a 0 k [] uses (receiver.link 1 t ∷ [])) (sym (commands_end (receiver.link 1 t ∷ [])))
-    (step_next IsNotForged bytes sci_a 0 (at_b (receiver.ready false)) (at_b (receiver.heard_1 t)) [] (receiver.delivery 1 ∷ []) uses (receiver.link 1 t) []
-    (record {
-      genuine = λ d. absurd (d refl);
-      octets = octets_1;
-      order = λ d among. record { mode = λ n. refl; replay = λ n. refl; window = λ n. refl };
-      creates = λ d row at under fresh. All-nil (λ (d' : Delivery). d'.number < row.next);
-    }) hears gives no_step)))
+    (λ uses. receiver.steps (salt false) (reads []) IsNotForged false free_b
+    (step_link receiver.accepts_1 refl (receiver.judged_1 t opens_1)
+    (first_link (λ d. absurd (d refl)) octets_1 (is_strict refl refl refl)) no_step))
 
 -- ---- it does not validate
 
-abbrev disables : KeepingInput
-disables = command (Validate Disabled)
+abbrev cs : List Command
+cs = receiver.set_up false ++ Validate Disabled ∷ []
 
 abbrev disabled : State
-disabled = effect (receiver.ready false) (Validate Disabled)
-
-disabled_sound : IsSound disabled
-disabled_sound =
-    after_effect (receiver.ready false) (Validate Disabled) refl (record { keys = keys_are; tx = tt; rx = receiver.tables 1 1 true (omega arith) (omega arith) (omega arith) }) (receiver.ready_sound false)
+disabled = after_commands (start gcm_b) cs
 
 abbrev unchecked : Judgement
 unchecked = at_row (rx_from 1) 1 10 Unchecked (Some (client 1))
@@ -126,54 +122,34 @@ judged = refl
 abbrev passed : State
 passed = state_after_receiving disabled (receiver.frame 1 t) unchecked
 
-is_passed : (step disabled (link_frame (receiver.frame 1 t))).1 ≡ passed
-is_passed = ap (λ (j : Judgement). state_after_receiving disabled (receiver.frame 1 t) j) judged
-
-passed_sound : IsSound passed
-passed_sound =
-    receiver.heard_sound disabled (receiver.frame 1 t) unchecked is_passed (record { keys = keys_are; tx = tt; rx = receiver.tables 1 1 true (omega arith) (omega arith) (omega arith) }) disabled_sound
-
 abbrev lax : Run
-lax = run_with (disables ∷ receiver.link 1 t ∷ [])
+lax = run_with (command (Validate Disabled) ∷ receiver.link 1 t ∷ [])
 
-does : (keeping_step (at_b (receiver.ready false)) disables).1 ≡ at_b disabled
-does = command_step (at_b (receiver.ready false)) (Validate Disabled) refl
+are_new : AreNew (at_b (start gcm_b)) cs
+are_new = (refl, (refl, (is_new (reads []) (name_of (salt false)) 1 free_b, (refl, (refl, tt)))))
 
-passes : (keeping_step (at_b disabled) (receiver.link 1 t)).1 ≡ at_b passed
-passes = receiver.next_is (salt false) (reads []) disabled 1 t unchecked is_passed
-
-gives_unchecked : newly_delivered (at_b disabled) (receiver.link 1 t) ≡ receiver.delivery 1 ∷ []
-gives_unchecked = receiver.delivers (at_b disabled) 1 t unchecked judged
+disabled_sound : IsSound disabled
+disabled_sound = commands_sound cs refl refl (begins_sound gcm_b refl)
 
 lax_told : Told (opening lax) lax.inputs [] (receiver.delivery 1 ∷ []) (at_b passed)
 lax_told =
-    receiver.told (salt false) (reads []) false (disables ∷ receiver.link 1 t ∷ []) (receiver.delivery 1 ∷ []) (at_b passed) free_b
-    (told_next (at_b (receiver.ready false)) (at_b disabled) (at_b passed) disables (receiver.link 1 t ∷ []) [] [] [] (receiver.delivery 1 ∷ []) (receiver.ready_sound false) refl refl does
-    (told_next (at_b disabled) (at_b passed) (at_b passed) (receiver.link 1 t) [] [] [] (receiver.delivery 1 ∷ []) [] disabled_sound refl gives_unchecked passes
-    (told_end (at_b passed) passed_sound)))
+    commands_told cs are_new refl refl (begins_sound gcm_b refl)
+    (told_link unchecked refl judged disabled_sound
+    (told_end _ (heard_by f1 refl judged refl disabled_sound)))
 
 -- what it does not validate is delivered
 pub strict_needed : LawWithout IsStrict (blocks ((B, lax) ∷ [])) → ⊥
 strict_needed =
     alone IsStrict lax (at_b passed) lax_told refl refl
-    (λ uses. after_own IsStrict bytes sci_a 0 (receiver.commands false ++ disables ∷ []) (receiver.link 1 t ∷ []) (opening lax) uses (tt, (tt, (tt, (tt, (tt, tt)))))
-    (subst (λ (k : Keeping). AreSteps IsStrict bytes sci_a 0 k [] uses (receiver.link 1 t ∷ [])) (sym lax_end)
-    (step_next IsStrict bytes sci_a 0 (at_b disabled) (at_b passed) [] (receiver.delivery 1 ∷ []) uses (receiver.link 1 t) []
-    (record {
-      genuine = λ d. genuine_at disabled (receiver.frame 1 t) unchecked uses judged tt;
-      octets = octets_1;
-      order = λ d among. record { mode = λ n. absurd (n refl); replay = λ n. refl; window = λ n. refl };
-      creates = λ d row at under fresh. All-nil (λ (d' : Delivery). d'.number < row.next);
-    }) passes gives_unchecked no_step)))
-  where
-    lax_end : keeping_after (opening lax) (receiver.commands false ++ disables ∷ []) ≡ at_b disabled
-    lax_end =
-        (receiver.told (salt false) (reads []) false (disables ∷ []) [] (at_b disabled) free_b
-        (told_next (at_b (receiver.ready false)) (at_b disabled) (at_b disabled) disables [] [] [] [] [] (receiver.ready_sound false) refl refl does (told_end (at_b disabled) disabled_sound))).ends
+    (λ uses. commands_steps IsStrict bytes sci_a 0 cs are_new refl
+    (step_link unchecked refl judged
+    (first_link (λ d. genuine_at disabled f1 unchecked uses judged tt) octets_1
+    (record { mode = λ n. absurd (n refl); replay = λ n. refl; window = λ n. refl })) no_step))
 
 -- ---- two runs of B, and none of A
 
-pub two_runs_of_b : (left_out : Premise) (s r : Run) → IsSoundRun s → IsSoundRun r → AgreeInRunsBut left_out s r → SameSalt s r → KeepsDurable s r → IsSameEndBut left_out s r →
+pub two_runs_of_b : (left_out : Premise) (s r : Run) → IsSoundRun s → IsSoundRun r → AgreeInRunsBut left_out s r →
+    SameSalt s r → KeepsDurable s r → IsSameEndBut left_out s r →
     ArePeersBut left_out (blocks ((B, s) ∷ (B, r) ∷ []))
 two_runs_of_b left_out s r sound sound' agree' salts durable same =
     let its : List EndRun = (B, s) ∷ (B, r) ∷ [] in
@@ -186,44 +162,57 @@ two_runs_of_b left_out s r sound sound' agree' salts durable same =
         salt = λ d. pair SameSalt s r salts;
         durable = λ d. pair KeepsDurable s r durable;
       });
-      agree = subst (λ (ra : List Run). All (λ run. All (AgreeAtBothBut left_out run) (runs_of B (blocks its))) ra) (sym (runs_of-blocks A its))
+      agree = subst (λ (ra : List Run). All (λ run. All (AgreeAtBothBut left_out run) (runs_of B (blocks its))) ra)
+          (sym (runs_of-blocks A its))
           (All-nil (λ run. All (AgreeAtBothBut left_out run) (runs_of B (blocks its))));
       one_a = subst (AllPairs (IsSameEndBut left_out)) (sym (runs_of-blocks A its)) (no_pairs (IsSameEndBut left_out));
-      one_b = subst (AllPairs (IsSameEndBut left_out)) (sym (runs_of-blocks B its)) (pair (IsSameEndBut left_out) s r same);
+      one_b = subst (AllPairs (IsSameEndBut left_out)) (sym (runs_of-blocks B its))
+          (pair (IsSameEndBut left_out) s r same);
     }
 
 -- ---- it changes its SCI: B sends the frame in its first run, and its second run delivers it
 
-module _ (s r : Run) (sends : Facts 1 sci_a s (sender.sent false) []) (receives : Facts 2 sci_b r [] (receiver.delivery 1 ∷ [])) where
+module _ (s r : Run) (sends : Facts 1 sci_a s (sender.sent false) [])
+    (receives : Facts 2 sci_b r [] (receiver.delivery 1 ∷ [])) where
   sealed : Contains (sealed_in_all [] ++ sealed_in_all (s ∷ [])) use_1
-  sealed = subst (λ (us : List CipherUse). Contains us use_1) (sym (seals_are (s ∷ []) (sender.sent false) (ap (λ (xs : List SentIn). xs ++ []) sends.told.sends))) (0, omega arith, refl)
+  sealed = subst (λ (us : List CipherUse). Contains us use_1)
+      (sym (seals_are (s ∷ []) (sender.sent false) (ap (λ (xs : List SentIn). xs ++ []) sends.told.sends)))
+      (0, omega arith, refl)
 
   none_yet : delivered_in_all (s ∷ []) ≡ []
   none_yet = ap (λ (xs : List Delivery). xs ++ []) sends.told.delivers
 
-  reflected : AreOwn s.inputs → SameSalt s r → KeepsDurable s r → ((uses : List CipherUse) → Contains uses use_1 → AreSteps KeepsSci bytes sci_a 0 (opening r) [] uses r.inputs) →
+  reflected : AreOwn s.inputs → SameSalt s r → KeepsDurable s r →
+      ((uses : List CipherUse) → Contains uses use_1 → AreSteps KeepsSci bytes sci_a 0 (opening r) [] uses r.inputs) →
       LawWithout KeepsSci (blocks ((B, s) ∷ (B, r) ∷ [])) → ⊥
   reflected own salts durable steps =
       refuted KeepsSci ((B, s) ∷ (B, r) ∷ []) [] (receiver.delivery 1 ∷ []) (
         (
           (λ d. nothing_saved s.journal),
-          subst (λ (is : List KeepingInput). AreSteps KeepsSci bytes sci_a 0 (opening s) [] (sealed_in_all [] ++ sealed_in_all []) is) (append-nil s.inputs)
-              (after_own KeepsSci bytes sci_a 0 s.inputs [] (opening s) (sealed_in_all [] ++ sealed_in_all []) own no_step),
+          subst (λ (is : List KeepingInput). AreSteps KeepsSci bytes sci_a 0 (opening s) []
+              (sealed_in_all [] ++ sealed_in_all []) is) (append-nil s.inputs)
+              (after_own KeepsSci bytes sci_a 0 s.inputs [] (opening s)
+              (sealed_in_all [] ++ sealed_in_all []) own no_step),
         ),
         (
           (
-            (λ d. subst (λ (xs : List Delivery). SavedIn r.journal bytes sci_a 0 (delivered_at bytes sci_a 0 xs)) (sym none_yet) (nothing_saved r.journal)),
+            (λ d. subst (λ (xs : List Delivery). SavedIn r.journal bytes sci_a 0 (delivered_at bytes sci_a 0 xs))
+                (sym none_yet) (nothing_saved r.journal)),
             steps (sealed_in_all [] ++ sealed_in_all (s ∷ [])) sealed,
           ),
           tt,
         ),
       )
-      (two_runs_of_b KeepsSci s r sends.of.sound receives.of.sound (keys_but KeepsSuite KeepsSalt KeepsSci s r (agree 1 2 sci_a sci_b s r sends.of receives.of)) salts durable (record {
+      (two_runs_of_b KeepsSci s r sends.of.sound receives.of.sound
+      (keys_but KeepsSuite KeepsSalt KeepsSci s r (agree 1 2 sci_a sci_b s r sends.of receives.of)) salts durable
+      (record {
         sci = λ d. absurd (d refl);
-        ssci = λ d. of_keys (λ x y. x.bytes ≡ y.bytes → is_xpn x.suite ≡ true → x.ssci ≡ y.ssci) 1 2 sci_a sci_b s r sends.of receives.of (λ n m same xpn. cc);
+        ssci = λ d. of_keys (λ x y. x.bytes ≡ y.bytes → is_xpn x.suite ≡ true → x.ssci ≡ y.ssci) 1 2 sci_a sci_b s r
+            sends.of receives.of (λ n m same xpn. cc);
       }))
       refl
-      (ap (λ (xs : List Delivery). xs ++ delivered_in_all (r ∷ [])) sends.told.delivers ∙ ap (λ (xs : List Delivery). xs ++ []) receives.told.delivers)
+      (ap (λ (xs : List Delivery). xs ++ delivered_in_all (r ∷ [])) sends.told.delivers
+      ∙ ap (λ (xs : List Delivery). xs ++ []) receives.told.delivers)
       (not_of_none (1 ∷ client 1))
 
 pub names_differ : same_octets (sending_name (salt false) bytes) (name_of (salt false)) ≡ false
@@ -237,35 +226,22 @@ abbrev at_later : State → Keeping
 at_later s = receiver.at (salt false) (reads (reserved_2 ∷ [])) s
 
 free_later : highest (reads (reserved_2 ∷ [])) (name_of (salt false)) < 1
-free_later = is_free (reserved_2 ∷ []) (name_of (salt false)) 1 reserved_is (omega (arith, highest_of_one reserved_2 (name_of (salt false)) false names_differ))
-
-hears_later : (keeping_step (at_later (receiver.ready false)) (receiver.link 1 t)).1 ≡ at_later (receiver.heard_1 t)
-hears_later = receiver.next_is (salt false) (reads (reserved_2 ∷ [])) (receiver.ready false) 1 t receiver.accepts_1 (receiver.is_heard_1 t opens_1)
-
-gives_later : newly_delivered (at_later (receiver.ready false)) (receiver.link 1 t) ≡ receiver.delivery 1 ∷ []
-gives_later = receiver.delivers (at_later (receiver.ready false)) 1 t receiver.accepts_1 (receiver.judged_1 t opens_1)
+free_later = is_free (reserved_2 ∷ []) (name_of (salt false)) 1 reserved_is
+    (omega (arith, highest_of_one reserved_2 (name_of (salt false)) false names_differ))
 
 later_told : Told (opening later) later.inputs [] (receiver.delivery 1 ∷ []) (at_later (receiver.heard_1 t))
 later_told =
-    receiver.told (salt false) (reads (reserved_2 ∷ [])) false (receiver.link 1 t ∷ []) (receiver.delivery 1 ∷ []) (at_later (receiver.heard_1 t)) free_later
-    (told_next (at_later (receiver.ready false)) (at_later (receiver.heard_1 t)) (at_later (receiver.heard_1 t)) (receiver.link 1 t) [] [] [] (receiver.delivery 1 ∷ []) [] (receiver.ready_sound false) refl
-    gives_later hears_later (told_end (at_later (receiver.heard_1 t)) (receiver.heard_1_sound t opens_1)))
-
-later_end : keeping_after (opening later) (receiver.commands false) ≡ at_later (receiver.ready false)
-later_end = (receiver.told (salt false) (reads (reserved_2 ∷ [])) false [] [] (at_later (receiver.ready false)) free_later (told_end (at_later (receiver.ready false)) (receiver.ready_sound false))).ends
+    receiver.told (salt false) (reads (reserved_2 ∷ [])) false free_later
+    (told_link receiver.accepts_1 refl (receiver.judged_1 t opens_1) (receiver.ready_sound false)
+    (told_end _ (receiver.heard_1_sound t opens_1)))
 
 -- B delivers what it sent itself
 pub same_sci_needed : LawWithout KeepsSci (blocks ((B, run_a false) ∷ (B, later) ∷ [])) → ⊥
 same_sci_needed =
     reflected (run_a false) later (facts_a false)
-    (record { last = at_later (receiver.heard_1 t); told = later_told; of = run_told 2 1 sci_b later [] (receiver.delivery 1 ∷ []) (at_later (receiver.heard_1 t)) refl refl later_told })
+    (facts_of 1 refl refl later_told)
     (tt, (tt, (tt, (tt, (tt, (tt, tt)))))) refl (is_durable reserved_2 reserved_is)
-    (λ uses there. after_own KeepsSci bytes sci_a 0 (receiver.commands false) (receiver.link 1 t ∷ []) (opening later) uses (tt, (tt, (tt, (tt, tt))))
-    (subst (λ (k : Keeping). AreSteps KeepsSci bytes sci_a 0 k [] uses (receiver.link 1 t ∷ [])) (sym later_end)
-    (step_next KeepsSci bytes sci_a 0 (at_later (receiver.ready false)) (at_later (receiver.heard_1 t)) [] (receiver.delivery 1 ∷ []) uses (receiver.link 1 t) []
-    (record {
-      genuine = λ d. genuine_at (receiver.ready false) (receiver.frame 1 t) receiver.accepts_1 uses (receiver.judged_1 t opens_1) there;
-      octets = octets_1;
-      order = λ d among. record { mode = λ n. refl; replay = λ n. refl; window = λ n. refl };
-      creates = λ d row at under fresh. All-nil (λ (d' : Delivery). d'.number < row.next);
-    }) hears_later gives_later no_step)))
+    (λ uses there. receiver.steps (salt false) (reads (reserved_2 ∷ [])) KeepsSci false free_later
+    (step_link receiver.accepts_1 refl (receiver.judged_1 t opens_1)
+    (accepts_now KeepsSci (reads (reserved_2 ∷ [])) uses there)
+    no_step))

@@ -1,11 +1,10 @@
 -- Runs that meet all premises of order and once but one: the octets of a key have two suites, GCM-AES-128 and
--- GCM-AES-XPN-128, at the two ends, or at B in two runs. Under GCM-AES-128 a frame is sent with packet number 1, by A or by
--- B itself. B receives it under the other suite, with the salt under which the IV of packet number 2^32 + 1 is that of the
--- frame. So B delivers it with a packet number that A never used.
-use Rattle.std.proofs.Common.{◌≡◌, ℕ, zero, suc, ◌<◌, ◌≤◌, ◌+◌, Bool, true, false, List, [], ◌∷◌, ◌++◌, map, take, refl, ap, sym, subst, ◌∙◌, arith, Contains, append-nil}
-use Rattle.std.specs.Prelude.{◌^◌, ◌*◌, nat_le, max, replicate, slice_get, if◌then◌else◌, Some, None, IfSome}
-use Rattle.std.proofs.lemmas.Bool.{lt-ltb}
-use Rattle.std.proofs.lemmas.List.Elements.{All-append, All-nil}
+-- GCM-AES-XPN-128, at the two ends, or at B in two runs. Under GCM-AES-128 a frame is sent with packet number 1, by A
+-- or by B itself. B receives it under the other suite, with the salt under which the IV of packet number 2^32 + 1 is
+-- that of the frame. So B delivers it with a packet number that A never used.
+use Rattle.std.proofs.Common.{◌≡◌, ℕ, zero, suc, ◌<◌, ◌+◌, Bool, true, false, List, [], ◌∷◌, ◌++◌, map, take, refl, ap, sym, subst, ◌∙◌, arith, Contains, append-nil}
+use Rattle.std.specs.Prelude.{◌^◌, ◌*◌, replicate, slice_get, if◌then◌else◌, Some, None, IfSome}
+use Rattle.std.proofs.lemmas.List.Elements.{All-append}
 use Rattle.macsec_aes.specs.Aes.{add_round_key, added_word, aes, after_rounds, key_expansion, key_words, mix_columns, rot_word, round_key, shift_rows}
 use Rattle.macsec_aes.specs.Aes.{sub_bytes, sub_word, sum_of_words}
 use Rattle.macsec_aes.specs.Field.{affine_transformation, byte_product, inverse, polynomial_product, remainder, s_box, sum_below}
@@ -14,7 +13,7 @@ use Rattle.macsec_gcm.specs.Octets.{sum_with_stream}
 use Rattle.macsec_tag.specs.Laws.{AreOctets}
 use Rattle.macsec_tag.specs.Table.{parts_at}
 use Rattle.macsec_suite.specs.CipherUses.{CipherUse, cipher_use}
-use Rattle.macsec_suite.specs.KeyRows.{AreKeyRows, InstalledKey}
+use Rattle.macsec_suite.specs.KeyRows.{InstalledKey}
 use Rattle.macsec_suite.specs.Suites.{is_xpn, iv_of}
 use Rattle.macsec_suite.specs.declared.suite.Suite.TheVariants.{Gcm128, Xpn128}
 use Rattle.macsec_commands.specs.declared.command.Command.TheVariants.{Key, RxOn, RxSa, RxSc, TxOn, TxSa}
@@ -27,40 +26,39 @@ use Rattle.macsec_tx.specs.declared.TxOptions.{TxOptions}
 use Rattle.macsec_tx.specs.declared.TxRow.{TxRow}
 use Rattle.macsec_rx.specs.declared.Verdict.TheVariants.{Passed}
 use Rattle.macsec_rx.specs.Judge.{Judgement, at_row, judge_opened}
-use Rattle.macsec_secy.specs.Commands.{effect}
 use Rattle.macsec_secy.specs.Reception.{judgement_of, state_after_receiving}
 use Rattle.macsec_secy.specs.Sound.{IsSound}
 use Rattle.macsec_secy.specs.State.{State, no_tx_counters, rx_options, start, tx_options}
-use Rattle.macsec_secy.specs.Step.{client_frame, frame_fault, link_frame, sending_of, step}
-use Rattle.macsec_secy.proofs.StaysSound.{after_client_frame, after_effect, at_start}
+use Rattle.macsec_secy.specs.Step.{client_frame, frame_fault, link_frame, sending_of}
 use Rattle.macsec_link.specs.Genuine.{use_opened}
 use Rattle.macsec_link.specs.Origin.{IsSubsequence}
 use Rattle.macsec_reserve.specs.declared.reservation.Reservation.{Reservation}
 use Rattle.macsec_reserve.specs.Histories.{KeepsDurable, Run, SameSalt, closing, opening, sealed_in_all}
 use Rattle.macsec_reserve.specs.Journal.{highest, sending_name}
-use Rattle.macsec_reserve.specs.Keeping.{Keeping, KeepingInput, endpoint_input, keeping_after, keeping_step, may_go}
-use Rattle.macsec_reserve.proofs.Written.{same_octets-refl}
+use Rattle.macsec_reserve.specs.Keeping.{Keeping, KeepingInput, endpoint_input, keeping_step, may_go}
 use Rattle.macsec_counterexamples.proofs.Link.Exchange.{client, iv, aad, key_row}
 use Rattle.macsec_counterexamples.proofs.Link.SealedFrames.{Sealed, aad_sent, frame_with, items, opens, parts_with, sealed, tag_of, with_tag}
 use Rattle.macsec_counterexamples.proofs.Link.TracedSteps.{genuine_at}
 use Rattle.macsec_counterexamples.proofs.Link.WorkedEnds.{bytes, installed_key, new_key, no_salt, only, rx_from, sci_a, sci_b, tx_from, xpn_b}
-use Rattle.macsec_counterexamples.proofs.Restarts.Goes.{command, command_step, frame_step, is_new, link_step}
+use Rattle.macsec_counterexamples.proofs.Restarts.Goes.{command, frame_step, is_new, AreNew, is_within, may_send, raised_alone}
 use Rattle.macsec_counterexamples.proofs.Restarts.Journals.{journal, salt}
-use Rattle.macsec_counterexamples.proofs.Restarts.Receivers.{channels_are, name_of}
-use Rattle.macsec_counterexamples.proofs.Restarts.Senders.{kept, none_are, other_sci, row_at}
-use Rattle.macsec_restarts.specs.Delivered.{Delivery, delivered_at, delivered_by, delivered_in_all, newly_delivered}
+use Rattle.macsec_counterexamples.proofs.Restarts.Receivers.{name_of}
+use Rattle.macsec_counterexamples.proofs.Restarts.Senders.{kept, row_at}
+use Rattle.macsec_restarts.specs.Delivered.{Delivery, delivered_at, delivered_in_all, newly_delivered}
 use Rattle.macsec_restarts.specs.Order.{SavedIn}
 use Rattle.macsec_restarts.specs.Sent.{SentIn, newly_sent, sent_by, sent_in_all}
-use Rattle.macsec_restarts.proofs.Examples.Blocks.{AreOwn, AreSteps, Told, after_own, blocks, no_step, step_next, told_end, told_next}
+use Rattle.macsec_restarts.proofs.Examples.Blocks.{AreOwn, AreSteps, Told, after_own, blocks, no_step, step_next, told_end, told_next, commands_steps, commands_told, first_link, gives_by, is_strict, link_step_by, heard_by}
 use Rattle.macsec_restarts.proofs.Examples.Extended as extended
 use Rattle.macsec_restarts.proofs.Examples.Histories.{nothing_saved, one_run_each, refuted, seals_are}
 use Rattle.macsec_restarts.proofs.Examples.NotSent.{not_of_none, two_runs_of_b}
 use Rattle.macsec_restarts.proofs.Examples.Premises.{AgreeAtBothBut, AgreeInRunsBut, AgreeOnKeyBut, HasOneSalt, HasOneSuite, HasStrictOrderBut, KeepsSalt, KeepsSuite, LawWithout, Premise}
-use Rattle.macsec_restarts.proofs.Examples.Receivers.{heard_sound, tables}
 use Rattle.macsec_restarts.proofs.Examples.Receivers as receiver
 use Rattle.macsec_restarts.proofs.Examples.Senders as sender
-use Rattle.macsec_restarts.proofs.Examples.Tags.{are_small, octets_1, small, small_at, tag_is}
+use Rattle.macsec_restarts.proofs.Examples.Tags.{octets_1, small_at, tag_is}
+use Rattle.macsec_counterexamples.proofs.Restarts.Tables.{are_small, small}
 use Rattle.macsec_restarts.proofs.Examples.TwoRunsEach.{Facts, at_most, facts_a, is_durable, is_free, none_is, opens_1, reads, reserved_2, reserved_is, run_a, t, use_1}
+use Rattle.macsec_counterexamples.proofs.Restarts.Tables.{after_commands, all_fit, begins_sound, commands_sound, none_refused, sent_sound, tables_fit}
+use Rattle.macsec_commands.specs.declared.command.Command.{Command}
 
 -- ---- the frame that B sends under GCM-AES-128, with packet number 1
 
@@ -78,7 +76,8 @@ abbrev own_aad : List ℕ
 own_aad = aad_sent own_options (key_row 2 1) (tx_from 1) (client 1)
 
 abbrev own_use_with : Sealed → CipherUse
-own_use_with it = cipher_use (key_row 2 1) own_iv (parts_with (tag_sent own_options (tx_from 1) (client 1)) (client 1) it)
+own_use_with it = cipher_use (key_row 2 1) own_iv
+    (parts_with (tag_sent own_options (tx_from 1) (client 1)) (client 1) it)
 
 abbrev own_icv : List ℕ
 own_icv = tag_of bytes own_iv own_aad
@@ -94,7 +93,8 @@ opens_own = opens bytes own_iv own_aad
 
 -- it is octets
 own_block : are_small (aes bytes (pre_counter_block own_iv)) ≡ true
-unfolding pre_counter_block aes after_rounds add_round_key round_key mix_columns shift_rows sub_bytes key_expansion key_words added_word sum_of_words sub_word rot_word
+unfolding pre_counter_block aes after_rounds add_round_key round_key mix_columns shift_rows sub_bytes key_expansion
+    key_words added_word sum_of_words sub_word rot_word
     s_box affine_transformation inverse byte_product remainder polynomial_product sum_below
 own_block = refl
 
@@ -104,12 +104,16 @@ own_front = take 22 (own_frame [])
 own_octets : AreOctets (own_frame own_icv)
 own_octets =
     All-append (λ x. x < 256) own_front (items 16 own_icv) (small own_front refl)
-    (subst AreOctets (ap (λ (it : Sealed). it.1) (sealed bytes own_iv own_aad)) (tag_is bytes own_iv own_aad (small_at (aes bytes (pre_counter_block own_iv)) own_block)))
+    (subst AreOctets (ap (λ (it : Sealed). it.1) (sealed bytes own_iv own_aad))
+    (tag_is bytes own_iv own_aad (small_at (aes bytes (pre_counter_block own_iv)) own_block)))
 
 -- ---- the run of B that sends it
 
+abbrev own_set_up : List Command
+own_set_up = Key (new_key no_salt 2) ∷ TxSa 0 0 1 false ∷ TxOn 0 ∷ []
+
 abbrev own_sends : List KeepingInput
-own_sends = command (Key (new_key no_salt 2)) ∷ extended.sa_in ∷ extended.on_in ∷ extended.report_in ∷ extended.frame_in ∷ []
+own_sends = map command own_set_up ++ extended.report_in ∷ extended.frame_in ∷ []
 
 abbrev first_run : Run
 first_run = record { journal = journal false []; config = config_own; inputs = own_sends }
@@ -124,42 +128,16 @@ own_state unused rows count = record (start config_own) {
 abbrev sent_own : SentIn
 sent_own = record { seal = own_use; number = 1; frame = client 1 }
 
--- it is sound
-
-own_key_is : (n : ℕ) → 1 ≤ n → n ≤ 2 ^ 64 → AreKeyRows (key_row 2 n ∷ [])
-own_key_is n least most = (record { number = omega arith; bytes = refl; salt = refl; ssci = omega arith; first_unused_least = least; first_unused = most }, refl, tt)
-
 own_start_sound : IsSound (start config_own)
-own_start_sound = at_start config_own refl other_sci (record { keys = tt; tx = tt; rx = none_are })
-
-own_key_sound : IsSound (own_state 1 [] 0)
-own_key_sound = after_effect (start config_own) (Key (new_key no_salt 2)) refl (record { keys = own_key_is 1 (omega arith) (omega arith); tx = tt; rx = none_are }) own_start_sound
-
-own_sa_sound : IsSound (own_state 1 (row_at 1 false ∷ []) 0)
-own_sa_sound =
-    after_effect (own_state 1 [] 0) (TxSa 0 0 1 false) refl
-    (record { keys = own_key_is 1 (omega arith) (omega arith); tx = extended.row_is 1 false (omega arith) (omega arith); rx = none_are }) own_key_sound
+own_start_sound = begins_sound config_own refl
 
 own_on_sound : IsSound (own_state 1 (row_at 1 true ∷ []) 0)
-own_on_sound =
-    after_effect (own_state 1 (row_at 1 false ∷ []) 0) (TxOn 0) refl
-    (record { keys = own_key_is 1 (omega arith) (omega arith); tx = extended.row_is 1 true (omega arith) (omega arith); rx = none_are }) own_sa_sound
-
-own_end_sound : IsSound (own_state 2 (row_at 2 true ∷ []) 1)
-own_end_sound =
-    after_client_frame (own_state 1 (row_at 1 true ∷ []) 0) (client 1)
-    (record { keys = own_key_is 2 (omega arith) (omega arith); tx = extended.row_is 2 true (omega arith) (omega arith); rx = none_are }) own_on_sound
+own_on_sound = commands_sound own_set_up refl refl own_start_sound
 
 -- its steps
 
-abbrev own_begun : Keeping
-own_begun = extended.tx_at [] (start config_own)
-
-abbrev own_keyed : Keeping
-own_keyed = extended.tx_at [] (own_state 1 [] 0)
-
-abbrev own_created : Bool → Keeping
-own_created on = extended.tx_at [] (own_state 1 (row_at 1 on ∷ []) 0)
+abbrev own_created : Keeping
+own_created = extended.tx_at [] (own_state 1 (row_at 1 true ∷ []) 0)
 
 abbrev own_reserved : Keeping
 own_reserved = extended.tx_at (reserved_2 ∷ []) (own_state 1 (row_at 1 true ∷ []) 0)
@@ -167,36 +145,31 @@ own_reserved = extended.tx_at (reserved_2 ∷ []) (own_state 1 (row_at 1 true �
 abbrev own_last : Keeping
 own_last = extended.tx_at (reserved_2 ∷ []) (own_state 2 (row_at 2 true ∷ []) 1)
 
-own_reserves : (keeping_step (own_created true) extended.report_in).1 ≡ own_reserved
+own_reserves : (keeping_step own_created extended.report_in).1 ≡ own_reserved
 own_reserves =
-    ap (λ (same : Bool).
-    extended.tx_at ((if same then record { name = extended.tx_name; last = max 0 2 } else record { name = extended.tx_name; last = 0 }) ∷ []) (own_state 1 (row_at 1 true ∷ []) 0))
-    (same_octets-refl extended.tx_name)
+    ap (λ (r : Reservation). extended.tx_at (r ∷ []) (own_state 1 (row_at 1 true ∷ []) 0))
+    (raised_alone extended.tx_name 2)
 
 own_goes : may_go own_reserved (client_frame (client 1)) ≡ true
-own_goes =
-    extended.may_from _ _ (lt-ltb (highest (reads []) extended.tx_name) 1 extended.name_free)
-    (ap (λ (same : Bool). nat_le 1 (if same then max 2 0 else 0)) (same_octets-refl extended.tx_name))
+own_goes = may_send own_reserved (client 1) 1 refl
+    (is_within (reads []) extended.tx_name 1 2 extended.name_free (omega arith))
 
 own_seals : use_sent own_options (key_row 2 1) (row_at 1 true) (client 1) ≡ own_use
 own_seals = ap own_use_with (sealed bytes own_iv own_aad)
 
 own_lists : newly_sent own_reserved extended.frame_in ≡ sent_own ∷ []
 own_lists =
-    ap (λ (b : Bool). if b then sent_by own_reserved.secy (client 1) (frame_fault (client 1)) (sending_of own_reserved.secy (client 1)).by else []) own_goes
+    ap (λ (b : Bool). if b then sent_by own_reserved.secy (client 1) (frame_fault (client 1))
+    (sending_of own_reserved.secy (client 1)).by else []) own_goes
     ∙ ap (λ (seal : CipherUse). record { seal = seal; number = 1; frame = client 1 } ∷ []) own_seals
 
 told_own : Told (opening first_run) own_sends (sent_own ∷ []) [] own_last
 told_own =
-    told_next own_begun own_keyed own_last (command (Key (new_key no_salt 2))) (extended.sa_in ∷ extended.on_in ∷ extended.report_in ∷ extended.frame_in ∷ []) [] (sent_own ∷ []) [] []
-    own_start_sound refl refl (command_step own_begun (Key (new_key no_salt 2)) refl)
-    (told_next own_keyed (own_created false) own_last extended.sa_in (extended.on_in ∷ extended.report_in ∷ extended.frame_in ∷ []) [] (sent_own ∷ []) [] []
-    own_key_sound refl refl (command_step own_keyed (TxSa 0 0 1 false) (is_new (reads []) extended.tx_name 1 extended.name_free))
-    (told_next (own_created false) (own_created true) own_last extended.on_in (extended.report_in ∷ extended.frame_in ∷ []) [] (sent_own ∷ []) [] []
-    own_sa_sound refl refl (command_step (own_created false) (TxOn 0) refl)
-    (told_next (own_created true) own_reserved own_last extended.report_in (extended.frame_in ∷ []) [] (sent_own ∷ []) [] [] own_on_sound refl refl own_reserves
-    (told_next own_reserved own_last own_last extended.frame_in [] (sent_own ∷ []) [] [] [] own_on_sound own_lists refl (frame_step own_reserved (client 1) own_goes)
-    (told_end own_last own_end_sound)))))
+    commands_told own_set_up (refl, (is_new (reads []) extended.tx_name 1 extended.name_free, (refl, tt))) refl refl
+    own_start_sound
+    (told_next own_on_sound refl refl own_reserves
+    (told_next own_on_sound own_lists refl (frame_step own_reserved (client 1) own_goes)
+    (told_end own_last (sent_sound (client 1) refl refl own_on_sound))))
 
 -- ---- B's key under GCM-AES-XPN-128, and its IV: that of A's frame, or of B's own
 
@@ -242,38 +215,21 @@ unfolding sum_with_stream
 iv_is A = refl
 iv_is B = refl
 
-opens_b : (e : End) → open_of bytes (iv_of Xpn128 sci_a 1 (key_salt e) number) (sent_aad e) [] (items 16 (sent_icv e)) ≡ Some []
+opens_b : (e : End) → open_of bytes (iv_of Xpn128 sci_a 1 (key_salt e) number) (sent_aad e) [] (items 16 (sent_icv e)) ≡
+    Some []
 opens_b A = ap (λ (i : List ℕ). open_of bytes i (aad 1 (client 1)) [] (items 16 t)) (iv_is A) ∙ opens_1
 opens_b B = ap (λ (i : List ℕ). open_of bytes i own_aad [] (items 16 own_icv)) (iv_is B) ∙ opens_own
 
 -- ---- the run of B that receives it
 
-abbrev with_key : End → State
-with_key e = effect (start xpn_b) (Key (new_key (key_salt e) 2))
-
-abbrev with_sc : End → State
-with_sc e = effect (with_key e) (RxSc sci_a)
-
-abbrev with_sa : End → State
-with_sa e = effect (with_sc e) (RxSa sci_a 0 0 1 lowest)
+abbrev set_up : End → List Command
+set_up e = Key (new_key (key_salt e) 2) ∷ RxSc sci_a ∷ RxSa sci_a 0 0 1 lowest ∷ RxOn sci_a 0 ∷ []
 
 abbrev ready : End → State
-ready e = effect (with_sa e) (RxOn sci_a 0)
-
-abbrev key_in : End → KeepingInput
-key_in e = command (Key (new_key (key_salt e) 2))
-
-abbrev sc_in : KeepingInput
-sc_in = command (RxSc sci_a)
-
-abbrev sa_in : KeepingInput
-sa_in = command (RxSa sci_a 0 0 1 lowest)
-
-abbrev on_in : KeepingInput
-on_in = command (RxOn sci_a 0)
+ready e = after_commands (start xpn_b) (set_up e)
 
 abbrev commands : End → List KeepingInput
-commands e = key_in e ∷ sc_in ∷ sa_in ∷ on_in ∷ []
+commands e = map command (set_up e)
 
 abbrev link : End → KeepingInput
 link e = endpoint_input (link_frame (f e))
@@ -288,49 +244,30 @@ judged B = ap (judge_opened (rx_options (ready B)) (key_b B) (rx_from lowest) nu
 abbrev heard : End → State
 heard e = state_after_receiving (ready e) (f e) accepts
 
-is_heard : (e : End) → (step (ready e) (link_frame (f e))).1 ≡ heard e
-is_heard A = ap (λ (j : Judgement). state_after_receiving (ready A) (f A) j) (judged A)
-is_heard B = ap (λ (j : Judgement). state_after_receiving (ready B) (f B) j) (judged B)
-
 abbrev delivery : Delivery
 delivery = record { bytes = bytes; sci = sci_a; an = 0; number = number; frame = client 1 }
 
--- it is sound
+-- what computes of each
 
-keys_are : (e : End) → AreKeyRows (key_b e ∷ [])
-keys_are A = (record { number = omega arith; bytes = refl; salt = refl; ssci = omega arith; first_unused_least = omega arith; first_unused = omega arith }, refl, tt)
-keys_are B = (record { number = omega arith; bytes = refl; salt = refl; ssci = omega arith; first_unused_least = omega arith; first_unused = omega arith }, refl, tt)
+record Works (e : End) : Type 0 where
+  whole : frame_fault (f e) ≡ None
+  none : none_refused (start xpn_b) (set_up e) ≡ true
+  fit : all_fit (start xpn_b) (set_up e) ≡ true
+  heard_fits : tables_fit (heard e) ≡ true
+  strict : {left_out : Premise} → HasStrictOrderBut left_out (ready e)
+
+works : (e : End) → Works e
+works A = record { whole = refl; none = refl; fit = refl; heard_fits = refl; strict = is_strict refl refl refl }
+works B = record { whole = refl; none = refl; fit = refl; heard_fits = refl; strict = is_strict refl refl refl }
 
 start_sound : IsSound (start xpn_b)
-start_sound = at_start xpn_b refl other_sci (record { keys = tt; tx = tt; rx = none_are })
-
-key_sound : (e : End) → IsSound (with_key e)
-key_sound A = after_effect (start xpn_b) (Key (new_key (key_salt A) 2)) refl (record { keys = keys_are A; tx = tt; rx = none_are }) start_sound
-key_sound B = after_effect (start xpn_b) (Key (new_key (key_salt B) 2)) refl (record { keys = keys_are B; tx = tt; rx = none_are }) start_sound
-
-sc_sound : (e : End) → IsSound (with_sc e)
-sc_sound A = after_effect (with_key A) (RxSc sci_a) refl (record { keys = keys_are A; tx = tt; rx = channels_are [] tt }) (key_sound A)
-sc_sound B = after_effect (with_key B) (RxSc sci_a) refl (record { keys = keys_are B; tx = tt; rx = channels_are [] tt }) (key_sound B)
-
-sa_sound : (e : End) → IsSound (with_sa e)
-sa_sound A =
-    after_effect (with_sc A) (RxSa sci_a 0 0 1 lowest) refl (record { keys = keys_are A; tx = tt; rx = tables (2 ^ 32) (2 ^ 32) false (omega arith) (omega arith) (omega arith) }) (sc_sound A)
-sa_sound B =
-    after_effect (with_sc B) (RxSa sci_a 0 0 1 lowest) refl (record { keys = keys_are B; tx = tt; rx = tables (2 ^ 32) (2 ^ 32) false (omega arith) (omega arith) (omega arith) }) (sc_sound B)
+start_sound = begins_sound xpn_b refl
 
 ready_sound : (e : End) → IsSound (ready e)
-ready_sound A =
-    after_effect (with_sa A) (RxOn sci_a 0) refl (record { keys = keys_are A; tx = tt; rx = tables (2 ^ 32) (2 ^ 32) true (omega arith) (omega arith) (omega arith) }) (sa_sound A)
-ready_sound B =
-    after_effect (with_sa B) (RxOn sci_a 0) refl (record { keys = keys_are B; tx = tt; rx = tables (2 ^ 32) (2 ^ 32) true (omega arith) (omega arith) (omega arith) }) (sa_sound B)
+ready_sound e = commands_sound (set_up e) (works e).none (works e).fit start_sound
 
 heard_is_sound : (e : End) → IsSound (heard e)
-heard_is_sound A =
-    heard_sound (ready A) (f A) accepts (is_heard A)
-    (record { keys = keys_are A; tx = tt; rx = tables (2 ^ 32 + 2) (2 ^ 32 + 2) true (omega arith) (omega arith) (omega arith) }) (ready_sound A)
-heard_is_sound B =
-    heard_sound (ready B) (f B) accepts (is_heard B)
-    (record { keys = keys_are B; tx = tt; rx = tables (2 ^ 32 + 2) (2 ^ 32 + 2) true (omega arith) (omega arith) (omega arith) }) (ready_sound B)
+heard_is_sound e = heard_by (f e) (works e).whole (judged e) (works e).heard_fits (ready_sound e)
 
 -- its steps; where B itself sent the frame, its journal has what was reported to the first run
 
@@ -342,82 +279,58 @@ abbrev at : End → State → Keeping
 at e s = kept (salt false) (reads (before e)) [] s
 
 free : (e : End) → highest (reads (before e)) (name_of (salt false)) < 2 ^ 32
-free A = let least : highest (reads []) (name_of (salt false)) < 1 = is_free [] (name_of (salt false)) 1 none_is (omega arith) in omega (arith, least)
+free A = let least : highest (reads []) (name_of (salt false)) < 1 =
+    is_free [] (name_of (salt false)) 1 none_is (omega arith) in omega (arith, least)
 free B =
     let least : highest (reads (reserved_2 ∷ [])) (name_of (salt false)) < 3 =
-    is_free (reserved_2 ∷ []) (name_of (salt false)) 3 reserved_is (at_most (sending_name (salt false) bytes) (name_of (salt false)) 2 3 (omega arith)) in
+    is_free (reserved_2 ∷ []) (name_of (salt false)) 3 reserved_is
+    (at_most (sending_name (salt false) bytes) (name_of (salt false)) 2 3 (omega arith)) in
     omega (arith, least)
 
-keyed : (e : End) → (keeping_step (at e (start xpn_b)) (key_in e)).1 ≡ at e (with_key e)
-keyed A = command_step (at A (start xpn_b)) (Key (new_key (key_salt A) 2)) refl
-keyed B = command_step (at B (start xpn_b)) (Key (new_key (key_salt B) 2)) refl
-
-channelled : (e : End) → (keeping_step (at e (with_key e)) sc_in).1 ≡ at e (with_sc e)
-channelled A = command_step (at A (with_key A)) (RxSc sci_a) refl
-channelled B = command_step (at B (with_key B)) (RxSc sci_a) refl
-
-creates : (e : End) → (keeping_step (at e (with_sc e)) sa_in).1 ≡ at e (with_sa e)
-creates A = command_step (at A (with_sc A)) (RxSa sci_a 0 0 1 lowest) (is_new (reads []) (name_of (salt false)) lowest (free A))
-creates B = command_step (at B (with_sc B)) (RxSa sci_a 0 0 1 lowest) (is_new (reads (reserved_2 ∷ [])) (name_of (salt false)) lowest (free B))
-
-enables : (e : End) → (keeping_step (at e (with_sa e)) on_in).1 ≡ at e (ready e)
-enables A = command_step (at A (with_sa A)) (RxOn sci_a 0) refl
-enables B = command_step (at B (with_sa B)) (RxOn sci_a 0) refl
+are_new : (e : End) → AreNew (at e (start xpn_b)) (set_up e)
+are_new e = (refl, (refl, (is_new (reads (before e)) (name_of (salt false)) lowest (free e), (refl, tt))))
 
 hears : (e : End) → (keeping_step (at e (ready e)) (link e)).1 ≡ at e (heard e)
-hears e = link_step (at e (ready e)) (f e) ∙ ap (at e) (is_heard e)
+hears e = link_step_by (at e (ready e)) (f e) accepts (works e).whole (judged e)
 
 gives : (e : End) → newly_delivered (at e (ready e)) (link e) ≡ delivery ∷ []
-gives A = ap (λ (j : Judgement). delivered_by (ready A) j None j.row j.delivered) (judged A)
-gives B = ap (λ (j : Judgement). delivered_by (ready B) j None j.row j.delivered) (judged B)
+gives A = gives_by (at A (ready A)) (f A) accepts refl (judged A)
+gives B = gives_by (at B (ready B)) (f B) accepts refl (judged B)
 
-told_from : (e : End) (inputs : List KeepingInput) (ds : List Delivery) (last : Keeping) → Told (at e (ready e)) inputs [] ds last → Told (at e (start xpn_b)) (commands e ++ inputs) [] ds last
-told_from e inputs ds last rest =
-    told_next (at e (start xpn_b)) (at e (with_key e)) last (key_in e) (sc_in ∷ sa_in ∷ on_in ∷ inputs) [] [] [] ds start_sound refl refl (keyed e)
-    (told_next (at e (with_key e)) (at e (with_sc e)) last sc_in (sa_in ∷ on_in ∷ inputs) [] [] [] ds (key_sound e) refl refl (channelled e)
-    (told_next (at e (with_sc e)) (at e (with_sa e)) last sa_in (on_in ∷ inputs) [] [] [] ds (sc_sound e) refl refl (creates e)
-    (told_next (at e (with_sa e)) (at e (ready e)) last on_in inputs [] [] [] ds (sa_sound e) refl refl (enables e) rest)))
-
-told_link : (e : End) → Told (at e (start xpn_b)) (commands e ++ link e ∷ []) [] (delivery ∷ []) (at e (heard e))
-told_link e =
-    told_from e (link e ∷ []) (delivery ∷ []) (at e (heard e))
-    (told_next (at e (ready e)) (at e (heard e)) (at e (heard e)) (link e) [] [] [] (delivery ∷ []) [] (ready_sound e) refl (gives e) (hears e) (told_end (at e (heard e)) (heard_is_sound e)))
+told_link_of : (e : End) → Told (at e (start xpn_b)) (commands e ++ link e ∷ []) [] (delivery ∷ []) (at e (heard e))
+told_link_of e =
+    commands_told (set_up e) (are_new e) (works e).none (works e).fit start_sound
+    (told_next (ready_sound e) refl (gives e) (hears e) (told_end (at e (heard e)) (heard_is_sound e)))
 
 abbrev run_b : End → Run
 run_b e = record { journal = journal false (before e); config = xpn_b; inputs = commands e ++ link e ∷ [] }
 
 told_b : (e : End) → Told (opening (run_b e)) (commands e ++ link e ∷ []) [] (delivery ∷ []) (at e (heard e))
-told_b A = told_link A
-told_b B = told_link B
+told_b A = told_link_of A
+told_b B = told_link_of B
 
 -- it meets the premises
 
-genuine : (e : End) (uses : List CipherUse) → Contains uses (sent_use e) → IfSome (use_opened (ready e) (f e)) (Contains uses)
-genuine A uses there = genuine_at (ready A) (f A) accepts uses (judged A) (subst (λ (i : List ℕ). Contains uses (record use_1 { iv = i })) (sym (iv_is A)) there)
-genuine B uses there = genuine_at (ready B) (f B) accepts uses (judged B) (subst (λ (i : List ℕ). Contains uses (record own_use { iv = i })) (sym (iv_is B)) there)
+genuine : (e : End) (uses : List CipherUse) → Contains uses (sent_use e) →
+    IfSome (use_opened (ready e) (f e)) (Contains uses)
+genuine A uses there = genuine_at (ready A) (f A) accepts uses (judged A)
+    (subst (λ (i : List ℕ). Contains uses (record use_1 { iv = i })) (sym (iv_is A)) there)
+genuine B uses there = genuine_at (ready B) (f B) accepts uses (judged B)
+    (subst (λ (i : List ℕ). Contains uses (record own_use { iv = i })) (sym (iv_is B)) there)
 
-strict : (left_out : Premise) (e : End) → HasStrictOrderBut left_out (ready e)
-strict left_out A = record { mode = λ n. refl; replay = λ n. refl; window = λ n. refl }
-strict left_out B = record { mode = λ n. refl; replay = λ n. refl; window = λ n. refl }
-
-steps_b : (left_out : Premise) (e : End) → opening (run_b e) ≡ at e (start xpn_b) → (uses : List CipherUse) → Contains uses (sent_use e) →
+steps_b : (left_out : Premise) (e : End) → opening (run_b e) ≡ at e (start xpn_b) → (uses : List CipherUse) →
+    Contains uses (sent_use e) →
     AreSteps left_out bytes sci_a 0 (opening (run_b e)) [] uses (commands e ++ link e ∷ [])
 steps_b left_out e opened uses there =
-    after_own left_out bytes sci_a 0 (commands e) (link e ∷ []) (opening (run_b e)) uses (tt, (tt, (tt, (tt, tt))))
-    (subst (λ (k : Keeping). AreSteps left_out bytes sci_a 0 k [] uses (link e ∷ []))
-    (sym (ap (λ (k : Keeping). keeping_after k (commands e)) opened ∙ (told_from e [] [] (at e (ready e)) (told_end (at e (ready e)) (ready_sound e))).ends))
-    (step_next left_out bytes sci_a 0 (at e (ready e)) (at e (heard e)) [] (delivery ∷ []) uses (link e) []
-    (record {
-      genuine = λ d. genuine e uses there;
-      octets = octets e;
-      order = λ d among. strict left_out e;
-      creates = λ d row there' under fresh. All-nil (λ (d' : Delivery). d'.number < row.next);
-    }) (hears e) (gives e) no_step))
+    subst (λ (k : Keeping). AreSteps left_out bytes sci_a 0 k [] uses (commands e ++ link e ∷ [])) (sym opened)
+    (commands_steps left_out bytes sci_a 0 (set_up e) (are_new e) (works e).none
+    (step_next (first_link (λ d. genuine e uses there) (octets e) (works e).strict) (hears e) (gives e) no_step))
 
 -- ---- one run of each end
 
 -- a packet number that is neither of two
-not_of_two : (m n k : ℕ) (x y z : List ℕ) → (m ≡ n → ⊥) → (m ≡ k → ⊥) → IsSubsequence ((m ∷ x) ∷ []) ((n ∷ y) ∷ (k ∷ z) ∷ []) → ⊥
+not_of_two : (m n k : ℕ) (x y z : List ℕ) → (m ≡ n → ⊥) → (m ≡ k → ⊥) →
+    IsSubsequence ((m ∷ x) ∷ []) ((n ∷ y) ∷ (k ∷ z) ∷ []) → ⊥
 not_of_two m n k x y z first second it = by_places it.0 it.2
   where
     by_places : (places : List ℕ) → map (slice_get ((n ∷ y) ∷ (k ∷ z) ∷ [])) places ≡ Some (m ∷ x) ∷ [] → ⊥
@@ -426,38 +339,46 @@ not_of_two m n k x y z first second it = by_places it.0 it.2
     by_places (suc zero ∷ ps) same = let one : k ≡ m = cc in second (sym one)
     by_places (suc (suc p) ∷ ps) same = cc
 
-module _ (a b : Run) (sends : Facts 1 sci_a a (sender.sent false) []) (last : Keeping) (told : Told (opening b) b.inputs [] (delivery ∷ []) last) (keys : last.secy.keys ≡ key_b A ∷ []) where
+module _ (a b : Run) (sends : Facts 1 sci_a a (sender.sent false) []) (last : Keeping)
+    (told : Told (opening b) b.inputs [] (delivery ∷ []) last) (keys : last.secy.keys ≡ key_b A ∷ []) where
   keys_at_b : (y : InstalledKey) → Contains (closing b).secy.keys y → key_b A ≡ y
-  keys_at_b y there = only (key_b A) y (subst (λ (ks : List InstalledKey). Contains ks y) (ap (λ (k : Keeping). k.secy.keys) told.ends ∙ keys) there)
+  keys_at_b y there = only (key_b A) y (subst (λ (ks : List InstalledKey). Contains ks y)
+      (ap (λ (k : Keeping). k.secy.keys) told.ends ∙ keys) there)
 
   -- A's key has 32-bit packet numbers, so nothing is asked of the salts
   agree_at_both : AgreeAtBothBut HasOneSuite a b
   agree_at_both = λ x y here there same.
       let k = sends.of.keys x here in
       subst (λ (z : InstalledKey). AgreeOnKeyBut HasOneSuite HasOneSalt HasOneSuite x z) (keys_at_b y there)
-      (subst (λ (z : InstalledKey). AgreeOnKeyBut HasOneSuite HasOneSalt HasOneSuite z (key_b A)) (sym k.1) (record { suite = λ d. absurd (d refl); salt = λ d xpn. cc }))
+      (subst (λ (z : InstalledKey). AgreeOnKeyBut HasOneSuite HasOneSalt HasOneSuite z (key_b A)) (sym k.1)
+      (record { suite = λ d. absurd (d refl); salt = λ d xpn. cc }))
 
   sent_is : sent_in_all (a ∷ []) ≡ sender.sent false
   sent_is = ap (λ (xs : List SentIn). xs ++ []) sends.told.sends
 
   sealed_a : Contains (sealed_in_all (a ∷ []) ++ []) use_1
-  sealed_a = subst (λ (us : List CipherUse). Contains (us ++ []) use_1) (sym (seals_are (a ∷ []) (sender.sent false) sent_is)) (0, omega arith, refl)
+  sealed_a = subst (λ (us : List CipherUse). Contains (us ++ []) use_1)
+      (sym (seals_are (a ∷ []) (sender.sent false) sent_is)) (0, omega arith, refl)
 
-  widened : AreOwn a.inputs → ((uses : List CipherUse) → Contains uses use_1 → AreSteps HasOneSuite bytes sci_a 0 (opening b) [] uses b.inputs) →
+  widened : AreOwn a.inputs → ((uses : List CipherUse) → Contains uses use_1 →
+      AreSteps HasOneSuite bytes sci_a 0 (opening b) [] uses b.inputs) →
       LawWithout HasOneSuite (blocks ((A, a) ∷ (B, b) ∷ [])) → ⊥
   widened own steps =
       refuted HasOneSuite ((A, a) ∷ (B, b) ∷ []) (sender.sent false) (delivery ∷ [])
       (own, (((λ d. nothing_saved b.journal), steps (sealed_in_all (a ∷ []) ++ []) sealed_a), tt))
       (one_run_each HasOneSuite a b (λ d. sends.of.sound) (λ d. told.sound) agree_at_both)
       sent_is (ap (λ (xs : List Delivery). xs ++ []) told.delivers)
-      (not_of_two (2 ^ 32 + 1) 1 2 (client 1) (client 1) (client 1) (λ same. omega (arith, same)) (λ same. omega (arith, same)))
+      (not_of_two (2 ^ 32 + 1) 1 2 (client 1) (client 1) (client 1) (λ same. omega (arith, same))
+      (λ same. omega (arith, same)))
 
 pub one_suite_needed : LawWithout HasOneSuite (blocks ((A, run_a false) ∷ (B, run_b A) ∷ [])) → ⊥
-one_suite_needed = widened (run_a false) (run_b A) (facts_a false) (at A (heard A)) (told_b A) refl (tt, (tt, (tt, (tt, (tt, (tt, tt)))))) (steps_b HasOneSuite A refl)
+one_suite_needed = widened (run_a false) (run_b A) (facts_a false) (at A (heard A)) (told_b A) refl
+    (tt, (tt, (tt, (tt, (tt, (tt, tt)))))) (steps_b HasOneSuite A refl)
 
 -- ---- two runs of B
 
-module _ (s r : Run) (first last : Keeping) (sends : Told (opening s) s.inputs (sent_own ∷ []) [] first) (receives : Told (opening r) r.inputs [] (delivery ∷ []) last)
+module _ (s r : Run) (first last : Keeping) (sends : Told (opening s) s.inputs (sent_own ∷ []) [] first)
+    (receives : Told (opening r) r.inputs [] (delivery ∷ []) last)
     (keys_first : first.secy.keys ≡ key_row 2 2 ∷ []) (keys_last : last.secy.keys ≡ key_b B ∷ []) where
   keys_s : (closing s).secy.keys ≡ key_row 2 2 ∷ []
   keys_s = ap (λ (k : Keeping). k.secy.keys) sends.ends ∙ keys_first
@@ -468,27 +389,35 @@ module _ (s r : Run) (first last : Keeping) (sends : Told (opening s) s.inputs (
   -- the first key has 32-bit packet numbers, so nothing is asked of the salts
   agree_in_runs : AgreeInRunsBut KeepsSuite s r
   agree_in_runs =
-      extended.of_last (λ x y. x.bytes ≡ y.bytes → AgreeOnKeyBut KeepsSuite KeepsSalt KeepsSuite x y) s r (key_row 2 2) (key_b B) keys_s keys_r
+      extended.of_last (λ x y. x.bytes ≡ y.bytes → AgreeOnKeyBut KeepsSuite KeepsSalt KeepsSuite x y) s r (key_row 2 2)
+      (key_b B) keys_s keys_r
       (λ same. record { suite = λ d. absurd (d refl); salt = λ d xpn. cc })
 
   sealed_s : Contains (sealed_in_all [] ++ sealed_in_all (s ∷ [])) own_use
-  sealed_s = subst (λ (us : List CipherUse). Contains us own_use) (sym (seals_are (s ∷ []) (sent_own ∷ []) (ap (λ (xs : List SentIn). xs ++ []) sends.sends))) (0, omega arith, refl)
+  sealed_s = subst (λ (us : List CipherUse). Contains us own_use)
+      (sym (seals_are (s ∷ []) (sent_own ∷ []) (ap (λ (xs : List SentIn). xs ++ []) sends.sends)))
+      (0, omega arith, refl)
 
   none_yet : delivered_in_all (s ∷ []) ≡ []
   none_yet = ap (λ (xs : List Delivery). xs ++ []) sends.delivers
 
   reflected : AreOwn s.inputs → s.config.sci ≡ r.config.sci → SameSalt s r → KeepsDurable s r →
-      ((uses : List CipherUse) → Contains uses own_use → AreSteps KeepsSuite bytes sci_a 0 (opening r) [] uses r.inputs) → LawWithout KeepsSuite (blocks ((B, s) ∷ (B, r) ∷ [])) → ⊥
+      ((uses : List CipherUse) → Contains uses own_use →
+      AreSteps KeepsSuite bytes sci_a 0 (opening r) [] uses r.inputs) →
+      LawWithout KeepsSuite (blocks ((B, s) ∷ (B, r) ∷ [])) → ⊥
   reflected own one_sci salts durable steps =
       refuted KeepsSuite ((B, s) ∷ (B, r) ∷ []) [] (delivery ∷ []) (
         (
           (λ d. nothing_saved s.journal),
-          subst (λ (is : List KeepingInput). AreSteps KeepsSuite bytes sci_a 0 (opening s) [] (sealed_in_all [] ++ sealed_in_all []) is) (append-nil s.inputs)
-              (after_own KeepsSuite bytes sci_a 0 s.inputs [] (opening s) (sealed_in_all [] ++ sealed_in_all []) own no_step),
+          subst (λ (is : List KeepingInput). AreSteps KeepsSuite bytes sci_a 0 (opening s) []
+              (sealed_in_all [] ++ sealed_in_all []) is) (append-nil s.inputs)
+              (after_own KeepsSuite bytes sci_a 0 s.inputs [] (opening s)
+              (sealed_in_all [] ++ sealed_in_all []) own no_step),
         ),
         (
           (
-            (λ d. subst (λ (xs : List Delivery). SavedIn r.journal bytes sci_a 0 (delivered_at bytes sci_a 0 xs)) (sym none_yet) (nothing_saved r.journal)),
+            (λ d. subst (λ (xs : List Delivery). SavedIn r.journal bytes sci_a 0 (delivered_at bytes sci_a 0 xs))
+                (sym none_yet) (nothing_saved r.journal)),
             steps (sealed_in_all [] ++ sealed_in_all (s ∷ [])) sealed_s,
           ),
           tt,
@@ -496,13 +425,16 @@ module _ (s r : Run) (first last : Keeping) (sends : Told (opening s) s.inputs (
       )
       (two_runs_of_b KeepsSuite s r sends.sound receives.sound agree_in_runs salts durable (record {
         sci = λ d. one_sci;
-        ssci = λ d. extended.of_last (λ x y. x.bytes ≡ y.bytes → is_xpn x.suite ≡ true → x.ssci ≡ y.ssci) s r (key_row 2 2) (key_b B) keys_s keys_r (λ same xpn. refl);
+        ssci = λ d. extended.of_last (λ x y. x.bytes ≡ y.bytes → is_xpn x.suite ≡ true → x.ssci ≡ y.ssci) s r
+            (key_row 2 2) (key_b B) keys_s keys_r (λ same xpn. refl);
       }))
       refl
-      (ap (λ (xs : List Delivery). xs ++ delivered_in_all (r ∷ [])) sends.delivers ∙ ap (λ (xs : List Delivery). xs ++ []) receives.delivers)
+      (ap (λ (xs : List Delivery). xs ++ delivered_in_all (r ∷ [])) sends.delivers
+      ∙ ap (λ (xs : List Delivery). xs ++ []) receives.delivers)
       (not_of_none (number ∷ client 1))
 
 pub kept_suite_needed : LawWithout KeepsSuite (blocks ((B, first_run) ∷ (B, run_b B) ∷ [])) → ⊥
 kept_suite_needed =
-    reflected first_run (run_b B) own_last (at B (heard B)) told_own (told_b B) refl refl (tt, (tt, (tt, (tt, (tt, tt))))) refl refl (is_durable reserved_2 reserved_is)
+    reflected first_run (run_b B) own_last (at B (heard B)) told_own (told_b B) refl refl
+    (tt, (tt, (tt, (tt, (tt, tt))))) refl refl (is_durable reserved_2 reserved_is)
     (steps_b KeepsSuite B refl)

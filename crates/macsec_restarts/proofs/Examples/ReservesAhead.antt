@@ -1,56 +1,55 @@
--- Two runs of each end, where the endpoints reserve ahead of receiving. B drops the first frame, since its packet number
--- (PN) is not reserved; once a record is durable it delivers it, and drops its replay as late. Then it deletes the SA, and
--- refuses to create it again at the same PN. Then both restart. B drops the first frame again, and delivers one with PN 3.
+-- Two runs of each end, where the endpoints reserve ahead of receiving. B drops the first frame, since its packet
+-- number (PN) is not reserved; once a record is durable it delivers it, and drops its replay as late. Then it deletes
+-- the SA, and refuses to create it again at the same PN. Then both restart. B drops the first frame again, and delivers
+-- one with PN 3.
 use Rattle.std.proofs.Common.{◌≡◌, ◌≢◌, get_or, ℕ, ◌<◌, ◌≤◌, Bool, true, false, List, [], ◌∷◌, ◌++◌, map, refl, ap, sym, subst, ◌∙◌, arith, Contains}
 use Rattle.std.specs.Prelude.{◌==◌, max, nat_le, if◌then◌else◌, Option, Some, None, IfSome}
 use Rattle.std.proofs.lemmas.Bool.{lt-leb}
-use Rattle.std.proofs.lemmas.List.Elements.{All-nil}
 use Rattle.macsec_suite.specs.CipherUses.{CipherUse}
 use Rattle.macsec_suite.specs.declared.refusal.Refusal.TheVariants.{PnFloor}
-use Rattle.macsec_commands.specs.declared.command.Command.TheVariants.{Key, RxDel, RxOn, RxSa, RxSc}
+use Rattle.macsec_commands.specs.declared.command.Command.TheVariants.{RxDel, RxSa}
 use Rattle.macsec_commands.specs.declared.event.End.{End}
 use Rattle.macsec_commands.specs.declared.event.End.TheVariants.{A, B}
 use Rattle.macsec_rx.specs.Judge.{Judgement}
 use Rattle.macsec_secy.specs.Commands.{effect}
-use Rattle.macsec_secy.specs.Reception.{state_after_receiving}
 use Rattle.macsec_secy.specs.Sound.{IsSound}
 use Rattle.macsec_secy.specs.State.{State, start}
 use Rattle.macsec_secy.specs.Step.{link_frame, operator_command, refused, step}
-use Rattle.macsec_secy.proofs.StaysSound.{after_effect}
 use Rattle.macsec_reserve.specs.declared.reservation.Reservation.{Reservation}
 use Rattle.macsec_reserve.specs.Entries.{raised_by}
 use Rattle.macsec_reserve.specs.Histories.{KeepsDurable, Run, SameSalt, closing, opening}
 use Rattle.macsec_reserve.specs.Journal.{highest}
-use Rattle.macsec_reserve.specs.Keeping.{Keeping, KeepingInput, endpoint_output, for_each_key, keeping_after, keeping_step, now_durable}
+use Rattle.macsec_reserve.specs.Keeping.{Keeping, KeepingInput, endpoint_output, for_each_key, keeping_step, now_durable}
 use Rattle.macsec_reserve.proofs.Written.{same_octets-refl}
 use Rattle.macsec_counterexamples.proofs.Link.Exchange.{client, key_row}
 use Rattle.macsec_counterexamples.proofs.Link.TracedSteps.{genuine_at}
-use Rattle.macsec_counterexamples.proofs.Link.WorkedEnds.{bytes, gcm_b, new_key, no_salt, rx_from, sci_a, sci_b}
-use Rattle.macsec_counterexamples.proofs.Restarts.Goes.{command, command_step, link_step}
+use Rattle.macsec_counterexamples.proofs.Link.WorkedEnds.{bytes, gcm_b, rx_from, sci_a, sci_b}
+use Rattle.macsec_counterexamples.proofs.Restarts.Goes.{carried_step, command, raised_alone}
+use Rattle.macsec_counterexamples.proofs.Restarts.Tables.{commands_sound}
 use Rattle.macsec_counterexamples.proofs.Restarts.Journals.{journal, salt}
-use Rattle.macsec_counterexamples.proofs.Restarts.Receivers.{channels_are, keys_are, name_of}
+use Rattle.macsec_counterexamples.proofs.Restarts.Receivers.{name_of}
 use Rattle.macsec_counterexamples.proofs.Restarts.Senders.{kept}
 use Rattle.macsec_rx.specs.declared.within.RxPn.{RxPn}
 use Rattle.macsec_ahead.specs.declared.ends.EndedSa.{EndedSa}
 use Rattle.macsec_ahead.specs.Ends.{no_ends}
 use Rattle.macsec_ahead.specs.Ahead.{Ahead, ahead_by, ahead_step, before_this_run, dropped_not_reserved, is_through, kept as an_output, lets_through, not_yet, passes, run_inside, standing_by, wanted_to_accept}
 use Rattle.macsec_restarts.specs.AheadOrder.{IsOrderlyInside, IsStrictInput, delivered_so_far_with, inside}
-use Rattle.macsec_restarts.specs.AheadRuns.{AreOfOneSa, accepted_from, accepted_in, is_valid, newly_accepted, newly_delivered_with, sent_in_all_with}
+use Rattle.macsec_restarts.specs.AheadRuns.{AreOfOneSa, accepted_in, is_valid, newly_accepted, newly_delivered_with, sent_in_all_with}
 use Rattle.macsec_restarts.specs.Delivered.{Delivery, delivered_at, delivered_in_all, newly_delivered}
 use Rattle.macsec_restarts.specs.Happenings.{AtEach, Happening, begins, comes_in, last_run, runs_of}
 use Rattle.macsec_restarts.specs.Order.{IsOrderedInput, IsOrderly, numbered_delivery, numbered_sent}
 use Rattle.macsec_restarts.specs.Peers.{ArePeers}
 use Rattle.macsec_restarts.specs.Sent.{SentIn, sent_in_all, sent_under}
 use Rattle.macsec_restarts.proofs.AheadAccepts.{accepts_above_in_all}
-use Rattle.macsec_restarts.proofs.AheadInside.{delivered_in_all_inside, sent_in_all_inside, stays}
+use Rattle.macsec_restarts.proofs.AheadInside.{delivered_in_all_inside, sent_in_all_inside}
 use Rattle.macsec_restarts.proofs.AheadOrder.{runs_inside}
-use Rattle.macsec_restarts.proofs.Examples.Blocks.{AreSteps, EndRun, IsStep, Told, after_own, blocks, no_step, step_next, told_end, told_next}
-use Rattle.macsec_restarts.proofs.Examples.Histories.{MeetsAll, run_told}
-use Rattle.macsec_restarts.proofs.Examples.InsideBlocks.{Through, drops_next, goes_on, inside_blocks, passes_next, through_end}
+use Rattle.macsec_restarts.proofs.Examples.Blocks.{AreSteps, EndRun, Told, blocks, first_link, gives_by, is_strict, link_step_by, no_step, own_step, step_link, step_next, told_end, told_link, told_next}
+use Rattle.macsec_restarts.proofs.Examples.Histories.{MeetsAll}
+use Rattle.macsec_restarts.proofs.Examples.InsideBlocks.{Through, commands_pass, drops_next, goes_on, inside_blocks, passes_next, through_end}
 use Rattle.macsec_restarts.proofs.Examples.Premises.{NoPremise}
 use Rattle.macsec_restarts.proofs.Examples.Receivers as receiver
 use Rattle.macsec_restarts.proofs.Examples.Tags.{octets_1, octets_3}
-use Rattle.macsec_restarts.proofs.Examples.TwoRunsEach.{Facts, at_most, facts_a, is_durable, is_free, is_saved, meets, none_is, opens_1, opens_3, pair, reads, reserved_2, reserved_is, run_a, saved_1, saved_is, t, u, use_1, use_3}
+use Rattle.macsec_restarts.proofs.Examples.TwoRunsEach.{Facts, facts_of, at_most, facts_a, is_durable, is_free, is_saved, meets, none_is, opens_1, opens_3, pair, reads, reserved_2, reserved_is, run_a, saved_1, saved_is, t, u, use_1, use_3}
 
 -- ---- the receiver's states
 
@@ -72,7 +71,8 @@ abbrev k_at : Bool → List Reservation → State → Keeping
 k_at again granted s = kept (salt false) (reads (before_b again)) granted s
 
 abbrev a_at : Bool → List Reservation → List Reservation → List EndedSa → State → Ahead
-a_at again granted taken ended s = record { k = k_at again granted s; ahead = true; taken = taken; ended = record no_ends { entries = ended } }
+a_at again granted taken ended s =
+    record { k = k_at again granted s; ahead = true; taken = taken; ended = record no_ends { entries = ended } }
 
 free : (again : Bool) → highest (reads (before_b again)) name < receiver.lowest_of again
 free false = is_free [] name 1 none_is (omega arith)
@@ -88,7 +88,7 @@ abbrev deleted : State
 deleted = effect (receiver.dropped_1 t) (RxDel sci_a 0)
 
 deleted_sound : IsSound deleted
-deleted_sound = after_effect (receiver.dropped_1 t) (RxDel sci_a 0) refl (record { keys = keys_are; tx = tt; rx = channels_are [] tt }) (receiver.dropped_1_sound t opens_1)
+deleted_sound = commands_sound (RxDel sci_a 0 ∷ []) refl refl (receiver.dropped_1_sound t opens_1)
 
 abbrev link_1 : KeepingInput
 link_1 = receiver.link 1 t
@@ -99,7 +99,8 @@ link_3 = receiver.link 3 u
 -- ---- its runs, and the runs of the keeping endpoint inside
 
 abbrev run_of : Bool → List KeepingInput → Run
-run_of again inputs = record { journal = journal false (before_b again); config = gcm_b; inputs = receiver.commands again ++ inputs }
+run_of again inputs =
+    record { journal = journal false (before_b again); config = gcm_b; inputs = receiver.commands again ++ inputs }
 
 abbrev comes : Bool → List KeepingInput
 comes false = link_1 ∷ now_durable saved_1 ∷ link_1 ∷ link_1 ∷ deletes ∷ creates ∷ []
@@ -117,33 +118,32 @@ inner_b again = run_of again (reaches again)
 
 -- ---- the steps of the keeping endpoint inside
 
-then_2 : (step (receiver.heard_1 t) (link_frame (receiver.frame 1 t))).1 ≡ receiver.dropped_1 t
-then_2 = ap (λ (j : Judgement). state_after_receiving (receiver.heard_1 t) (receiver.frame 1 t) j) (receiver.late_then t)
+abbrev f1 : List ℕ
+f1 = receiver.frame 1 t
 
-then_again : (step (receiver.ready true) (link_frame (receiver.frame 1 t))).1 ≡ receiver.dropped_2 t
-then_again = ap (λ (j : Judgement). state_after_receiving (receiver.ready true) (receiver.frame 1 t) j) (receiver.late_again t)
+abbrev f3 : List ℕ
+f3 = receiver.frame 3 u
 
-then_3 : (step (receiver.dropped_2 t) (link_frame (receiver.frame 3 u))).1 ≡ receiver.heard_3 t u
-then_3 = ap (λ (j : Judgement). state_after_receiving (receiver.dropped_2 t) (receiver.frame 3 u) j) (receiver.judged_3 t u opens_3)
+abbrev k_1 : State → Keeping
+k_1 s = k_at false (granted_after saved_1) s
 
-hears : (again : Bool) (granted : List Reservation) (s after : State) (number : ℕ) (t' : List ℕ) → (step s (link_frame (receiver.frame number t'))).1 ≡ after →
-    (keeping_step (k_at again granted s) (receiver.link number t')).1 ≡ k_at again granted after
-hears again granted s after number t' is = link_step (k_at again granted s) (receiver.frame number t') ∙ ap (k_at again granted) is
+abbrev k_3 : State → Keeping
+k_3 s = k_at true (granted_after saved_3) s
 
-hears_1 : (keeping_step (k_at false (granted_after saved_1) (receiver.ready false)) link_1).1 ≡ k_at false (granted_after saved_1) (receiver.heard_1 t)
-hears_1 = hears false (granted_after saved_1) (receiver.ready false) (receiver.heard_1 t) 1 t (receiver.is_heard_1 t opens_1)
+hears_1 : (keeping_step (k_1 (receiver.ready false)) link_1).1 ≡ k_1 (receiver.heard_1 t)
+hears_1 = link_step_by (k_1 (receiver.ready false)) f1 receiver.accepts_1 refl (receiver.judged_1 t opens_1)
 
-hears_2 : (keeping_step (k_at false (granted_after saved_1) (receiver.heard_1 t)) link_1).1 ≡ k_at false (granted_after saved_1) (receiver.dropped_1 t)
-hears_2 = hears false (granted_after saved_1) (receiver.heard_1 t) (receiver.dropped_1 t) 1 t then_2
+hears_2 : (keeping_step (k_1 (receiver.heard_1 t)) link_1).1 ≡ k_1 (receiver.dropped_1 t)
+hears_2 = link_step_by (k_1 (receiver.heard_1 t)) f1 receiver.is_late refl (receiver.late_then t)
 
-does_delete : (keeping_step (k_at false (granted_after saved_1) (receiver.dropped_1 t)) deletes).1 ≡ k_at false (granted_after saved_1) deleted
-does_delete = command_step (k_at false (granted_after saved_1) (receiver.dropped_1 t)) (RxDel sci_a 0) refl
+does_delete : (keeping_step (k_1 (receiver.dropped_1 t)) deletes).1 ≡ k_1 deleted
+does_delete = carried_step (k_1 (receiver.dropped_1 t)) (RxDel sci_a 0) refl refl
 
 hears_again : (keeping_step (k_at true [] (receiver.ready true)) link_1).1 ≡ k_at true [] (receiver.dropped_2 t)
-hears_again = hears true [] (receiver.ready true) (receiver.dropped_2 t) 1 t then_again
+hears_again = link_step_by (k_at true [] (receiver.ready true)) f1 receiver.is_late refl (receiver.late_again t)
 
-hears_3 : (keeping_step (k_at true (granted_after saved_3) (receiver.dropped_2 t)) link_3).1 ≡ k_at true (granted_after saved_3) (receiver.heard_3 t u)
-hears_3 = hears true (granted_after saved_3) (receiver.dropped_2 t) (receiver.heard_3 t u) 3 u then_3
+hears_3 : (keeping_step (k_3 (receiver.dropped_2 t)) link_3).1 ≡ k_3 (receiver.heard_3 t u)
+hears_3 = link_step_by (k_3 (receiver.dropped_2 t)) f3 receiver.accepts_3 refl (receiver.judged_3 t u opens_3)
 
 -- ---- its lists
 
@@ -155,129 +155,63 @@ abbrev delivered_b : Bool → List Delivery
 delivered_b false = receiver.delivery 1 ∷ []
 delivered_b true = receiver.delivery 3 ∷ []
 
-frames_told : (again : Bool) → Told (k_at again [] (receiver.ready again)) (reaches again) [] (delivered_b again) (last_b again)
+frames_told : (again : Bool) → Told (k_at again [] (receiver.ready again)) (reaches again) [] (delivered_b again)
+    (last_b again)
 frames_told false =
-    let k1 = k_at false [] (receiver.ready false) in
-    let k2 = k_at false (granted_after saved_1) (receiver.ready false) in
-    let k3 = k_at false (granted_after saved_1) (receiver.heard_1 t) in
-    let k4 = k_at false (granted_after saved_1) (receiver.dropped_1 t) in
-    let k5 = last_b false in
-    told_next k1 k2 k5 (now_durable saved_1) (link_1 ∷ link_1 ∷ deletes ∷ []) [] [] [] (receiver.delivery 1 ∷ []) (receiver.ready_sound false) refl refl refl
-    (told_next k2 k3 k5 link_1 (link_1 ∷ deletes ∷ []) [] [] (receiver.delivery 1 ∷ []) [] (receiver.ready_sound false) refl (receiver.delivers k2 1 t receiver.accepts_1 (receiver.judged_1 t opens_1)) hears_1
-    (told_next k3 k4 k5 link_1 (deletes ∷ []) [] [] [] [] (receiver.heard_1_sound t opens_1) refl (receiver.delivers k3 1 t receiver.is_late (receiver.late_then t)) hears_2
-    (told_next k4 k5 k5 deletes [] [] [] [] [] (receiver.dropped_1_sound t opens_1) refl refl does_delete (told_end k5 deleted_sound))))
+    told_next (receiver.ready_sound false) refl refl refl
+    (told_link receiver.accepts_1 refl (receiver.judged_1 t opens_1) (receiver.ready_sound false)
+    (told_link receiver.is_late refl (receiver.late_then t) (receiver.heard_1_sound t opens_1)
+    (told_next (receiver.dropped_1_sound t opens_1) refl refl does_delete (told_end _ deleted_sound))))
 frames_told true =
-    let k1 = k_at true [] (receiver.ready true) in
-    let k2 = k_at true [] (receiver.dropped_2 t) in
-    let k3 = k_at true (granted_after saved_3) (receiver.dropped_2 t) in
-    let k4 = last_b true in
-    told_next k1 k2 k4 link_1 (now_durable saved_3 ∷ link_3 ∷ []) [] [] [] (receiver.delivery 3 ∷ []) (receiver.ready_sound true) refl
-    (receiver.delivers k1 1 t receiver.is_late (receiver.late_again t)) hears_again
-    (told_next k2 k3 k4 (now_durable saved_3) (link_3 ∷ []) [] [] [] (receiver.delivery 3 ∷ []) (receiver.dropped_2_sound t) refl refl refl
-    (told_next k3 k4 k4 link_3 [] [] [] (receiver.delivery 3 ∷ []) [] (receiver.dropped_2_sound t) refl (receiver.delivers k3 3 u receiver.accepts_3 (receiver.judged_3 t u opens_3)) hears_3
-    (told_end k4 (receiver.heard_3_sound t u opens_3))))
+    told_link receiver.is_late refl (receiver.late_again t) (receiver.ready_sound true)
+    (told_next (receiver.dropped_2_sound t) refl refl refl
+    (told_link receiver.accepts_3 refl (receiver.judged_3 t u opens_3) (receiver.dropped_2_sound t)
+    (told_end _ (receiver.heard_3_sound t u opens_3))))
 
 told_b : (again : Bool) → Told (opening (inner_b again)) (inner_b again).inputs [] (delivered_b again) (last_b again)
-told_b false = receiver.told (salt false) (reads []) false (reaches false) (delivered_b false) (last_b false) (free false) (frames_told false)
-told_b true = receiver.told (salt false) (reads (saved_1 ∷ [])) true (reaches true) (delivered_b true) (last_b true) (free true) (frames_told true)
+told_b false = receiver.told (salt false) (reads []) false (free false) (frames_told false)
+told_b true = receiver.told (salt false) (reads (saved_1 ∷ [])) true (free true) (frames_told true)
 
 facts_b : (again : Bool) → Facts 2 sci_b (inner_b again) [] (delivered_b again)
-facts_b false = record { last = last_b false; told = told_b false; of = run_told 2 1 sci_b (inner_b false) [] (delivered_b false) (last_b false) refl refl (told_b false) }
-facts_b true = record { last = last_b true; told = told_b true; of = run_told 2 1 sci_b (inner_b true) [] (delivered_b true) (last_b true) refl refl (told_b true) }
+facts_b false = facts_of 1 refl refl (told_b false)
+facts_b true = facts_of 1 refl refl (told_b true)
 
 -- ---- its premises, input by input
 
-commands_end : (again : Bool) → keeping_after (opening (inner_b again)) (receiver.commands again) ≡ k_at again [] (receiver.ready again)
-commands_end false = (receiver.told (salt false) (reads []) false [] [] (k_at false [] (receiver.ready false)) (free false) (told_end (k_at false [] (receiver.ready false)) (receiver.ready_sound false))).ends
-commands_end true = (receiver.told (salt false) (reads (saved_1 ∷ [])) true [] [] (k_at true [] (receiver.ready true)) (free true) (told_end (k_at true [] (receiver.ready true)) (receiver.ready_sound true))).ends
-
-abbrev IsNext : Keeping → List Delivery → List CipherUse → KeepingInput → Type 0
-IsNext k ds uses input = IsStep NoPremise bytes sci_a 0 k ds uses input
-
-abbrev k_1 : State → Keeping
-k_1 s = k_at false (granted_after saved_1) s
-
-reports_1 : (uses : List CipherUse) → IsNext (k_at false [] (receiver.ready false)) [] uses (now_durable saved_1)
-reports_1 uses = record {
-  genuine = λ d. tt;
-  octets = tt;
-  order = λ d among. record { mode = λ n. refl; replay = λ n. refl; window = λ n. refl };
-  creates = λ d row at under fresh. All-nil (λ (d' : Delivery). d'.number < row.next);
-}
-
-accepts_1 : (uses : List CipherUse) → Contains uses use_1 → IsNext (k_1 (receiver.ready false)) [] uses link_1
-accepts_1 uses there = record {
-  genuine = λ d. genuine_at (receiver.ready false) (receiver.frame 1 t) receiver.accepts_1 uses (receiver.judged_1 t opens_1) there;
-  octets = octets_1;
-  order = λ d among. record { mode = λ n. refl; replay = λ n. refl; window = λ n. refl };
-  creates = λ d row at under fresh. All-nil (λ (d' : Delivery). d'.number < row.next);
-}
-
-drops_late : (uses : List CipherUse) → IsNext (k_1 (receiver.heard_1 t)) (receiver.delivery 1 ∷ []) uses link_1
-drops_late uses = record {
-  genuine = λ d. genuine_at (receiver.heard_1 t) (receiver.frame 1 t) receiver.is_late uses (receiver.late_then t) tt;
-  octets = octets_1;
-  order = λ d among. record { mode = λ n. refl; replay = λ n. refl; window = λ n. refl };
-  creates = λ d row at under fresh. absurd (fresh (rx_from 2) refl refl);
-}
-
-is_deleted : (uses : List CipherUse) → IsNext (k_1 (receiver.dropped_1 t)) (receiver.delivery 1 ∷ []) uses deletes
-is_deleted uses = record {
-  genuine = λ d. tt;
-  octets = tt;
-  order = λ d among. record { mode = λ n. refl; replay = λ n. refl; window = λ n. refl };
-  creates = λ d row at under fresh. absurd (fresh (rx_from 2) refl refl);
-}
-
-drops_again : (uses : List CipherUse) → IsNext (k_at true [] (receiver.ready true)) [] uses link_1
-drops_again uses = record {
-  genuine = λ d. genuine_at (receiver.ready true) (receiver.frame 1 t) receiver.is_late uses (receiver.late_again t) tt;
-  octets = octets_1;
-  order = λ d among. record { mode = λ n. refl; replay = λ n. refl; window = λ n. refl };
-  creates = λ d row at under fresh. All-nil (λ (d' : Delivery). d'.number < row.next);
-}
-
-reports_3 : (uses : List CipherUse) → IsNext (k_at true [] (receiver.dropped_2 t)) [] uses (now_durable saved_3)
-reports_3 uses = record {
-  genuine = λ d. tt;
-  octets = tt;
-  order = λ d among. record { mode = λ n. refl; replay = λ n. refl; window = λ n. refl };
-  creates = λ d row at under fresh. All-nil (λ (d' : Delivery). d'.number < row.next);
-}
-
-accepts_3 : (uses : List CipherUse) → Contains uses use_3 → IsNext (k_at true (granted_after saved_3) (receiver.dropped_2 t)) [] uses link_3
-accepts_3 uses there = record {
-  genuine = λ d. genuine_at (receiver.dropped_2 t) (receiver.frame 3 u) receiver.accepts_3 uses (receiver.judged_3 t u opens_3) there;
-  octets = octets_3;
-  order = λ d among. record { mode = λ n. refl; replay = λ n. refl; window = λ n. refl };
-  creates = λ d row at under fresh. All-nil (λ (d' : Delivery). d'.number < row.next);
-}
-
-steps_1 : (uses : List CipherUse) → Contains uses use_1 → AreSteps NoPremise bytes sci_a 0 (opening (inner_b false)) [] uses (inner_b false).inputs
+steps_1 : (uses : List CipherUse) → Contains uses use_1 →
+    AreSteps NoPremise bytes sci_a 0 (opening (inner_b false)) [] uses (inner_b false).inputs
 steps_1 uses there =
-    let k1 = k_at false [] (receiver.ready false) in
-    let k2 = k_1 (receiver.ready false) in
-    let k3 = k_1 (receiver.heard_1 t) in
-    let k4 = k_1 (receiver.dropped_1 t) in
-    after_own NoPremise bytes sci_a 0 (receiver.commands false) (reaches false) (opening (inner_b false)) uses (tt, (tt, (tt, (tt, tt))))
-    (subst (λ (k : Keeping). AreSteps NoPremise bytes sci_a 0 k [] uses (reaches false)) (sym (commands_end false))
-    (step_next NoPremise bytes sci_a 0 k1 k2 [] [] uses (now_durable saved_1) (link_1 ∷ link_1 ∷ deletes ∷ []) (reports_1 uses) refl refl
-    (step_next NoPremise bytes sci_a 0 k2 k3 [] (receiver.delivery 1 ∷ []) uses link_1 (link_1 ∷ deletes ∷ []) (accepts_1 uses there) hears_1
-    (receiver.delivers k2 1 t receiver.accepts_1 (receiver.judged_1 t opens_1))
-    (step_next NoPremise bytes sci_a 0 k3 k4 (receiver.delivery 1 ∷ []) [] uses link_1 (deletes ∷ []) (drops_late uses) hears_2 (receiver.delivers k3 1 t receiver.is_late (receiver.late_then t))
-    (step_next NoPremise bytes sci_a 0 k4 (last_b false) (receiver.delivery 1 ∷ []) [] uses deletes [] (is_deleted uses) does_delete refl no_step)))))
+    receiver.steps (salt false) (reads []) NoPremise false (free false)
+    (step_next (own_step NoPremise bytes sci_a 0 (k_at false [] (receiver.ready false)) uses (now_durable saved_1) tt)
+    refl refl
+    (step_link receiver.accepts_1 refl (receiver.judged_1 t opens_1)
+    (first_link (λ d. genuine_at (receiver.ready false) f1 receiver.accepts_1 uses (receiver.judged_1 t opens_1) there)
+    octets_1 (is_strict refl refl refl))
+    (step_link receiver.is_late refl (receiver.late_then t) (record {
+      genuine = λ d. genuine_at (receiver.heard_1 t) f1 receiver.is_late uses (receiver.late_then t) tt;
+      octets = octets_1;
+      order = λ d among. is_strict refl refl refl;
+      creates = λ d row at under fresh. absurd (fresh (rx_from 2) refl refl);
+    })
+    (step_next (record {
+      genuine = λ d. tt;
+      octets = tt;
+      order = λ d among. is_strict refl refl refl;
+      creates = λ d row at under fresh. absurd (fresh (rx_from 2) refl refl);
+    }) does_delete refl no_step))))
 
-steps_2 : (uses : List CipherUse) → Contains uses use_3 → AreSteps NoPremise bytes sci_a 0 (opening (inner_b true)) [] uses (inner_b true).inputs
+steps_2 : (uses : List CipherUse) → Contains uses use_3 →
+    AreSteps NoPremise bytes sci_a 0 (opening (inner_b true)) [] uses (inner_b true).inputs
 steps_2 uses there =
-    let k1 = k_at true [] (receiver.ready true) in
-    let k2 = k_at true [] (receiver.dropped_2 t) in
-    let k3 = k_at true (granted_after saved_3) (receiver.dropped_2 t) in
-    after_own NoPremise bytes sci_a 0 (receiver.commands true) (reaches true) (opening (inner_b true)) uses (tt, (tt, (tt, (tt, tt))))
-    (subst (λ (k : Keeping). AreSteps NoPremise bytes sci_a 0 k [] uses (reaches true)) (sym (commands_end true))
-    (step_next NoPremise bytes sci_a 0 k1 k2 [] [] uses link_1 (now_durable saved_3 ∷ link_3 ∷ []) (drops_again uses) hears_again (receiver.delivers k1 1 t receiver.is_late (receiver.late_again t))
-    (step_next NoPremise bytes sci_a 0 k2 k3 [] [] uses (now_durable saved_3) (link_3 ∷ []) (reports_3 uses) refl refl
-    (step_next NoPremise bytes sci_a 0 k3 (last_b true) [] (receiver.delivery 3 ∷ []) uses link_3 [] (accepts_3 uses there) hears_3
-    (receiver.delivers k3 3 u receiver.accepts_3 (receiver.judged_3 t u opens_3)) no_step))))
+    receiver.steps (salt false) (reads (saved_1 ∷ [])) NoPremise true (free true)
+    (step_link receiver.is_late refl (receiver.late_again t)
+    (first_link (λ d. genuine_at (receiver.ready true) f1 receiver.is_late uses (receiver.late_again t) tt) octets_1
+    (is_strict refl refl refl))
+    (step_next (own_step NoPremise bytes sci_a 0 (k_at true [] (receiver.dropped_2 t)) uses (now_durable saved_3) tt)
+    refl refl
+    (step_link receiver.accepts_3 refl (receiver.judged_3 t u opens_3)
+    (first_link (λ d. genuine_at (receiver.dropped_2 t) f3 receiver.accepts_3 uses
+    (receiver.judged_3 t u opens_3) there) octets_3 (is_strict refl refl refl)) no_step)))
 
 abbrev inner_runs : List EndRun
 inner_runs = (A, run_a false) ∷ (B, inner_b false) ∷ (A, run_a true) ∷ (B, inner_b true) ∷ []
@@ -290,57 +224,76 @@ all_delivered = (1 ∷ client 1) ∷ (3 ∷ client 3) ∷ []
 
 inner_meets : MeetsAll inner_runs all_sent all_delivered
 inner_meets =
-    meets (run_a false) (run_a true) (inner_b false) (inner_b true) (facts_a false) (facts_a true) (facts_b false) (facts_b true)
-    (tt, (tt, (tt, (tt, (tt, (tt, tt)))))) (tt, (tt, (tt, (tt, (tt, tt))))) refl (is_durable reserved_2 reserved_is) refl (is_durable saved_1 saved_is) is_saved steps_1 steps_2
+    meets (run_a false) (run_a true) (inner_b false) (inner_b true) (facts_a false) (facts_a true) (facts_b false)
+    (facts_b true)
+    (tt, (tt, (tt, (tt, (tt, (tt, tt)))))) (tt, (tt, (tt, (tt, (tt, tt))))) refl
+    (is_durable reserved_2 reserved_is) refl (is_durable saved_1 saved_is) is_saved steps_1 steps_2
 
 -- ---- what the endpoint lets through
 
 abbrev own_row : ℕ → RxPn
 own_row number = record { sci = sci_a; an = 0; number = number }
 
-old_is : (again : Bool) (number : ℕ) → receiver.lowest_of again ≤ number → nat_le number (highest (reads (before_b again)) name) ≡ false
-old_is again number least = let less = free again in lt-leb number (highest (reads (before_b again)) name) (omega (arith, less, least))
+old_is : (again : Bool) (number : ℕ) → receiver.lowest_of again ≤ number →
+    nat_le number (highest (reads (before_b again)) name) ≡ false
+old_is again number least = let less = free again in
+    lt-leb number (highest (reads (before_b again)) name) (omega (arith, less, least))
 
-new_is : (number last : ℕ) → nat_le number (max last 0) ≡ true → nat_le number (highest (record { name = name; last = last } ∷ []) name) ≡ true
-new_is number last is = ap (λ (same : Bool). nat_le number (if same then max last 0 else 0)) (same_octets-refl name) ∙ is
+new_is : (number last : ℕ) → nat_le number (max last 0) ≡ true →
+    nat_le number (highest (record { name = name; last = last } ∷ []) name) ≡ true
+new_is number last is = ap (λ (same : Bool). nat_le number (if same then max last 0 else 0)) (same_octets-refl name)
+    ∙ is
 
 -- before anything is reserved
-not_reserved : standing_by (a_at false [] [] [] (receiver.ready false)) receiver.accepts_1 None (Some (rx_from 1)) ≡ not_yet (own_row 1)
-not_reserved = ap (λ (old : Bool). if old then before_this_run (own_row 1) else not_yet (own_row 1)) (old_is false 1 (omega arith))
+not_reserved : standing_by (a_at false [] [] [] (receiver.ready false)) receiver.accepts_1 None (Some (rx_from 1)) ≡
+    not_yet (own_row 1)
+not_reserved = ap (λ (old : Bool). if old then before_this_run (own_row 1) else not_yet (own_row 1))
+    (old_is false 1 (omega arith))
 
 drops_1 : lets_through (a_at false [] [] [] (receiver.ready false)) link_1 ≡ false
 drops_1 =
-    ap (λ (j : Judgement). is_through false (standing_by (a_at false [] [] [] (receiver.ready false)) j None j.row)) (receiver.judged_1 t opens_1) ∙ ap (is_through false) not_reserved
+    ap (λ (j : Judgement). is_through false (standing_by (a_at false [] [] [] (receiver.ready false)) j None j.row))
+    (receiver.judged_1 t opens_1) ∙ ap (is_through false) not_reserved
 
 -- once it is
-reserved_1 : standing_by (a_at false (granted_after saved_1) (saved_1 ∷ []) [] (receiver.ready false)) receiver.accepts_1 None (Some (rx_from 1)) ≡ passes
+reserved_1 : standing_by (a_at false (granted_after saved_1) (saved_1 ∷ []) [] (receiver.ready false))
+    receiver.accepts_1 None (Some (rx_from 1)) ≡ passes
 reserved_1 =
-    ap (λ (old : Bool). if old then before_this_run (own_row 1) else if nat_le 1 (highest (saved_1 ∷ []) name) then passes else not_yet (own_row 1)) (old_is false 1 (omega arith))
+    ap (λ (old : Bool). if old then before_this_run (own_row 1)
+    else if nat_le 1 (highest (saved_1 ∷ []) name) then passes else not_yet (own_row 1)) (old_is false 1 (omega arith))
     ∙ ap (λ (new : Bool). if new then passes else not_yet (own_row 1)) (new_is 1 1 refl)
 
 passes_1 : lets_through (a_at false (granted_after saved_1) (saved_1 ∷ []) [] (receiver.ready false)) link_1 ≡ true
 passes_1 =
-    ap (λ (j : Judgement). is_through false (standing_by (a_at false (granted_after saved_1) (saved_1 ∷ []) [] (receiver.ready false)) j None j.row)) (receiver.judged_1 t opens_1)
+    ap (λ (j : Judgement). is_through false (standing_by
+    (a_at false (granted_after saved_1) (saved_1 ∷ []) [] (receiver.ready false)) j None j.row))
+    (receiver.judged_1 t opens_1)
     ∙ ap (is_through false) reserved_1
 
-reserved_3 : standing_by (a_at true (granted_after saved_3) (saved_3 ∷ []) [] (receiver.dropped_2 t)) receiver.accepts_3 None (Some (rx_from 2)) ≡ passes
+reserved_3 : standing_by (a_at true (granted_after saved_3) (saved_3 ∷ []) [] (receiver.dropped_2 t)) receiver.accepts_3
+    None (Some (rx_from 2)) ≡ passes
 reserved_3 =
-    ap (λ (old : Bool). if old then before_this_run (own_row 3) else if nat_le 3 (highest (saved_3 ∷ []) name) then passes else not_yet (own_row 3)) (old_is true 3 (omega arith))
+    ap (λ (old : Bool). if old then before_this_run (own_row 3)
+    else if nat_le 3 (highest (saved_3 ∷ []) name) then passes else not_yet (own_row 3)) (old_is true 3 (omega arith))
     ∙ ap (λ (new : Bool). if new then passes else not_yet (own_row 3)) (new_is 3 3 refl)
 
 passes_3 : lets_through (a_at true (granted_after saved_3) (saved_3 ∷ []) [] (receiver.dropped_2 t)) link_3 ≡ true
 passes_3 =
-    ap (λ (j : Judgement). is_through false (standing_by (a_at true (granted_after saved_3) (saved_3 ∷ []) [] (receiver.dropped_2 t)) j None j.row)) (receiver.judged_3 t u opens_3)
+    ap (λ (j : Judgement). is_through false (standing_by
+    (a_at true (granted_after saved_3) (saved_3 ∷ []) [] (receiver.dropped_2 t)) j None j.row))
+    (receiver.judged_3 t u opens_3)
     ∙ ap (is_through false) reserved_3
 
 -- a report: the SA's entry is raised
-reports_at_1 : (ahead_step (a_at false [] [] [] (receiver.ready false)) (now_durable saved_1)).1 ≡ a_at false (granted_after saved_1) (saved_1 ∷ []) [] (receiver.ready false)
-reports_at_1 =
-    ap (λ (same : Bool). a_at false (granted_after saved_1) ((if same then record { name = name; last = max 0 1 } else record { name = name; last = 0 }) ∷ []) [] (receiver.ready false)) (same_octets-refl name)
+reports_at_1 : (ahead_step (a_at false [] [] [] (receiver.ready false)) (now_durable saved_1)).1 ≡
+    a_at false (granted_after saved_1) (saved_1 ∷ []) [] (receiver.ready false)
+reports_at_1 = ap (λ (r : Reservation). a_at false (granted_after saved_1) (r ∷ []) [] (receiver.ready false))
+    (raised_alone name 1)
 
-reports_at_3 : (ahead_step (a_at true [] [] [] (receiver.dropped_2 t)) (now_durable saved_3)).1 ≡ a_at true (granted_after saved_3) (saved_3 ∷ []) [] (receiver.dropped_2 t)
-reports_at_3 =
-    ap (λ (same : Bool). a_at true (granted_after saved_3) ((if same then record { name = name; last = max 0 3 } else record { name = name; last = 0 }) ∷ []) [] (receiver.dropped_2 t)) (same_octets-refl name)
+reports_at_3 : (ahead_step (a_at true [] [] [] (receiver.dropped_2 t)) (now_durable saved_3)).1 ≡
+    a_at true (granted_after saved_3) (saved_3 ∷ []) [] (receiver.dropped_2 t)
+reports_at_3 = ap (λ (r : Reservation). a_at true (granted_after saved_3) (r ∷ []) [] (receiver.dropped_2 t))
+    (raised_alone name 3)
 
 -- where the SA ended
 abbrev end_1 : EndedSa
@@ -350,68 +303,74 @@ abbrev last_a : Bool → Ahead
 last_a false = a_at false (granted_after saved_1) (saved_1 ∷ []) (end_1 ∷ []) deleted
 last_a true = a_at true (granted_after saved_3) (saved_3 ∷ []) [] (receiver.heard_3 t u)
 
-frames_through : (again : Bool) → Through (a_at again [] [] [] (receiver.ready again)) (comes again) (reaches again) (last_a again)
-frames_through false =
-    let g = granted_after saved_1 in
-    let taken = saved_1 ∷ [] in
-    let a1 = a_at false [] [] [] (receiver.ready false) in
-    let a2 = a_at false g taken [] (receiver.ready false) in
-    let a3 = a_at false g taken [] (receiver.heard_1 t) in
-    let a4 = a_at false g taken [] (receiver.dropped_1 t) in
-    let a5 = last_a false in
-    drops_next a1 a5 link_1 (now_durable saved_1 ∷ link_1 ∷ link_1 ∷ deletes ∷ creates ∷ []) (reaches false) drops_1
-    (passes_next a1 a2 a5 (now_durable saved_1) (link_1 ∷ link_1 ∷ deletes ∷ creates ∷ []) (link_1 ∷ link_1 ∷ deletes ∷ []) refl reports_at_1
-    (passes_next a2 a3 a5 link_1 (link_1 ∷ deletes ∷ creates ∷ []) (link_1 ∷ deletes ∷ []) passes_1
-    (goes_on a2 (link_frame (receiver.frame 1 t)) (k_at false g (receiver.heard_1 t)) passes_1 hears_1)
-    (passes_next a3 a4 a5 link_1 (deletes ∷ creates ∷ []) (deletes ∷ []) refl (goes_on a3 (link_frame (receiver.frame 1 t)) (k_at false g (receiver.dropped_1 t)) refl hears_2)
-    (passes_next a4 a5 a5 deletes (creates ∷ []) [] refl (goes_on a4 (operator_command (RxDel sci_a 0)) (k_at false g deleted) refl does_delete)
-    (drops_next a5 a5 creates [] [] refl (through_end a5))))))
-frames_through true =
-    let g = granted_after saved_3 in
-    let a1 = a_at true [] [] [] (receiver.ready true) in
-    let a2 = a_at true [] [] [] (receiver.dropped_2 t) in
-    let a3 = a_at true g (saved_3 ∷ []) [] (receiver.dropped_2 t) in
-    let a4 = last_a true in
-    passes_next a1 a2 a4 link_1 (now_durable saved_3 ∷ link_3 ∷ []) (now_durable saved_3 ∷ link_3 ∷ []) refl
-    (goes_on a1 (link_frame (receiver.frame 1 t)) (k_at true [] (receiver.dropped_2 t)) refl hears_again)
-    (passes_next a2 a3 a4 (now_durable saved_3) (link_3 ∷ []) (link_3 ∷ []) refl reports_at_3
-    (passes_next a3 a4 a4 link_3 [] [] passes_3 (goes_on a3 (link_frame (receiver.frame 3 u)) (k_at true g (receiver.heard_3 t u)) passes_3 hears_3) (through_end a4)))
+-- ---- what passes, and what it accepts
 
-commands_through : (again : Bool) → Through (a_at again [] [] [] (start gcm_b)) (receiver.commands again ++ comes again) (receiver.commands again ++ reaches again) (last_a again)
-commands_through false =
-    let at = a_at false [] [] [] in
-    let k = k_at false [] in
-    let key = command (Key (new_key no_salt 2)) in
-    let sc = command (RxSc sci_a) in
-    let sa = command (RxSa sci_a 0 0 1 1) in
-    let on = command (RxOn sci_a 0) in
-    passes_next (at (start gcm_b)) (at receiver.with_key) (last_a false) key (sc ∷ sa ∷ on ∷ comes false) (sc ∷ sa ∷ on ∷ reaches false) refl
-    (goes_on (at (start gcm_b)) (operator_command (Key (new_key no_salt 2))) (k receiver.with_key) refl (command_step (k (start gcm_b)) (Key (new_key no_salt 2)) refl))
-    (passes_next (at receiver.with_key) (at receiver.with_sc) (last_a false) sc (sa ∷ on ∷ comes false) (sa ∷ on ∷ reaches false) refl
-    (goes_on (at receiver.with_key) (operator_command (RxSc sci_a)) (k receiver.with_sc) refl (command_step (k receiver.with_key) (RxSc sci_a) refl))
-    (passes_next (at receiver.with_sc) (at (receiver.with_sa false)) (last_a false) sa (on ∷ comes false) (on ∷ reaches false) refl
-    (goes_on (at receiver.with_sc) (operator_command (RxSa sci_a 0 0 1 1)) (k (receiver.with_sa false)) refl (receiver.creates (salt false) (reads []) false (free false)))
-    (passes_next (at (receiver.with_sa false)) (at (receiver.ready false)) (last_a false) on (comes false) (reaches false) refl
-    (goes_on (at (receiver.with_sa false)) (operator_command (RxOn sci_a 0)) (k (receiver.ready false)) refl (receiver.enables (salt false) (reads []) false)) (frames_through false))))
-commands_through true =
-    let at = a_at true [] [] [] in
-    let k = k_at true [] in
-    let key = command (Key (new_key no_salt 2)) in
-    let sc = command (RxSc sci_a) in
-    let sa = command (RxSa sci_a 0 0 1 2) in
-    let on = command (RxOn sci_a 0) in
-    passes_next (at (start gcm_b)) (at receiver.with_key) (last_a true) key (sc ∷ sa ∷ on ∷ comes true) (sc ∷ sa ∷ on ∷ reaches true) refl
-    (goes_on (at (start gcm_b)) (operator_command (Key (new_key no_salt 2))) (k receiver.with_key) refl (command_step (k (start gcm_b)) (Key (new_key no_salt 2)) refl))
-    (passes_next (at receiver.with_key) (at receiver.with_sc) (last_a true) sc (sa ∷ on ∷ comes true) (sa ∷ on ∷ reaches true) refl
-    (goes_on (at receiver.with_key) (operator_command (RxSc sci_a)) (k receiver.with_sc) refl (command_step (k receiver.with_key) (RxSc sci_a) refl))
-    (passes_next (at receiver.with_sc) (at (receiver.with_sa true)) (last_a true) sa (on ∷ comes true) (on ∷ reaches true) refl
-    (goes_on (at receiver.with_sc) (operator_command (RxSa sci_a 0 0 1 2)) (k (receiver.with_sa true)) refl (receiver.creates (salt false) (reads (saved_1 ∷ [])) true (free true)))
-    (passes_next (at (receiver.with_sa true)) (at (receiver.ready true)) (last_a true) on (comes true) (reaches true) refl
-    (goes_on (at (receiver.with_sa true)) (operator_command (RxOn sci_a 0)) (k (receiver.ready true)) refl (receiver.enables (salt false) (reads (saved_1 ∷ [])) true)) (frames_through true))))
+-- a valid frame that passes, one that does not, and one that is not valid
+valid_passes : (a : Ahead) (input : KeepingInput) (new : List Delivery) → is_valid a.k.secy input ≡ true →
+    lets_through a input ≡ true → newly_delivered a.k input ≡ new → newly_accepted a input ≡ new
+valid_passes a input new valid lets is =
+    ap (λ (b : Bool). if b then newly_delivered_with a input else []) valid
+    ∙ ap (λ (b : Bool). if b then newly_delivered a.k input else []) lets ∙ is
+
+valid_drops : (a : Ahead) (input : KeepingInput) → is_valid a.k.secy input ≡ true → lets_through a input ≡ false →
+    newly_accepted a input ≡ []
+valid_drops a input valid lets =
+    ap (λ (b : Bool). if b then newly_delivered_with a input else []) valid
+    ∙ ap (λ (b : Bool). if b then newly_delivered a.k input else []) lets
+
+not_valid : (a : Ahead) (input : KeepingInput) → is_valid a.k.secy input ≡ false → newly_accepted a input ≡ []
+not_valid a input is = ap (λ (b : Bool). if b then newly_delivered_with a input else []) is
+
+abbrev number_13 : Judgement → Bool
+number_13 j = j.step == 13
+
+frames_through : (again : Bool) → Through (a_at again [] [] [] (receiver.ready again)) (comes again) (reaches again)
+    (delivered_b again) (last_a again)
+frames_through false =
+    let a1 = a_at false [] [] [] (receiver.ready false) in
+    let a2 = a_at false (granted_after saved_1) (saved_1 ∷ []) [] (receiver.ready false) in
+    let a3 = a_at false (granted_after saved_1) (saved_1 ∷ []) [] (receiver.heard_1 t) in
+    let a4 = a_at false (granted_after saved_1) (saved_1 ∷ []) [] (receiver.dropped_1 t) in
+    let valid = ap number_13 (receiver.judged_1 t opens_1) in
+    drops_next drops_1 (valid_drops a1 link_1 valid drops_1)
+    (passes_next {new = []} refl refl reports_at_1
+    (passes_next passes_1 (valid_passes a2 link_1 (receiver.delivery 1 ∷ []) valid passes_1
+    (gives_by a2.k f1 receiver.accepts_1 refl (receiver.judged_1 t opens_1)))
+    (goes_on a2 (link_frame f1) (k_1 (receiver.heard_1 t)) passes_1 hears_1)
+    (passes_next refl (not_valid a3 link_1 (ap number_13 (receiver.late_then t)))
+    (goes_on a3 (link_frame f1) (k_1 (receiver.dropped_1 t)) refl hears_2)
+    (passes_next {new = []} refl refl (goes_on a4 (operator_command (RxDel sci_a 0)) (k_1 deleted) refl does_delete)
+    (drops_next refl refl (through_end (last_a false)))))))
+frames_through true =
+    let a1 = a_at true [] [] [] (receiver.ready true) in
+    let a3 = a_at true (granted_after saved_3) (saved_3 ∷ []) [] (receiver.dropped_2 t) in
+    passes_next refl (not_valid a1 link_1 (ap number_13 (receiver.late_again t)))
+    (goes_on a1 (link_frame f1) (k_at true [] (receiver.dropped_2 t)) refl hears_again)
+    (passes_next {new = []} refl refl reports_at_3
+    (passes_next passes_3 (valid_passes a3 link_3 (receiver.delivery 3 ∷ [])
+    (ap number_13 (receiver.judged_3 t u opens_3)) passes_3
+    (gives_by a3.k f3 receiver.accepts_3 refl (receiver.judged_3 t u opens_3)))
+    (goes_on a3 (link_frame f3) (k_3 (receiver.heard_3 t u)) passes_3 hears_3) (through_end (last_a true))))
+
+all_through : (again : Bool) →
+    Through (a_at again [] [] [] (start gcm_b)) (receiver.commands again ++ comes again)
+    (receiver.commands again ++ reaches again) (delivered_b again) (last_a again)
+all_through false =
+    commands_pass (receiver.set_up false) {a = a_at false [] [] [] (start gcm_b)}
+    (receiver.are_new (salt false) (reads []) false (free false)) refl
+    (refl, refl, (refl, refl, (refl, refl, (refl, refl, tt)))) (frames_through false)
+all_through true =
+    commands_pass (receiver.set_up true) {a = a_at true [] [] [] (start gcm_b)}
+    (receiver.are_new (salt false) (reads (saved_1 ∷ [])) true (free true)) refl
+    (refl, refl, (refl, refl, (refl, refl, (refl, refl, tt)))) (frames_through true)
+
+all_accepted : (again : Bool) → accepted_in (run_b again) ≡ delivered_b again
+all_accepted false = (all_through false).accepts
+all_accepted true = (all_through true).accepts
 
 inside_b : (again : Bool) → run_inside true (run_b again) ≡ inner_b again
-inside_b false = ap (λ (is : List KeepingInput). record (run_b false) { inputs = is }) (commands_through false).is
-inside_b true = ap (λ (is : List KeepingInput). record (run_b true) { inputs = is }) (commands_through true).is
+inside_b false = ap (λ (is : List KeepingInput). record (run_b false) { inputs = is }) (all_through false).is
+inside_b true = ap (λ (is : List KeepingInput). record (run_b true) { inputs = is }) (all_through true).is
 
 -- ---- all of it
 
@@ -424,19 +383,23 @@ runs = (A, run_a false) ∷ (B, run_b false) ∷ (A, run_a true) ∷ (B, run_b t
 these_inside : inside both_ahead (blocks runs) ≡ blocks inner_runs
 these_inside =
     inside_blocks both_ahead [] runs
-    ∙ ap (λ (b : Run). blocks ((A, run_a false) ∷ (B, b) ∷ (A, run_a true) ∷ (B, run_inside true (run_b true)) ∷ [])) (inside_b false)
+    ∙ ap (λ (b : Run). blocks ((A, run_a false) ∷ (B, b) ∷ (A, run_a true) ∷ (B, run_inside true (run_b true)) ∷ []))
+    (inside_b false)
     ∙ ap (λ (b : Run). blocks ((A, run_a false) ∷ (B, inner_b false) ∷ (A, run_a true) ∷ (B, b) ∷ [])) (inside_b true)
 
 -- the premises of order hold for the keeping endpoints inside
-orderly_inside : (before h : List Happening) → AtEach (IsOrderly B bytes sci_a 0) before h → AtEach (IsOrderlyInside true B bytes sci_a 0) before h
+orderly_inside : (before h : List Happening) → AtEach (IsOrderly B bytes sci_a 0) before h →
+    AtEach (IsOrderlyInside true B bytes sci_a 0) before h
 orderly_inside before [] each = tt
 orderly_inside before (h ∷ more) each = (one h each.0, orderly_inside (before ++ h ∷ []) more each.1)
   where
     one : (h' : Happening) → IsOrderly B bytes sci_a 0 before h' → IsOrderlyInside true B bytes sci_a 0 before h'
     one (begins f config journal') is = record { genuine = is.genuine; octets = is.octets; ordered = λ same off. cc }
-    one (comes_in f input) is = record { genuine = is.genuine; octets = is.octets; ordered = λ same. by_run (last_run (runs_of B before)) (is.ordered same) }
+    one (comes_in f input) is =
+        record { genuine = is.genuine; octets = is.octets; ordered = λ same. by_run (last_run (runs_of B before)) (is.ordered same) }
       where
-        by_run : (o : Option Run) → IfSome o (λ run. IsOrderedInput run bytes sci_a 0 input) → IfSome o (λ run. IsStrictInput (closing run) bytes sci_a 0 input)
+        by_run : (o : Option Run) → IfSome o (λ run. IsOrderedInput run bytes sci_a 0 input) →
+            IfSome o (λ run. IsStrictInput (closing run) bytes sci_a 0 input)
         by_run None it = tt
         by_run (Some run) it = it.order
 
@@ -449,13 +412,18 @@ pub record MeetsAllAhead (ahead : End → Bool) (its : List EndRun) (sent delive
 
 pub two_runs_ahead : MeetsAllAhead both_ahead runs all_sent all_delivered
 two_runs_ahead = record {
-  orderly = subst (AtEach (IsOrderlyInside true B bytes sci_a 0) []) (sym these_inside) (orderly_inside [] (blocks inner_runs) inner_meets.orderly);
+  orderly = subst (AtEach (IsOrderlyInside true B bytes sci_a 0) []) (sym these_inside)
+      (orderly_inside [] (blocks inner_runs) inner_meets.orderly);
   are_peers = subst ArePeers (sym these_inside) inner_meets.are_peers;
   sends = ap (λ (xs : List SentIn). map numbered_sent (sent_under bytes xs))
-      (sym (sent_in_all_inside true (runs_of A (blocks runs))) ∙ ap sent_in_all (sym (runs_inside both_ahead A (blocks runs))) ∙ ap (λ hs. sent_in_all (runs_of A hs)) these_inside)
+      (sym (sent_in_all_inside true (runs_of A (blocks runs)))
+      ∙ ap sent_in_all (sym (runs_inside both_ahead A (blocks runs)))
+      ∙ ap (λ hs. sent_in_all (runs_of A hs)) these_inside)
       ∙ inner_meets.sends;
   delivers = ap (λ (ds : List Delivery). map numbered_delivery (delivered_at bytes sci_a 0 ds))
-      (sym (delivered_in_all_inside true (runs_of B (blocks runs))) ∙ ap delivered_in_all (sym (runs_inside both_ahead B (blocks runs))) ∙ ap (λ hs. delivered_in_all (runs_of B hs)) these_inside)
+      (sym (delivered_in_all_inside true (runs_of B (blocks runs)))
+      ∙ ap delivered_in_all (sym (runs_inside both_ahead B (blocks runs)))
+      ∙ ap (λ hs. delivered_in_all (runs_of B hs)) these_inside)
       ∙ inner_meets.delivers;
 }
 
@@ -465,7 +433,8 @@ two_runs_ahead = record {
 pub first_answer : (ahead_step (a_at false [] [] [] (receiver.ready false)) link_1).0 ≡ dropped_not_reserved (own_row 1)
 first_answer =
     let a = a_at false [] [] [] (receiver.ready false) in
-    ap (λ (j : Judgement). (ahead_by false (standing_by a j None j.row) a (link_frame (receiver.frame 1 t)) (keeping_step a.k link_1)).0) (receiver.judged_1 t opens_1)
+    ap (λ (j : Judgement). (ahead_by false (standing_by a j None j.row) a (link_frame (receiver.frame 1 t))
+    (keeping_step a.k link_1)).0) (receiver.judged_1 t opens_1)
     ∙ ap (λ it. (ahead_by false it a (link_frame (receiver.frame 1 t)) (keeping_step a.k link_1)).0) not_reserved
 
 pub first_wanted : wanted_to_accept (a_at false [] [] [] (receiver.ready false)) 0 1 (rx_from 1) ≡ Some saved_1
@@ -475,97 +444,8 @@ first_wanted = refl
 pub last_answer : (ahead_step (last_a false) creates).0 ≡ an_output (endpoint_output (refused PnFloor))
 last_answer = refl
 
--- ---- what it accepts
-
-record Accepts (a : Ahead) (inputs : List KeepingInput) (ds : List Delivery) : Type 0 where
-  is : accepted_from a inputs ≡ ds
-
-accepts_end : (a : Ahead) → Accepts a [] []
-accepts_end a = record { is = refl }
-
-accepts_next : (a after : Ahead) (input : KeepingInput) (inputs : List KeepingInput) (new ds : List Delivery) → newly_accepted a input ≡ new → (ahead_step a input).1 ≡ after →
-    Accepts after inputs ds → Accepts a (input ∷ inputs) (new ++ ds)
-accepts_next a after input inputs new ds is_new is_after rest = record {
-  is = ap (λ (xs : List Delivery). xs ++ accepted_from (ahead_step a input).1 inputs) is_new ∙ ap (λ (x : Ahead). new ++ accepted_from x inputs) is_after
-      ∙ ap (λ (xs : List Delivery). new ++ xs) rest.is;
-}
-
--- a valid frame that passes, one that does not, and one that is not valid
-valid_passes : (a : Ahead) (input : KeepingInput) (new : List Delivery) → is_valid a.k.secy input ≡ true → lets_through a input ≡ true → newly_delivered a.k input ≡ new → newly_accepted a input ≡ new
-valid_passes a input new valid lets is =
-    ap (λ (b : Bool). if b then newly_delivered_with a input else []) valid ∙ ap (λ (b : Bool). if b then newly_delivered a.k input else []) lets ∙ is
-
-valid_drops : (a : Ahead) (input : KeepingInput) → is_valid a.k.secy input ≡ true → lets_through a input ≡ false → newly_accepted a input ≡ []
-valid_drops a input valid lets =
-    ap (λ (b : Bool). if b then newly_delivered_with a input else []) valid ∙ ap (λ (b : Bool). if b then newly_delivered a.k input else []) lets
-
-not_valid : (a : Ahead) (input : KeepingInput) → is_valid a.k.secy input ≡ false → newly_accepted a input ≡ []
-not_valid a input is = ap (λ (b : Bool). if b then newly_delivered_with a input else []) is
-
-abbrev number_13 : Judgement → Bool
-number_13 j = j.step == 13
-
-frames_accepted : (again : Bool) → Accepts (a_at again [] [] [] (receiver.ready again)) (comes again) (delivered_b again)
-frames_accepted false =
-    let g = granted_after saved_1 in
-    let taken = saved_1 ∷ [] in
-    let a1 = a_at false [] [] [] (receiver.ready false) in
-    let a2 = a_at false g taken [] (receiver.ready false) in
-    let a3 = a_at false g taken [] (receiver.heard_1 t) in
-    let a4 = a_at false g taken [] (receiver.dropped_1 t) in
-    let a5 = last_a false in
-    let ones = receiver.delivery 1 ∷ [] in
-    accepts_next a1 a1 link_1 (now_durable saved_1 ∷ link_1 ∷ link_1 ∷ deletes ∷ creates ∷ []) [] ones (valid_drops a1 link_1 (ap number_13 (receiver.judged_1 t opens_1)) drops_1) (stays a1 link_1 drops_1)
-    (accepts_next a1 a2 (now_durable saved_1) (link_1 ∷ link_1 ∷ deletes ∷ creates ∷ []) [] ones refl reports_at_1
-    (accepts_next a2 a3 link_1 (link_1 ∷ deletes ∷ creates ∷ []) ones []
-    (valid_passes a2 link_1 ones (ap number_13 (receiver.judged_1 t opens_1)) passes_1 (receiver.delivers a2.k 1 t receiver.accepts_1 (receiver.judged_1 t opens_1)))
-    (goes_on a2 (link_frame (receiver.frame 1 t)) (k_at false g (receiver.heard_1 t)) passes_1 hears_1)
-    (accepts_next a3 a4 link_1 (deletes ∷ creates ∷ []) [] [] (not_valid a3 link_1 (ap number_13 (receiver.late_then t)))
-    (goes_on a3 (link_frame (receiver.frame 1 t)) (k_at false g (receiver.dropped_1 t)) refl hears_2)
-    (accepts_next a4 a5 deletes (creates ∷ []) [] [] refl (goes_on a4 (operator_command (RxDel sci_a 0)) (k_at false g deleted) refl does_delete)
-    (accepts_next a5 a5 creates [] [] [] refl (stays a5 creates refl) (accepts_end a5))))))
-frames_accepted true =
-    let g = granted_after saved_3 in
-    let a1 = a_at true [] [] [] (receiver.ready true) in
-    let a2 = a_at true [] [] [] (receiver.dropped_2 t) in
-    let a3 = a_at true g (saved_3 ∷ []) [] (receiver.dropped_2 t) in
-    let a4 = last_a true in
-    let ones = receiver.delivery 3 ∷ [] in
-    accepts_next a1 a2 link_1 (now_durable saved_3 ∷ link_3 ∷ []) [] ones (not_valid a1 link_1 (ap number_13 (receiver.late_again t)))
-    (goes_on a1 (link_frame (receiver.frame 1 t)) (k_at true [] (receiver.dropped_2 t)) refl hears_again)
-    (accepts_next a2 a3 (now_durable saved_3) (link_3 ∷ []) [] ones refl reports_at_3
-    (accepts_next a3 a4 link_3 [] ones []
-    (valid_passes a3 link_3 ones (ap number_13 (receiver.judged_3 t u opens_3)) passes_3 (receiver.delivers a3.k 3 u receiver.accepts_3 (receiver.judged_3 t u opens_3)))
-    (goes_on a3 (link_frame (receiver.frame 3 u)) (k_at true g (receiver.heard_3 t u)) passes_3 hears_3) (accepts_end a4)))
-
-all_accepted : (again : Bool) → accepted_in (run_b again) ≡ delivered_b again
-all_accepted false =
-    let at = a_at false [] [] [] in
-    let k = k_at false [] in
-    let ones = receiver.delivery 1 ∷ [] in
-    (accepts_next (at (start gcm_b)) (at receiver.with_key) (command (Key (new_key no_salt 2))) (command (RxSc sci_a) ∷ command (RxSa sci_a 0 0 1 1) ∷ command (RxOn sci_a 0) ∷ comes false) [] ones refl
-    (goes_on (at (start gcm_b)) (operator_command (Key (new_key no_salt 2))) (k receiver.with_key) refl (command_step (k (start gcm_b)) (Key (new_key no_salt 2)) refl))
-    (accepts_next (at receiver.with_key) (at receiver.with_sc) (command (RxSc sci_a)) (command (RxSa sci_a 0 0 1 1) ∷ command (RxOn sci_a 0) ∷ comes false) [] ones refl
-    (goes_on (at receiver.with_key) (operator_command (RxSc sci_a)) (k receiver.with_sc) refl (command_step (k receiver.with_key) (RxSc sci_a) refl))
-    (accepts_next (at receiver.with_sc) (at (receiver.with_sa false)) (command (RxSa sci_a 0 0 1 1)) (command (RxOn sci_a 0) ∷ comes false) [] ones refl
-    (goes_on (at receiver.with_sc) (operator_command (RxSa sci_a 0 0 1 1)) (k (receiver.with_sa false)) refl (receiver.creates (salt false) (reads []) false (free false)))
-    (accepts_next (at (receiver.with_sa false)) (at (receiver.ready false)) (command (RxOn sci_a 0)) (comes false) [] ones refl
-    (goes_on (at (receiver.with_sa false)) (operator_command (RxOn sci_a 0)) (k (receiver.ready false)) refl (receiver.enables (salt false) (reads []) false)) (frames_accepted false))))).is
-all_accepted true =
-    let at = a_at true [] [] [] in
-    let k = k_at true [] in
-    let ones = receiver.delivery 3 ∷ [] in
-    (accepts_next (at (start gcm_b)) (at receiver.with_key) (command (Key (new_key no_salt 2))) (command (RxSc sci_a) ∷ command (RxSa sci_a 0 0 1 2) ∷ command (RxOn sci_a 0) ∷ comes true) [] ones refl
-    (goes_on (at (start gcm_b)) (operator_command (Key (new_key no_salt 2))) (k receiver.with_key) refl (command_step (k (start gcm_b)) (Key (new_key no_salt 2)) refl))
-    (accepts_next (at receiver.with_key) (at receiver.with_sc) (command (RxSc sci_a)) (command (RxSa sci_a 0 0 1 2) ∷ command (RxOn sci_a 0) ∷ comes true) [] ones refl
-    (goes_on (at receiver.with_key) (operator_command (RxSc sci_a)) (k receiver.with_sc) refl (command_step (k receiver.with_key) (RxSc sci_a) refl))
-    (accepts_next (at receiver.with_sc) (at (receiver.with_sa true)) (command (RxSa sci_a 0 0 1 2)) (command (RxOn sci_a 0) ∷ comes true) [] ones refl
-    (goes_on (at receiver.with_sc) (operator_command (RxSa sci_a 0 0 1 2)) (k (receiver.with_sa true)) refl (receiver.creates (salt false) (reads (saved_1 ∷ [])) true (free true)))
-    (accepts_next (at (receiver.with_sa true)) (at (receiver.ready true)) (command (RxOn sci_a 0)) (comes true) [] ones refl
-    (goes_on (at (receiver.with_sa true)) (operator_command (RxOn sci_a 0)) (k (receiver.ready true)) refl (receiver.enables (salt false) (reads (saved_1 ∷ [])) true)) (frames_accepted true))))).is
-
--- the two runs meet the premises of `accepts_above`, and by this law the second one accepts a higher PN than the first, though
--- the client frames differ
+-- the two runs meet the premises of `accepts_above`, and by this law the second one accepts a higher PN than the first,
+-- though the client frames differ
 pub record AcceptsTwo : Type 0 where
   pub first : accepted_in (run_b false) ≡ receiver.delivery 1 ∷ []
   pub later : accepted_in (run_b true) ≡ receiver.delivery 3 ∷ []
@@ -578,7 +458,8 @@ pub record AcceptsTwo : Type 0 where
 pub accepts_two : AcceptsTwo
 accepts_two =
     let durable : KeepsDurable (run_b false) (run_b true) = is_durable saved_1 saved_is in
-    let one_sa : AreOfOneSa (receiver.delivery 1) (receiver.delivery 3) = record { bytes = refl; sci = refl; an = refl } in
+    let one_sa : AreOfOneSa (receiver.delivery 1) (receiver.delivery 3) =
+    record { bytes = refl; sci = refl; an = refl } in
     record {
       first = all_accepted false;
       later = all_accepted true;
@@ -586,7 +467,10 @@ accepts_two =
       durable = durable;
       other_frames = λ same. let no = ap (λ (xs : List ℕ). get_or xs 12 0) same in cc;
       one_sa = one_sa;
-      above = accepts_above_in_all (run_b false ∷ run_b true ∷ []) (pair SameSalt (run_b false) (run_b true) refl) (pair KeepsDurable (run_b false) (run_b true) durable) 0 1 (run_b false) (omega arith) (omega arith)
-          (receiver.delivery 1) (receiver.delivery 3) (subst (λ (ds : List Delivery). Contains ds (receiver.delivery 1)) (sym (all_accepted false)) (0, omega arith, refl))
-          (subst (λ (ds : List Delivery). Contains ds (receiver.delivery 3)) (sym (all_accepted true)) (0, omega arith, refl)) one_sa;
+      above = accepts_above_in_all (run_b false ∷ run_b true ∷ []) (pair SameSalt (run_b false) (run_b true) refl)
+          (pair KeepsDurable (run_b false) (run_b true) durable) 0 1 (run_b false) (omega arith) (omega arith)
+          (receiver.delivery 1) (receiver.delivery 3) (subst (λ (ds : List Delivery). Contains ds (receiver.delivery 1))
+          (sym (all_accepted false)) (0, omega arith, refl))
+          (subst (λ (ds : List Delivery). Contains ds (receiver.delivery 3)) (sym (all_accepted true))
+          (0, omega arith, refl)) one_sa;
     }

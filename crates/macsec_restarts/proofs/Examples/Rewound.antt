@@ -1,6 +1,6 @@
--- Runs that meet all premises of order and once except one about the journal. A's first run uses packet number 3. Its second
--- run does not read what was reported to the first, or reads another salt, and uses packet numbers 1 and 2. B delivers
--- the frames in the order of packet numbers, and so not in the order of sending.
+-- Runs that meet all premises of order and once except one about the journal. A's first run uses packet number 3. Its
+-- second run does not read what was reported to the first, or reads another salt, and uses packet numbers 1 and 2. B
+-- delivers the frames in the order of packet numbers, and so not in the order of sending.
 use Rattle.std.proofs.Common.{◌≡◌, ◌≢◌, ℕ, ◌<◌, zero, suc, true, false, List, [], ◌∷◌, ◌++◌, map, refl, ap, sym, subst, ◌∙◌, arith, All, Contains}
 use Rattle.std.specs.Prelude.{slice_get, Some}
 use Rattle.std.proofs.lemmas.List.Elements.{All-cons, All-nil}
@@ -11,18 +11,17 @@ use Rattle.macsec_gcm.specs.Octets.{same_octets}
 use Rattle.macsec_suite.specs.CipherUses.{CipherUse}
 use Rattle.macsec_tag.specs.Table.{parts_at}
 use Rattle.macsec_commands.specs.declared.event.End.TheVariants.{A, B}
-use Rattle.macsec_rx.specs.Judge.{Judgement, judge_opened}
+use Rattle.macsec_rx.specs.Judge.{judge_opened}
 use Rattle.macsec_secy.specs.Reception.{judgement_of, state_after_receiving}
 use Rattle.macsec_secy.specs.Sound.{IsSound}
 use Rattle.macsec_secy.specs.State.{State, rx_options}
-use Rattle.macsec_secy.specs.Step.{link_frame, step}
 use Rattle.macsec_link.specs.Origin.{IsSubsequence}
 use Rattle.macsec_reserve.specs.declared.reservation.Reservation.{Reservation}
 use Rattle.macsec_reserve.specs.Crashes.{IsReservation}
 use Rattle.macsec_reserve.specs.Entries.{reduced}
 use Rattle.macsec_reserve.specs.Histories.{KeepsDurable, Run, SameSalt, opening, sealed_in_all}
 use Rattle.macsec_reserve.specs.Journal.{highest, reservations, sending_name}
-use Rattle.macsec_reserve.specs.Keeping.{Keeping, KeepingInput, keeping_after, keeping_step}
+use Rattle.macsec_reserve.specs.Keeping.{Keeping, KeepingInput}
 use Rattle.macsec_reserve.proofs.HighestOf.{highest_of_one}
 use Rattle.macsec_reserve.proofs.Pairs.{one_alone}
 use Rattle.macsec_reserve.proofs.Reduced.{reduced_reserves}
@@ -30,18 +29,19 @@ use Rattle.macsec_counterexamples.proofs.Link.Exchange.{client, key_row}
 use Rattle.macsec_counterexamples.proofs.Link.TracedSteps.{genuine_at}
 use Rattle.macsec_counterexamples.proofs.Link.WorkedEnds.{bytes, gcm_a, gcm_b, rx_from, sci_a, sci_b}
 use Rattle.macsec_counterexamples.proofs.Restarts.Journals.{journal, salt, says}
-use Rattle.macsec_counterexamples.proofs.Restarts.Receivers.{keys_are, name_of}
+use Rattle.macsec_counterexamples.proofs.Restarts.Receivers.{name_of}
 use Rattle.macsec_counterexamples.proofs.Restarts.Senders.{kept}
 use Rattle.macsec_restarts.specs.Delivered.{Delivery}
 use Rattle.macsec_restarts.specs.Sent.{SentIn, sent_in_all}
 use Rattle.macsec_restarts.proofs.SoundRuns.{IsSoundRun}
-use Rattle.macsec_restarts.proofs.Examples.Blocks.{AreOwn, AreSteps, IsStep, Told, after_own, blocks, no_step, step_next, told_end, told_next}
-use Rattle.macsec_restarts.proofs.Examples.Histories.{IsRunOf, agree, history, nothing_saved, peers_of, refuted, run_told, seals_are}
+use Rattle.macsec_restarts.proofs.Examples.Blocks.{AreOwn, AreSteps, Told, blocks, is_strict, no_step, heard_by, step_link, told_end, told_link}
+use Rattle.macsec_restarts.proofs.Examples.NotSent.{accepts_now}
+use Rattle.macsec_restarts.proofs.Examples.Histories.{IsRunOf, agree, history, nothing_saved, peers_of, refuted, seals_are}
 use Rattle.macsec_restarts.proofs.Examples.Premises.{AgreeInRunsBut, KeepsSalt, KeepsSuite, LawWithout, Premise, ReadsDurable, ReadsSalt, history_but, keys_but}
 use Rattle.macsec_restarts.proofs.Examples.Receivers as receiver
 use Rattle.macsec_restarts.proofs.Examples.Senders as sender
-use Rattle.macsec_restarts.proofs.Examples.Tags.{octets_1, octets_3}
-use Rattle.macsec_restarts.proofs.Examples.TwoRunsEach.{Facts, both, facts_a, is_free, none_is, one_is, opens_1, opens_3, pair, reads, run_a, t, u, use_1, use_3}
+use Rattle.macsec_restarts.proofs.Examples.Tags.{octets_3}
+use Rattle.macsec_restarts.proofs.Examples.TwoRunsEach.{Facts, both, facts_a, facts_of, is_free, none_is, one_is, opens_1, opens_3, pair, reads, run_a, t, u, use_1, use_3}
 
 -- ---- what is delivered in another order is no subsequence
 
@@ -60,7 +60,8 @@ only_first (suc (suc (suc p))) is = cc
 not_in_order : IsSubsequence delivered sent → ⊥
 not_in_order it = by_places it.0 it.1 it.2
   where
-    by_places : (places : List ℕ) → IsStrictlyIncreasing places → map (slice_get sent) places ≡ Some (1 ∷ client 1) ∷ Some (3 ∷ client 3) ∷ [] → ⊥
+    by_places : (places : List ℕ) → IsStrictlyIncreasing places →
+        map (slice_get sent) places ≡ Some (1 ∷ client 1) ∷ Some (3 ∷ client 3) ∷ [] → ⊥
     by_places [] rise same = cc
     by_places (p ∷ []) rise same = cc
     by_places (p ∷ q ∷ more) rise same =
@@ -70,31 +71,40 @@ not_in_order it = by_places it.0 it.1 it.2
 
 -- ---- two runs of A and one of B
 
-module _ (left_out : Premise) (a a' b : Run) (first : Facts 1 sci_a a (sender.sent true) []) (second : Facts 1 sci_a a' (sender.sent false) [])
+module _ (left_out : Premise) (a a' b : Run) (first : Facts 1 sci_a a (sender.sent true) [])
+    (second : Facts 1 sci_a a' (sender.sent false) [])
     (heard : Facts 2 sci_b b [] (receiver.delivery 1 ∷ receiver.delivery 3 ∷ [])) where
   sent_both : sent_in_all (a ∷ a' ∷ []) ≡ sender.sent true ++ sender.sent false
-  sent_both = ap (λ (xs : List SentIn). xs ++ sent_in_all (a' ∷ [])) first.told.sends ∙ ap (λ (xs : List SentIn). sender.sent true ++ (xs ++ [])) second.told.sends
+  sent_both = ap (λ (xs : List SentIn). xs ++ sent_in_all (a' ∷ [])) first.told.sends
+      ∙ ap (λ (xs : List SentIn). sender.sent true ++ (xs ++ [])) second.told.sends
 
   sealed_1 : Contains (sealed_in_all (a ∷ a' ∷ []) ++ []) use_1
-  sealed_1 = subst (λ (us : List CipherUse). Contains (us ++ []) use_1) (sym (seals_are (a ∷ a' ∷ []) (sender.sent true ++ sender.sent false) sent_both)) (1, omega arith, refl)
+  sealed_1 = subst (λ (us : List CipherUse). Contains (us ++ []) use_1)
+      (sym (seals_are (a ∷ a' ∷ []) (sender.sent true ++ sender.sent false) sent_both)) (1, omega arith, refl)
 
   sealed_3 : Contains (sealed_in_all (a ∷ a' ∷ []) ++ []) use_3
-  sealed_3 = subst (λ (us : List CipherUse). Contains (us ++ []) use_3) (sym (seals_are (a ∷ a' ∷ []) (sender.sent true ++ sender.sent false) sent_both)) (0, omega arith, refl)
+  sealed_3 = subst (λ (us : List CipherUse). Contains (us ++ []) use_3)
+      (sym (seals_are (a ∷ a' ∷ []) (sender.sent true ++ sender.sent false) sent_both)) (0, omega arith, refl)
 
-  reordered : AreOwn a.inputs → AreOwn a'.inputs → (ReadsSalt ≢ left_out → SameSalt a a') → (ReadsDurable ≢ left_out → KeepsDurable a a') →
-      ((uses : List CipherUse) → Contains uses use_1 → Contains uses use_3 → AreSteps left_out bytes sci_a 0 (opening b) [] uses b.inputs) →
+  reordered : AreOwn a.inputs → AreOwn a'.inputs → (ReadsSalt ≢ left_out → SameSalt a a') →
+      (ReadsDurable ≢ left_out → KeepsDurable a a') →
+      ((uses : List CipherUse) → Contains uses use_1 → Contains uses use_3 →
+      AreSteps left_out bytes sci_a 0 (opening b) [] uses b.inputs) →
       LawWithout left_out (blocks ((A, a) ∷ (A, a') ∷ (B, b) ∷ [])) → ⊥
   reordered own own' same durable steps =
-      refuted left_out ((A, a) ∷ (A, a') ∷ (B, b) ∷ []) (sender.sent true ++ sender.sent false) (receiver.delivery 1 ∷ receiver.delivery 3 ∷ [])
+      refuted left_out ((A, a) ∷ (A, a') ∷ (B, b) ∷ []) (sender.sent true ++ sender.sent false)
+      (receiver.delivery 1 ∷ receiver.delivery 3 ∷ [])
       (own, (own', (((λ d. nothing_saved b.journal), steps (sealed_in_all (a ∷ a' ∷ []) ++ []) sealed_1 sealed_3), tt)))
       (peers_of left_out ((A, a) ∷ (A, a') ∷ (B, b) ∷ []) (both (IsRunOf 1 sci_a) a a' first.of second.of)
       (record {
         sound = λ d. both IsSoundRun a a' first.of.sound second.of.sound;
-        agree = pair (AgreeInRunsBut left_out) a a' (keys_but KeepsSuite KeepsSalt left_out a a' (agree 1 1 sci_a sci_a a a' first.of second.of));
+        agree = pair (AgreeInRunsBut left_out) a a' (keys_but KeepsSuite KeepsSalt left_out a a'
+            (agree 1 1 sci_a sci_a a a' first.of second.of));
         salt = λ d. pair SameSalt a a' (same d);
         durable = λ d. pair KeepsDurable a a' (durable d);
       })
-      b_is (history_but left_out (b ∷ []) (history 2 sci_b (b ∷ []) b_is (one_alone SameSalt b) (one_alone KeepsDurable b))))
+      b_is (history_but left_out (b ∷ []) (history 2 sci_b (b ∷ []) b_is (one_alone SameSalt b)
+      (one_alone KeepsDurable b))))
       sent_both (ap (λ (xs : List Delivery). xs ++ []) heard.told.delivers) not_in_order
     where
       b_is : All (IsRunOf 2 sci_b) (b ∷ [])
@@ -115,10 +125,11 @@ abbrev first_last : Keeping
 first_last = kept (salt false) (reads []) (reserved_3 ∷ []) (sender.at_end true)
 
 first_told : Told (opening first_run) first_run.inputs (sender.sent true) [] first_last
-first_told = sender.told (salt false) (reads []) true (is_free [] (sending_name (salt false) bytes) 3 none_is (omega arith))
+first_told = sender.told (salt false) (reads []) true
+    (is_free [] (sending_name (salt false) bytes) 3 none_is (omega arith))
 
 first_facts : Facts 1 sci_a first_run (sender.sent true) []
-first_facts = record { last = first_last; told = first_told; of = run_told 1 4 sci_a first_run (sender.sent true) [] first_last refl refl first_told }
+first_facts = facts_of 4 refl refl first_told
 
 -- a second run with another salt reads what was reported to the first, under a name that is not its own
 abbrev reads_other : List Reservation
@@ -143,7 +154,7 @@ salted_told : Told (opening salted_run) salted_run.inputs (sender.sent false) []
 salted_told = sender.told (salt true) reads_other false other_free
 
 salted_facts : Facts 1 sci_a salted_run (sender.sent false) []
-salted_facts = record { last = salted_last; told = salted_told; of = run_told 1 3 sci_a salted_run (sender.sent false) [] salted_last refl refl salted_told }
+salted_facts = facts_of 3 refl refl salted_told
 
 -- ---- the receiver's run
 
@@ -160,69 +171,35 @@ free_b : highest (reads []) (name_of (salt false)) < 1
 free_b = is_free [] (name_of (salt false)) 1 none_is (omega arith)
 
 judged_3 : judgement_of (receiver.heard_1 t) (receiver.frame 3 u) ≡ receiver.accepts_3
-judged_3 = ap (judge_opened (rx_options (receiver.heard_1 t)) (key_row 2 1) (rx_from 2) 3 (parts_at (receiver.frame 3 u))) opens_3
+judged_3 = ap (judge_opened (rx_options (receiver.heard_1 t)) (key_row 2 1) (rx_from 2) 3
+    (parts_at (receiver.frame 3 u))) opens_3
 
 abbrev heard_both : State
 heard_both = state_after_receiving (receiver.heard_1 t) (receiver.frame 3 u) receiver.accepts_3
 
-then_3 : (step (receiver.heard_1 t) (link_frame (receiver.frame 3 u))).1 ≡ heard_both
-then_3 = ap (λ (j : Judgement). state_after_receiving (receiver.heard_1 t) (receiver.frame 3 u) j) judged_3
-
 both_sound : IsSound heard_both
-both_sound =
-    receiver.heard_sound (receiver.heard_1 t) (receiver.frame 3 u) receiver.accepts_3 then_3
-    (record { keys = keys_are; tx = tt; rx = receiver.tables 4 4 true (omega arith) (omega arith) (omega arith) }) (receiver.heard_1_sound t opens_1)
-
-hears_1 : (keeping_step (at_b (receiver.ready false)) (receiver.link 1 t)).1 ≡ at_b (receiver.heard_1 t)
-hears_1 = receiver.next_is (salt false) (reads []) (receiver.ready false) 1 t receiver.accepts_1 (receiver.is_heard_1 t opens_1)
-
-hears_3 : (keeping_step (at_b (receiver.heard_1 t)) (receiver.link 3 u)).1 ≡ at_b heard_both
-hears_3 = receiver.next_is (salt false) (reads []) (receiver.heard_1 t) 3 u receiver.accepts_3 then_3
+both_sound = heard_by (receiver.frame 3 u) refl judged_3 refl (receiver.heard_1_sound t opens_1)
 
 told_b : Told (opening run_b) run_b.inputs [] (receiver.delivery 1 ∷ receiver.delivery 3 ∷ []) (at_b heard_both)
 told_b =
-    let k1 = at_b (receiver.ready false) in
-    let k2 = at_b (receiver.heard_1 t) in
-    let k3 = at_b heard_both in
-    receiver.told (salt false) (reads []) false both_in (receiver.delivery 1 ∷ receiver.delivery 3 ∷ []) k3 free_b
-    (told_next k1 k2 k3 (receiver.link 1 t) (receiver.link 3 u ∷ []) [] [] (receiver.delivery 1 ∷ []) (receiver.delivery 3 ∷ []) (receiver.ready_sound false) refl
-    (receiver.delivers k1 1 t receiver.accepts_1 (receiver.judged_1 t opens_1)) hears_1
-    (told_next k2 k3 k3 (receiver.link 3 u) [] [] [] (receiver.delivery 3 ∷ []) [] (receiver.heard_1_sound t opens_1) refl
-    (receiver.delivers k2 3 u receiver.accepts_3 judged_3) hears_3 (told_end k3 both_sound)))
+    receiver.told (salt false) (reads []) false free_b
+    (told_link receiver.accepts_1 refl (receiver.judged_1 t opens_1) (receiver.ready_sound false)
+    (told_link receiver.accepts_3 refl judged_3 (receiver.heard_1_sound t opens_1) (told_end _ both_sound)))
 
 facts_b : Facts 2 sci_b run_b [] (receiver.delivery 1 ∷ receiver.delivery 3 ∷ [])
-facts_b = record { last = at_b heard_both; told = told_b; of = run_told 2 1 sci_b run_b [] (receiver.delivery 1 ∷ receiver.delivery 3 ∷ []) (at_b heard_both) refl refl told_b }
+facts_b = facts_of 1 refl refl told_b
 
-commands_end : keeping_after (opening run_b) (receiver.commands false) ≡ at_b (receiver.ready false)
-commands_end = (receiver.told (salt false) (reads []) false [] [] (at_b (receiver.ready false)) free_b (told_end (at_b (receiver.ready false)) (receiver.ready_sound false))).ends
-
-module _ (left_out : Premise) (uses : List CipherUse) where
-  accepts_1 : Contains uses use_1 → IsStep left_out bytes sci_a 0 (at_b (receiver.ready false)) [] uses (receiver.link 1 t)
-  accepts_1 there = record {
-    genuine = λ d. genuine_at (receiver.ready false) (receiver.frame 1 t) receiver.accepts_1 uses (receiver.judged_1 t opens_1) there;
-    octets = octets_1;
-    order = λ d among. record { mode = λ n. refl; replay = λ n. refl; window = λ n. refl };
-    creates = λ d row at under fresh. All-nil (λ (d' : Delivery). d'.number < row.next);
-  }
-
-  accepts_3 : Contains uses use_3 → IsStep left_out bytes sci_a 0 (at_b (receiver.heard_1 t)) (receiver.delivery 1 ∷ []) uses (receiver.link 3 u)
-  accepts_3 there = record {
-    genuine = λ d. genuine_at (receiver.heard_1 t) (receiver.frame 3 u) receiver.accepts_3 uses judged_3 there;
-    octets = octets_3;
-    order = λ d among. record { mode = λ n. refl; replay = λ n. refl; window = λ n. refl };
-    creates = λ d row at under fresh. absurd (fresh (rx_from 2) refl refl);
-  }
-
-  steps_b : Contains uses use_1 → Contains uses use_3 → AreSteps left_out bytes sci_a 0 (opening run_b) [] uses run_b.inputs
-  steps_b there there' =
-      let k1 = at_b (receiver.ready false) in
-      let k2 = at_b (receiver.heard_1 t) in
-      after_own left_out bytes sci_a 0 (receiver.commands false) both_in (opening run_b) uses (tt, (tt, (tt, (tt, tt))))
-      (subst (λ (k : Keeping). AreSteps left_out bytes sci_a 0 k [] uses both_in) (sym commands_end)
-      (step_next left_out bytes sci_a 0 k1 k2 [] (receiver.delivery 1 ∷ []) uses (receiver.link 1 t) (receiver.link 3 u ∷ []) (accepts_1 there) hears_1
-      (receiver.delivers k1 1 t receiver.accepts_1 (receiver.judged_1 t opens_1))
-      (step_next left_out bytes sci_a 0 k2 (at_b heard_both) (receiver.delivery 1 ∷ []) (receiver.delivery 3 ∷ []) uses (receiver.link 3 u) [] (accepts_3 there') hears_3
-      (receiver.delivers k2 3 u receiver.accepts_3 judged_3) no_step)))
+steps_b : (left_out : Premise) (uses : List CipherUse) → Contains uses use_1 → Contains uses use_3 →
+    AreSteps left_out bytes sci_a 0 (opening run_b) [] uses run_b.inputs
+steps_b left_out uses there there' =
+    receiver.steps (salt false) (reads []) left_out false free_b
+    (step_link receiver.accepts_1 refl (receiver.judged_1 t opens_1) (accepts_now left_out (reads []) uses there)
+    (step_link receiver.accepts_3 refl judged_3 (record {
+      genuine = λ d. genuine_at (receiver.heard_1 t) (receiver.frame 3 u) receiver.accepts_3 uses judged_3 there';
+      octets = octets_3;
+      order = λ d among. is_strict refl refl refl;
+      creates = λ d row at under fresh. absurd (fresh (rx_from 2) refl refl);
+    }) no_step))
 
 -- ---- without the premise
 
@@ -230,10 +207,12 @@ module _ (left_out : Premise) (uses : List CipherUse) where
 pub durable_needed : LawWithout ReadsDurable (blocks ((A, first_run) ∷ (A, run_a false) ∷ (B, run_b) ∷ [])) → ⊥
 durable_needed =
     reordered ReadsDurable first_run (run_a false) run_b first_facts (facts_a false) facts_b
-    (tt, (tt, (tt, (tt, (tt, tt))))) (tt, (tt, (tt, (tt, (tt, (tt, tt)))))) (λ d. refl) (λ d. absurd (d refl)) (steps_b ReadsDurable)
+    (tt, (tt, (tt, (tt, (tt, tt))))) (tt, (tt, (tt, (tt, (tt, (tt, tt)))))) (λ d. refl) (λ d. absurd (d refl))
+    (steps_b ReadsDurable)
 
 -- the second run reads all that was reported, and another salt
 pub journal_salt_needed : LawWithout ReadsSalt (blocks ((A, first_run) ∷ (A, salted_run) ∷ (B, run_b) ∷ [])) → ⊥
 journal_salt_needed =
     reordered ReadsSalt first_run salted_run run_b first_facts salted_facts facts_b
-    (tt, (tt, (tt, (tt, (tt, tt))))) (tt, (tt, (tt, (tt, (tt, (tt, tt)))))) (λ d. absurd (d refl)) (λ d name. omega (arith, says true (reserved_3 ∷ []) three_is name)) (steps_b ReadsSalt)
+    (tt, (tt, (tt, (tt, (tt, tt))))) (tt, (tt, (tt, (tt, (tt, (tt, tt)))))) (λ d. absurd (d refl))
+    (λ d name. omega (arith, says true (reserved_3 ∷ []) three_is name)) (steps_b ReadsSalt)

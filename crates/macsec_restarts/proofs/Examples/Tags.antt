@@ -1,10 +1,10 @@
--- The ICVs of worked runs are octets: the sum of the octets of the hash and of a block of AES. The block is computed, to see
--- that it is octets; the hash is not.
-use Rattle.std.proofs.Common.{◌≡◌, ℕ, zero, suc, ◌<◌, Bool, true, List, [], ◌∷◌, ◌++◌, take, refl, ap, subst, arith}
-use Rattle.std.specs.Prelude.{◌&&◌, bit_xor, nat_lt, slice_index}
+-- The ICVs of worked runs are octets: the sum of the octets of the hash and of a block of AES. The block is computed,
+-- to see that it is octets; the hash is not.
+use Rattle.std.proofs.Common.{◌≡◌, ℕ, zero, suc, ◌<◌, true, List, [], ◌∷◌, ◌++◌, take, refl, ap, subst, arith}
+use Rattle.std.specs.Prelude.{bit_xor, nat_lt, slice_index}
 use Rattle.std.specs.Int.{byte_at, bytes_high_first, to_be_bytes, w128}
 use Rattle.std.proofs.lemmas.Bool.{and_parts, ltb-true}
-use Rattle.std.proofs.lemmas.List.Elements.{All-append, All-cons, All-from_recursion, All-nil}
+use Rattle.std.proofs.lemmas.List.Elements.{All-append, All-from_recursion}
 use Rattle.std.proofs.lemmas.Nat.{xor_of_8}
 use Rattle.macsec_aes.specs.Aes.{add_round_key, added_word, aes, after_rounds, key_expansion, key_words, mix_columns, rot_word, round_key, shift_rows}
 use Rattle.macsec_aes.specs.Aes.{sub_bytes, sub_word, sum_of_words}
@@ -15,15 +15,8 @@ use Rattle.macsec_tag.specs.Laws.{AreOctets}
 use Rattle.macsec_counterexamples.proofs.Link.Exchange.{aad, client, iv, tag}
 use Rattle.macsec_counterexamples.proofs.Link.SealedFrames.{Sealed, items, sealed}
 use Rattle.macsec_counterexamples.proofs.Link.WorkedEnds.{bytes}
+use Rattle.macsec_counterexamples.proofs.Restarts.Tables.{are_small, small}
 use Rattle.macsec_restarts.proofs.Examples.Receivers.{frame}
-
-abbrev pub are_small : List ℕ → Bool
-are_small [] = true
-are_small (x ∷ xs) = nat_lt x 256 && are_small xs
-
-pub small : (xs : List ℕ) → are_small xs ≡ true → AreOctets xs
-small [] are = All-nil (λ x. x < 256)
-small (x ∷ xs) are = let both = and_parts (nat_lt x 256) (are_small xs) are in All-cons (λ y. y < 256) x xs (ltb-true x 256 both.0) (small xs both.1)
 
 pub small_at : (xs : List ℕ) → are_small xs ≡ true → (k : ℕ) → slice_index xs k < 256
 small_at [] are k = omega arith
@@ -42,28 +35,36 @@ of_number (suc k) n (suc i) = of_number k n i
 hash_of : List ℕ → List ℕ → ℕ
 hash_of key aad = ghash (hash_subkey key) (pad aad ++ (pad [] ++ pad (length_block aad [])))
 
-sum_at : (hash : ℕ) (block : List ℕ) → ((k : ℕ) → slice_index block k < 256) → (k : ℕ) → bit_xor (slice_index (to_be_bytes w128 hash) k) (slice_index block k) < 256
-sum_at hash block are k = xor_of_8 (slice_index (to_be_bytes w128 hash) k) (slice_index block k) (of_number 16 hash k) (are k)
+sum_at : (hash : ℕ) (block : List ℕ) → ((k : ℕ) → slice_index block k < 256) → (k : ℕ) →
+    bit_xor (slice_index (to_be_bytes w128 hash) k) (slice_index block k) < 256
+sum_at hash block are k = xor_of_8 (slice_index (to_be_bytes w128 hash) k) (slice_index block k) (of_number 16 hash k)
+    (are k)
 
-pub tag_is : (key iv aad : List ℕ) → ((k : ℕ) → slice_index (aes key (pre_counter_block iv)) k < 256) → AreOctets (seal_of key iv aad []).1
+pub tag_is : (key iv aad : List ℕ) → ((k : ℕ) → slice_index (aes key (pre_counter_block iv)) k < 256) →
+    AreOctets (seal_of key iv aad []).1
 unfolding seal_of authentication_tag gctr hash_of
-tag_is key iv aad are = All-from_recursion (λ x. x < 256) (seal_of key iv aad []).1 (octet 0, (octet 1, (octet 2, (octet 3, (octet 4, (octet 5, (octet 6, (octet 7, (octet 8, (octet 9, (octet 10, (octet 11, (octet 12, (octet 13, (octet 14, (octet 15, tt))))))))))))))))
+tag_is key iv aad are = All-from_recursion (λ x. x < 256) (seal_of key iv aad []).1
+    (octet 0, (octet 1, (octet 2, (octet 3, (octet 4, (octet 5, (octet 6, (octet 7, (octet 8, (octet 9, (octet 10, (octet 11, (octet 12, (octet 13, (octet 14, (octet 15, tt))))))))))))))))
   where
-    octet : (k : ℕ) → bit_xor (slice_index (to_be_bytes w128 (hash_of key aad)) k) (slice_index (aes key (pre_counter_block iv)) k) < 256
+    octet : (k : ℕ) → bit_xor (slice_index (to_be_bytes w128 (hash_of key aad)) k)
+        (slice_index (aes key (pre_counter_block iv)) k) < 256
     octet k = sum_at (hash_of key aad) (aes key (pre_counter_block iv)) are k
 
-icv_is : (number : ℕ) → are_small (aes bytes (pre_counter_block (iv number))) ≡ true → AreOctets (items 16 (tag number (client number)))
+icv_is : (number : ℕ) → are_small (aes bytes (pre_counter_block (iv number))) ≡ true →
+    AreOctets (items 16 (tag number (client number)))
 icv_is number are =
     subst AreOctets (ap (λ (it : Sealed). it.1) (sealed bytes (iv number) (aad number (client number))))
     (tag_is bytes (iv number) (aad number (client number)) (small_at (aes bytes (pre_counter_block (iv number))) are))
 
 block_1 : are_small (aes bytes (pre_counter_block (iv 1))) ≡ true
-unfolding pre_counter_block aes after_rounds add_round_key round_key mix_columns shift_rows sub_bytes key_expansion key_words added_word sum_of_words sub_word rot_word
+unfolding pre_counter_block aes after_rounds add_round_key round_key mix_columns shift_rows sub_bytes key_expansion
+    key_words added_word sum_of_words sub_word rot_word
     s_box affine_transformation inverse byte_product remainder polynomial_product sum_below
 block_1 = refl
 
 block_3 : are_small (aes bytes (pre_counter_block (iv 3))) ≡ true
-unfolding pre_counter_block aes after_rounds add_round_key round_key mix_columns shift_rows sub_bytes key_expansion key_words added_word sum_of_words sub_word rot_word
+unfolding pre_counter_block aes after_rounds add_round_key round_key mix_columns shift_rows sub_bytes key_expansion
+    key_words added_word sum_of_words sub_word rot_word
     s_box affine_transformation inverse byte_product remainder polynomial_product sum_below
 block_3 = refl
 
