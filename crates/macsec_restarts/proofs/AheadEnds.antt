@@ -1,5 +1,5 @@
--- Where deleted SAs ended is remembered: the PN up to which frames may have been accepted from an SA does not fall, whether
--- the SA exists or not.
+-- Where deleted SAs ended is remembered: the PN up to which frames may have been accepted from an SA does not fall,
+-- whether the SA exists or not.
 use Rattle.std.proofs.Common.{◌≡◌, ◌⊎◌, ℕ, ◌<◌, ◌≤◌, Bool, true, false, filter, inl, inr, refl, ap, sym, subst, ◌∙◌, arith}
 use Rattle.std.specs.Prelude.{List, [], ◌∷◌, ◌==◌, ◌&&◌, not, nat_le, nat_lt, max, if◌then◌else◌, is_some, Option, Some, None}
 use Rattle.std.proofs.lemmas.Bool.{and_cases, and_from, eqb-true, le-leb, leb-false, lt-ltb, ltb-false}

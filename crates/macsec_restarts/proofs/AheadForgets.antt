@@ -1,5 +1,6 @@
--- A run that forgets keys, compared with the same run that forgets none, by the law of the keeping endpoints inside. The
--- outputs are alike, and what is sent, delivered, accepted, reserved ahead and remembered of deleted SAs is the same.
+-- A run that forgets keys, compared with the same run that forgets none, by the law of the keeping endpoints inside.
+-- The outputs are alike, and what is sent, delivered, accepted, reserved ahead and remembered of deleted SAs is the
+-- same.
 use Rattle.std.proofs.Common.{◌≡◌, ℕ, zero, suc, Bool, true, false, cond, List, [], ◌∷◌, ◌++◌, map, filter, take, inl, inr, refl, ap, sym, subst, ◌∙◌}
 use Rattle.std.specs.Prelude.{◌==◌, ◌&&◌, not, nat_le, nat_lt, is_some, if◌then◌else◌, Option, Some, None}
 use Rattle.std.proofs.lemmas.Bool.{and_from, eq-eqb}
@@ -135,7 +136,10 @@ takes_step l (now_durable r) is = record { output = refl; after = refl }
 takes_step l (endpoint_input input) is =
     let it = takes_by (begins_again l input) (standing l input) l input
     (forgetting_step l.k (endpoint_input input)) is in
-    record { output = ap (λ (x : AheadOutput × Ahead). x.0) (forgetting_is l input) ∙ it.0; after = ap (λ (x : AheadOutput × Ahead). x.1.k) (forgetting_is l input) ∙ it.1 }
+    record {
+      output = ap (λ (x : AheadOutput × Ahead). x.0) (forgetting_is l input) ∙ it.0;
+      after = ap (λ (x : AheadOutput × Ahead). x.1.k) (forgetting_is l input) ∙ it.1;
+    }
 
 pub forgets_inside : (l : Ahead) (input : KeepingInput) → lets_through l input ≡ true →
     (ahead_forgetting_step l input).1.k ≡ (forgetting_step l.k input).1
@@ -619,7 +623,11 @@ runs_beside [] a l beside along = record {
     sends = refl;
     delivers = refl;
     accepts = refl;
-    ends = record { secy = now_same a.k l.k [] along; taken = ap (λ (x : Ahead). x.taken) beside.same; ended = ap (λ (x : Ahead). x.ended) beside.same };
+    ends = record {
+      secy = now_same a.k l.k [] along;
+      taken = ap (λ (x : Ahead). x.taken) beside.same;
+      ended = ap (λ (x : Ahead). x.ended) beside.same;
+    };
   };
   inside = refl;
 }

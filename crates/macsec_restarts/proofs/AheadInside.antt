@@ -84,7 +84,10 @@ reports (endpoint_input input ∷ inputs) a = by_test (lets_through a (endpoint_
 
 pub is_keeping_inside : (ahead : Bool) (run : Run) → IsKeepingInside ahead run
 is_keeping_inside ahead run =
-    record { inside = k_inside run.inputs (opening_with ahead run); reports = reports run.inputs (opening_with ahead run) }
+    record {
+      inside = k_inside run.inputs (opening_with ahead run);
+      reports = reports run.inputs (opening_with ahead run);
+    }
 
 -- ---- without the option
 

@@ -83,7 +83,10 @@ module _ (laws : EndpointLaws) where
       let number : it.later.number ≡ n = it.is_later.number ∙ key.number in
       let found : key_row after.keys n ≡ Some it.later = ap (key_row after.keys) (sym number)
       ∙ (laws.keys_apart after sound').by_number it.later it.there in
-      record { there = of_some (key_row after.keys n) it.later found; octets = ap (λ (o : Option InstalledKey). (unwrap_or o no_key).bytes) found ∙ it.is_later.bytes }
+      record {
+        there = of_some (key_row after.keys n) it.later found;
+        octets = ap (λ (o : Option InstalledKey). (unwrap_or o no_key).bytes) found ∙ it.is_later.bytes;
+      }
 
   -- keys of the same octets have one number
   one_number : (s : State) → IsSound s → (n m : ℕ) → IsSome (key_row s.keys n) → IsSome (key_row s.keys m) →
@@ -110,7 +113,8 @@ module _ (laws : EndpointLaws) where
   -- ---- what was delivered
 
   module _ (bytes : List ℕ) (sci : Sci) (an : ℕ) where
-    -- the SA's key is in the table, and it is given up, or the PN is at most what may have been accepted from the SA under it
+    -- the SA's key is in the table, and it is given up, or the PN is at most what may have been accepted from the SA
+    -- under it
     pub record IsPast (a : Ahead) (d : Delivery) : Type 0 where
       pub key : ℕ
       pub there : IsSome (key_row a.k.secy.keys key)
@@ -124,7 +128,12 @@ module _ (laws : EndpointLaws) where
         let after = (ahead_step a input).1 in
         let later = octets_stay a.k.secy after.k.secy sound sound'
         (keys_stay_with a input sound lets) it.key it.there in
-        record { key = it.key; there = later.there; octets = later.octets ∙ it.octets; past = by_past it.past (past_step a input it.key sci an keeps) }
+        record {
+          key = it.key;
+          there = later.there;
+          octets = later.octets ∙ it.octets;
+          past = by_past it.past (past_step a input it.key sci an keeps);
+        }
       where
         by_past : IsGivenUp a.k.secy it.key ⊎ (d.number ≤ past_of a it.key sci an) →
             IsGivenUp (ahead_step a input).1.k.secy it.key
@@ -213,7 +222,13 @@ module _ (laws : EndpointLaws) where
 
       abbrev delivery_of : RxRow → List ℕ → Delivery
       delivery_of row delivered =
-          record { bytes = (the_key s.keys row.key).bytes; sci = row.sci; an = row.an; number = j.number; frame = delivered }
+          record {
+            bytes = (the_key s.keys row.key).bytes;
+            sci = row.sci;
+            an = row.an;
+            number = j.number;
+            frame = delivered;
+          }
 
       -- the state after a frame without a fault
       after_is : frame_fault frame ≡ None → after.k.secy ≡ state_after_receiving s frame j
@@ -252,7 +267,13 @@ module _ (laws : EndpointLaws) where
           let within = All-contains (λ (r : RxRow). r.next ≤ r.lowest + after.k.secy.options.window)
           after.k.secy.rx.rows ours.row sound'.agrees.within_window
           (contained after.k.secy.rx.rows ours.row (found_row sci an after.k.secy.rx.rows ours.row ours.there)) in
-          record { later = ours.row; there = ours.there; key = stepped.key; above = omega (arith, ours.above, within, window); fits = lowest_fits after.k.secy.rx.scis after.k.secy.rx.rows ours.row sound'.rx.rows (found_row sci an after.k.secy.rx.rows ours.row ours.there) }
+          record {
+            later = ours.row;
+            there = ours.there;
+            key = stepped.key;
+            above = omega (arith, ours.above, within, window);
+            fits = lowest_fits after.k.secy.rx.scis after.k.secy.rx.rows ours.row sound'.rx.rows (found_row sci an after.k.secy.rx.rows ours.row ours.there);
+          }
 
       past_by : (row : RxRow) → IsAfter row → j.number ≤ past_of after row.key sci an
       past_by row it =

@@ -1,4 +1,5 @@
--- Where deleted SAs ended is remembered by endpoints that forget keys, and what was saved of an SA is not delivered again.
+-- Where deleted SAs ended is remembered by endpoints that forget keys, and what was saved of an SA is not delivered
+-- again.
 use Rattle.std.proofs.Common.{◌≡◌, ℕ, ◌+◌, ◌<◌, ◌≤◌, Bool, true, false, List, [], ◌∷◌, inl, inr, refl, ap, sym, subst, ◌∙◌, arith, All}
 use Rattle.std.specs.Prelude.{◌&&◌, nat_le, nat_lt, max, take, if◌then◌else◌, unwrap_or, Option, Some, None}
 use Rattle.std.proofs.lemmas.Bool.{and_from, le-leb, lt-ltb}

@@ -1,5 +1,5 @@
--- Order, and each frame at most once, of endpoints that forget keys, if each later run reads what was sent and delivered
--- before: the other end sent what is delivered, and both numbers rise.
+-- Order, and each frame at most once, of endpoints that forget keys, if each later run reads what was sent and
+-- delivered before: the other end sent what is delivered, and both numbers rise.
 use Rattle.std.proofs.Common.{◌≡◌, ℕ, Bool, true, false, cond, List, [], ◌∷◌, ◌++◌, map, take, inl, inr, refl, ap, ap₂, sym, subst, ◌∙◌, All, AllPairs, Contains, append-nil, append_assoc, get_or, arith, ◌≤◌}
 use Rattle.std.specs.Prelude.{◌&&◌, ◌==◌, if◌then◌else◌, unwrap_or, Option, Some, None, IfSome}
 use Rattle.std.proofs.lemmas.Bool.{and_parts}
@@ -216,7 +216,13 @@ module _ (alike : KeepersAlike) (laws : EndpointLaws) (grammar : Grammar) (fresh
       by_delivery None (Some row) of_row (Some delivered) delivers fair' = by_test (is_ours g) refl fair'
         where
           g : Delivery
-          g = record { bytes = (the_key s.keys row.key).bytes; sci = row.sci; an = row.an; number = (judgement_of s frame).number; frame = delivered }
+          g = record {
+            bytes = (the_key s.keys row.key).bytes;
+            sci = row.sci;
+            an = row.an;
+            number = (judgement_of s frame).number;
+            frame = delivered;
+          }
 
           sound : IsSoundWith r
           sound = All-contains IsSoundWith (own before) r (sounds e)

@@ -1,5 +1,5 @@
--- The next packet number of a receive SA does not fall while the SA exists. So a number below it stays below it, if each SA
--- that is created begins above the number.
+-- The next packet number of a receive SA does not fall while the SA exists. So a number below it stays below it, if
+-- each SA that is created begins above the number.
 use Rattle.std.proofs.Common.{◌≡◌, ℕ, ◌+◌, ◌<◌, ◌≤◌, Bool, true, false, cond, List, [], ◌∷◌, filter, refl, ap, sym, subst, ◌∙◌, arith}
 use Rattle.std.specs.Prelude.{◌&&◌, ◌==◌, not, if◌then◌else◌, unwrap_or, Option, Some, None}
 use Rattle.std.proofs.lemmas.Bool.{and_parts, eqb-true}
@@ -60,10 +60,6 @@ none_left sci an test fails (row ∷ rows) = by_test (test row) refl (none_left 
 not_true : (b : Bool) → b ≡ true → not b ≡ false
 not_true true is = refl
 not_true false is = cc
-
-first_part : (a b : Bool) → a && b ≡ true → a ≡ true
-first_part true b is = refl
-first_part false b is = cc
 
 by_refusal : (r : Option Refusal) (s : State) (c : Command) (sci : Sci) (an : ℕ) (row later : RxRow) →
     rx_row s.rx.rows sci an ≡ Some row →

@@ -1,5 +1,5 @@
--- What a step does to the receive SA at a place: the SA stays with its key, and its lowest acceptable packet number does not
--- fall; or it is deleted; or a command creates it.
+-- What a step does to the receive SA at a place: the SA stays with its key, and its lowest acceptable packet number
+-- does not fall; or it is deleted; or a command creates it.
 use Rattle.std.proofs.Common.{◌≡◌, inl, inr, ℕ, ◌≤◌, Bool, true, false, cond, List, [], ◌∷◌, ◌++◌, map, filter, refl, ap, sym, subst, ◌∙◌, arith}
 use Rattle.std.specs.Prelude.{◌==◌, ◌&&◌, not, nat_lt, if◌then◌else◌, option_map, Option, Some, None}
 use Rattle.std.proofs.lemmas.Bool.{eqb-false, ltb-false, or_parts}

@@ -1,4 +1,5 @@
--- What an end sent in its runs: each protected frame is by a key of its run, and whoever opens it gets the client frame.
+-- What an end sent in its runs: each protected frame is by a key of its run, and whoever opens it gets the client
+-- frame.
 use Rattle.std.proofs.Common.{◌≡◌, ◌⊎◌, inl, inr, ℕ, suc, Bool, true, false, List, [], ◌∷◌, ◌++◌, map, refl, ap, sym, subst, ◌∙◌, All, AllPairs}
 use Rattle.std.specs.Prelude.{if◌then◌else◌, Option, Some, None}
 use Rattle.std.proofs.lemmas.List.{map-append}
@@ -53,7 +54,10 @@ by_frame laws k frame sound None fits (Some row) sent true go =
     ap (λ (b : Bool). (if b then with_step k (step k.secy (client_frame frame))
     else (dropped_no_reservation, k)).1.secy) go in
     let it : IsSentBy (step k.secy (client_frame frame)).1 (sent_at k.secy frame row) =
-    record { from = from_new laws k.secy frame row sound fits sent; opens = (laws.protects k.secy frame row sound fits sent).opens } in
+    record {
+      from = from_new laws k.secy frame row sound fits sent;
+      opens = (laws.protects k.secy frame row sound fits sent).opens;
+    } in
     All-cons (IsSentBy after) (sent_at k.secy frame row) []
     (subst (λ (t : State). IsSentBy t (sent_at k.secy frame row)) (sym same) it) (All-nil (IsSentBy after))
 

@@ -160,7 +160,10 @@ leased (input ∷ inputs) k keeps =
     subst (λ (salt : List ℕ). IsLeased k.before salt (most_of after inputs) x) (salt_stays k input)
     (subst (λ (before : List Reservation). IsLeased before after.salt (most_of after inputs) x)
     (before_stays k input) it) in
-    record { above = here.above; within = omega (arith, here.within, most_step k input inputs (sending_name k.salt x.seal.key)) })
+    record {
+      above = here.above;
+      within = omega (arith, here.within, most_step k input inputs (sending_name k.salt x.seal.key));
+    })
     (sent_from after inputs) (leased inputs after (keeps_stays k input ∙ keeps)))
 
 abbrev pub IsLeasedIn : Run → SentIn → Type 0

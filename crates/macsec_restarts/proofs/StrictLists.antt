@@ -1,4 +1,5 @@
--- What endpoints deliver that can reserve ahead of receiving, and those that forget keys, by the outputs of the keeping endpoint.
+-- What endpoints deliver that can reserve ahead of receiving, and those that forget keys, by the outputs of the keeping
+-- endpoint.
 use Rattle.std.proofs.Common.{◌≡◌, ℕ, Bool, true, false, refl, sym, subst, ◌∙◌}
 use Rattle.std.specs.Prelude.{Option, Some, None}
 use Rattle.macsec_secy.specs.Step.{Input, operator_command, received}

@@ -264,17 +264,13 @@ module _ (left_out : Premise) (bytes : List ℕ) (sci : Sci) (an : ℕ) where
   pub own_step : (k : Keeping) (uses : List CipherUse) (input : KeepingInput) → IsOwn input →
       IsStep left_out bytes sci an k [] uses input
   own_step k uses (now_durable r) own = made tt tt nothing
-  own_step k uses (endpoint_input (operator_command c)) own = made tt tt nothing
-  own_step k uses (endpoint_input (client_frame frame)) own = made tt tt nothing
-  own_step k uses (endpoint_input (uncontrolled_frame frame)) own = made tt tt nothing
   own_step k uses (endpoint_input (link_frame frame)) own = absurd own
+  own_step k uses input own = made tt tt nothing
 
   no_delivery : (k : Keeping) (input : KeepingInput) → IsOwn input → newly_delivered k input ≡ []
   no_delivery k (now_durable r) own = refl
-  no_delivery k (endpoint_input (operator_command c)) own = refl
-  no_delivery k (endpoint_input (client_frame frame)) own = refl
-  no_delivery k (endpoint_input (uncontrolled_frame frame)) own = refl
   no_delivery k (endpoint_input (link_frame frame)) own = absurd own
+  no_delivery k input own = refl
 
   pub after_own : (first more : List KeepingInput) (k : Keeping) (uses : List CipherUse) → AreOwn first →
       AreSteps left_out bytes sci an (keeping_after k first) [] uses more →
@@ -310,13 +306,9 @@ module _ (left_out : Premise) (bytes : List ℕ) (sci : Sci) (an : ℕ) where
 
   a_input : (before : List Happening) (input : KeepingInput) → IsOwn input → IsMet before (comes_in A input)
   a_input before (now_durable r) own = record { genuine = λ d. tt; octets = tt; ordered = λ same. cc }
-  a_input before (endpoint_input (operator_command c)) own =
-      record { genuine = λ d. tt; octets = tt; ordered = λ same. cc }
-  a_input before (endpoint_input (client_frame frame)) own =
-      record { genuine = λ d. tt; octets = tt; ordered = λ same. cc }
-  a_input before (endpoint_input (uncontrolled_frame frame)) own =
-      record { genuine = λ d. tt; octets = tt; ordered = λ same. cc }
   a_input before (endpoint_input (link_frame frame)) own = absurd own
+  a_input before input own =
+      record { genuine = λ d. tt; octets = tt; ordered = λ same. cc }
 
   pub a_inputs : (inputs : List KeepingInput) (before more : List Happening) → AreOwn inputs →
       AtEach IsMet (before ++ map (comes_in A) inputs) more → AtEach IsMet before (map (comes_in A) inputs ++ more)
@@ -337,13 +329,11 @@ module _ (left_out : Premise) (bytes : List ℕ) (sci : Sci) (an : ℕ) where
       (uses : List CipherUse) → AreSealed before uses → (input : KeepingInput) →
       IsAmong uses (closing run) input → IsGenuineAt before (comes_in B input)
   is_genuine before run last uses within (now_durable r) among = tt
-  is_genuine before run last uses within (endpoint_input (operator_command c)) among = tt
-  is_genuine before run last uses within (endpoint_input (client_frame frame)) among = tt
-  is_genuine before run last uses within (endpoint_input (uncontrolled_frame frame)) among = tt
   is_genuine before run last uses within (endpoint_input (link_frame frame)) among =
       subst (λ (o : Option Run). IfSome o (λ q. IfSome (use_opened (closing q).secy frame)
       (Contains (sealed_so_far before)))) (sym last)
       (among_more uses (sealed_so_far before) within (use_opened (closing run).secy frame) among)
+  is_genuine before run last uses within input among = tt
 
   b_input : (before : List Happening) (run : Run) → last_run (runs_of B before) ≡ Some run → (uses : List CipherUse) →
       AreSealed before uses → (input : KeepingInput) →

@@ -57,7 +57,7 @@ use Rattle.macsec_counterexamples.proofs.Restarts.Senders.{kept, row_at}
 use Rattle.macsec_restarts.specs.Delivered.{Delivery, delivered_at, delivered_in_all, newly_delivered}
 use Rattle.macsec_restarts.specs.Order.{SavedIn, HasStrictOrder, numbered_delivery, numbered_sent}
 use Rattle.macsec_restarts.specs.Sent.{SentIn, newly_sent, sent_by, sent_under}
-use Rattle.macsec_restarts.proofs.Examples.Blocks.{AreOwn, AreSteps, Does, EndRun, after_own, blocks, commands_do, commands_steps, does_end, does_next, first_link, gives_by, is_strict, link_step_by, no_step, heard_by, step_next}
+use Rattle.macsec_restarts.proofs.Examples.Blocks.{AreOwn, AreSteps, Does, EndRun, IsMetBy, after_own, blocks, commands_do, commands_steps, does_end, does_next, first_link, gives_by, is_strict, link_step_by, no_step, heard_by, step_next}
 use Rattle.macsec_restarts.proofs.Examples.Histories.{MeetsAll, meets_all, nothing_saved, one_run_each, refuted, seals_are}
 use Rattle.macsec_restarts.proofs.Examples.NotSent.{names_differ, not_of_none, two_runs_of_b}
 use Rattle.macsec_restarts.proofs.Examples.Premises.{AgreeAtBothBut, AgreeOnKeyBut, ArePeersBut, HasOneSalt, HasOneSuite, HasStrictOrderBut, KeepsSalt, KeepsSsci, KeepsSuite, LawWithout, NoPremise, Premise, StaysSoundAlways}
@@ -247,8 +247,8 @@ module _ (sci : Sci) where
 abbrev run_s : Salt → Sci → Run
 run_s s sci = record { journal = journal false []; config = config_of sci; inputs = sends s }
 
--- ---- B receives it: with the same salt, from packet number 1 on; from 2^32 on, with a salt that flips the lowest bit of
--- the upper half, or with one of no octets; or with a salt under which A's SSCI gives the IV of B's own
+-- ---- B receives it: with the same salt, from packet number 1 on; from 2^32 on, with a salt that flips the lowest bit
+-- of the upper half, or with one of no octets; or with a salt under which A's SSCI gives the IV of B's own
 
 pub data Receiver : Type 0 where
   Same : Receiver
@@ -318,9 +318,7 @@ accepts r = at_row (row_from r) (number_of r) 13 Passed (Some (client 1))
 iv_is : (r : Receiver) → iv_of Xpn128 sci_a (peer_ssci r) (salt_of_key r) (number_of r) ≡ iv (sender_salt r)
 unfolding sum_with_stream
 iv_is Same = refl
-iv_is Salted = refl
-iv_is Unsalted = refl
-iv_is Turned = refl
+iv_is it = refl
 
 opens_as : (r : Receiver) → open_of bytes (iv_of Xpn128 sci_a (peer_ssci r) (salt_of_key r) (number_of r)) aad []
     (items 16 (icv (sender_salt r))) ≡ Some []
@@ -330,18 +328,14 @@ opens_as r = ap (λ (i : List ℕ). open_of bytes i aad [] (items 16 (icv (sende
 judged : (r : Receiver) → judgement_of (ready r) (f r) ≡ accepts r
 judged Same = ap (judge_opened (rx_options (ready Same)) (rx_key Same) (rx_from 1) 1 (parts_at (f Same)))
     (opens_as Same)
-judged Salted = ap (judge_opened (rx_options (ready Salted)) (rx_key Salted) (rx_from (2 ^ 32)) (2 ^ 32 + 1)
-    (parts_at (f Salted))) (opens_as Salted)
-judged Unsalted = ap (judge_opened (rx_options (ready Unsalted)) (rx_key Unsalted) (rx_from (2 ^ 32)) (2 ^ 32 + 1)
-    (parts_at (f Unsalted))) (opens_as Unsalted)
 judged Turned = ap (judge_opened (rx_options (ready Turned)) (rx_key Turned) (row_from Turned) 1 (parts_at (f Turned)))
     (opens_as Turned)
+judged it = ap (judge_opened (rx_options (ready it)) (rx_key it) (rx_from (2 ^ 32)) (2 ^ 32 + 1)
+    (parts_at (f it))) (opens_as it)
 
 whole : (r : Receiver) → frame_fault (f r) ≡ None
 whole Same = refl
-whole Salted = refl
-whole Unsalted = refl
-whole Turned = refl
+whole it = refl
 
 abbrev heard : Receiver → State
 heard r = state_after_receiving (ready r) (f r) (accepts r)
@@ -355,24 +349,19 @@ module _ (before : List Reservation) (free : highest (reads before) (name_of (sa
 
   are_new : (r : Receiver) → AreNew (at (start (config_of sci_b))) (set_up r)
   are_new Same = (refl, (refl, (is_new (reads before) (name_of (salt false)) 1 free, (refl, tt))))
-  are_new Salted = (refl, (refl, (is_new (reads before) (name_of (salt false)) (2 ^ 32) (omega (arith, free)), (refl, tt))))
-  are_new Unsalted = (refl, (refl, (is_new (reads before) (name_of (salt false)) (2 ^ 32) (omega (arith, free)), (refl, tt))))
   are_new Turned = (refl, (refl, (is_new (reads before) (name_of (salt false)) 1 free, (refl, tt))))
+  are_new it = (refl, (refl, (is_new (reads before) (name_of (salt false)) (2 ^ 32) (omega (arith, free)), (refl, tt))))
 
   none : (r : Receiver) → none_refused (start (config_of sci_b)) (set_up r) ≡ true
   none Same = refl
-  none Salted = refl
-  none Unsalted = refl
-  none Turned = refl
+  none it = refl
 
   hears : (r : Receiver) → (keeping_step (at (ready r)) (link r)).1 ≡ at (heard r)
   hears r = link_step_by (at (ready r)) (f r) (accepts r) (whole r) (judged r)
 
   gives : (r : Receiver) → newly_delivered (at (ready r)) (link r) ≡ delivery r ∷ []
   gives Same = gives_by (at (ready Same)) (f Same) (accepts Same) refl (judged Same)
-  gives Salted = gives_by (at (ready Salted)) (f Salted) (accepts Salted) refl (judged Salted)
-  gives Unsalted = gives_by (at (ready Unsalted)) (f Unsalted) (accepts Unsalted) refl (judged Unsalted)
-  gives Turned = gives_by (at (ready Turned)) (f Turned) (accepts Turned) refl (judged Turned)
+  gives it = gives_by (at (ready it)) (f it) (accepts it) refl (judged it)
 
   receiver_does : (r : Receiver) → Does (at (start (config_of sci_b))) (commands r ++ link r ∷ []) [] (delivery r ∷ [])
       (at (heard r))
@@ -380,24 +369,16 @@ module _ (before : List Reservation) (free : highest (reads before) (name_of (sa
 
   genuine : (r : Receiver) (uses : List CipherUse) → Contains uses (use_of (sender_salt r)) →
       IfSome (use_opened (ready r) (f r)) (Contains uses)
-  genuine Same uses there =
-      genuine_at (ready Same) (f Same) (accepts Same) uses (judged Same)
-      (subst (λ (i : List ℕ). Contains uses (record (use_of Zeros) { iv = i })) (sym (iv_is Same)) there)
-  genuine Salted uses there =
-      genuine_at (ready Salted) (f Salted) (accepts Salted) uses (judged Salted)
-      (subst (λ (i : List ℕ). Contains uses (record (use_of Zeros) { iv = i })) (sym (iv_is Salted)) there)
   genuine Unsalted uses there =
       genuine_at (ready Unsalted) (f Unsalted) (accepts Unsalted) uses (judged Unsalted)
       (subst (λ (i : List ℕ). Contains uses (record (use_of Empty) { iv = i })) (sym (iv_is Unsalted)) there)
-  genuine Turned uses there =
-      genuine_at (ready Turned) (f Turned) (accepts Turned) uses (judged Turned)
-      (subst (λ (i : List ℕ). Contains uses (record (use_of Zeros) { iv = i })) (sym (iv_is Turned)) there)
+  genuine it uses there =
+      genuine_at (ready it) (f it) (accepts it) uses (judged it)
+      (subst (λ (i : List ℕ). Contains uses (record (use_of Zeros) { iv = i })) (sym (iv_is it)) there)
 
   strict : (left_out : Premise) (r : Receiver) → HasStrictOrderBut left_out (ready r)
   strict left_out Same = is_strict refl refl refl
-  strict left_out Salted = is_strict refl refl refl
-  strict left_out Unsalted = is_strict refl refl refl
-  strict left_out Turned = is_strict refl refl refl
+  strict left_out it = is_strict refl refl refl
 
   receiver_steps : (left_out : Premise) (r : Receiver) (b : Run) → opening b ≡ at (start (config_of sci_b)) →
       (uses : List CipherUse) → Contains uses (use_of (sender_salt r)) →
@@ -418,10 +399,8 @@ module _ (before : List Reservation) (free : highest (reads before) (name_of (sa
   rx_start = begins_sound (config_of sci_b) refl
 
   all_are_fit : (r : Receiver) → has_salt r ≡ true → all_fit (start (config_of sci_b)) (set_up r) ≡ true
-  all_are_fit Same is = refl
-  all_are_fit Salted is = refl
   all_are_fit Unsalted is = cc
-  all_are_fit Turned is = refl
+  all_are_fit it is = refl
 
   ready_sound : (r : Receiver) → has_salt r ≡ true → IsSound (ready r)
   ready_sound r is = commands_sound (set_up r) (none r) (all_are_fit r is) rx_start
@@ -455,7 +434,11 @@ of_last R p q x y keys keys' holds x' y' there there' =
 -- ---- B has another own SSCI or another salt in its second run, and delivers what it sent in the first one
 
 abbrev run_r : Receiver → Run
-run_r r = record { journal = journal false (reserved_2 ∷ []); config = config_of sci_b; inputs = commands r ++ link r ∷ [] }
+run_r r = record {
+  journal = journal false (reserved_2 ∷ []);
+  config = config_of sci_b;
+  inputs = commands r ++ link r ∷ [];
+}
 
 abbrev first_run : Run
 first_run = run_s Zeros sci_b
@@ -575,9 +558,7 @@ ends_agree left_out r agree =
   where
     keys_at_end : (r' : Receiver) → (closing (run_b r')).secy.keys ≡ rx_key r' ∷ []
     keys_at_end Same = ap (λ (k : Keeping). k.secy.keys) (does_b Same).ends
-    keys_at_end Salted = ap (λ (k : Keeping). k.secy.keys) (does_b Salted).ends
-    keys_at_end Unsalted = ap (λ (k : Keeping). k.secy.keys) (does_b Unsalted).ends
-    keys_at_end Turned = ap (λ (k : Keeping). k.secy.keys) (does_b Turned).ends
+    keys_at_end it = ap (λ (k : Keeping). k.secy.keys) (does_b it).ends
 
 -- what is delivered has another packet number than what was sent
 not_of_other : (m n : ℕ) (x y : List ℕ) → (m ≡ n → ⊥) → IsSubsequence ((m ∷ x) ∷ []) ((n ∷ y) ∷ []) → ⊥
@@ -588,6 +569,12 @@ not_of_other m n x y differ it = by_places it.0 it.2
     by_places (zero ∷ ps) same = let one : n ≡ m = cc in differ (sym one)
     by_places (suc p ∷ ps) same = cc
 
+receives_it : (left_out : Premise) (r : Receiver) → IsMetBy left_out bytes sci_a 0 ((A, run_a r) ∷ []) B (run_b r)
+receives_it left_out r = (
+  (λ d. nothing_saved (run_b r).journal),
+  receiver_steps [] free_b left_out r (run_b r) refl (sealed_in_all (run_a r ∷ []) ++ sealed_in_all []) (sealed_a r),
+)
+
 own_a : AreOwn (sends Zeros)
 own_a = (tt, (tt, (tt, (tt, (tt, tt)))))
 
@@ -597,7 +584,7 @@ own_unsalted = (tt, (tt, (tt, (tt, (tt, tt)))))
 pub same_salt_needed : LawWithout HasOneSalt (blocks (shifted Salted)) → ⊥
 same_salt_needed =
     refuted HasOneSalt (shifted Salted) (sent_1 Zeros ∷ []) (delivery Salted ∷ [])
-    (own_a, (((λ d. nothing_saved (run_b Salted).journal), receiver_steps [] free_b HasOneSalt Salted (run_b Salted) refl (sealed_in_all (run_a Salted ∷ []) ++ sealed_in_all []) (sealed_a Salted)), tt))
+    (own_a, (receives_it HasOneSalt Salted, tt))
     (one_run_each HasOneSalt (run_a Salted) (run_b Salted) (λ d. sender_sound sci_a refl)
     (λ d. receiver_sound [] free_b Salted refl)
     (ends_agree HasOneSalt Salted (record { suite = λ d. refl; salt = λ d. absurd (d refl) })))
@@ -609,7 +596,7 @@ same_salt_needed =
 pub soundness_needed : LawWithout StaysSoundAlways (blocks (shifted Unsalted)) → ⊥
 soundness_needed =
     refuted StaysSoundAlways (shifted Unsalted) (sent_1 Empty ∷ []) (delivery Unsalted ∷ [])
-    (own_unsalted, (((λ d. nothing_saved (run_b Unsalted).journal), receiver_steps [] free_b StaysSoundAlways Unsalted (run_b Unsalted) refl (sealed_in_all (run_a Unsalted ∷ []) ++ sealed_in_all []) (sealed_a Unsalted)), tt))
+    (own_unsalted, (receives_it StaysSoundAlways Unsalted, tt))
     (one_run_each StaysSoundAlways (run_a Unsalted) (run_b Unsalted) (λ d. absurd (d refl)) (λ d. absurd (d refl))
     (ends_agree StaysSoundAlways Unsalted (record { suite = λ d. refl; salt = λ d xpn. refl })))
     (ap (λ (xs : List SentIn). xs ++ []) (does_a Unsalted).sends)
@@ -621,7 +608,7 @@ soundness_needed =
 pub extended_meets : MeetsAll (shifted Same) ((1 ∷ client 1) ∷ []) ((1 ∷ client 1) ∷ [])
 extended_meets =
     meets_all (shifted Same) (sent_1 Zeros ∷ []) (delivery Same ∷ [])
-    (own_a, (((λ d. nothing_saved (run_b Same).journal), receiver_steps [] free_b NoPremise Same (run_b Same) refl (sealed_in_all (run_a Same ∷ []) ++ sealed_in_all []) (sealed_a Same)), tt))
+    (own_a, (receives_it NoPremise Same, tt))
     (one_run_each NoPremise (run_a Same) (run_b Same) (λ d. sender_sound sci_a refl)
     (λ d. receiver_sound [] free_b Same refl)
     (ends_agree NoPremise Same (record { suite = λ d. refl; salt = λ d xpn. refl })))
@@ -781,7 +768,10 @@ is_plain : {k : Keeping} {c : Command} → begins_again (a_of k) (operator_comma
 is_plain again same ends new lets = record { again = again; same = same; ends = ends; new = new; lets = lets }
 
 plain_a : ArePlain (k_begun sci_a) (tx_set_up Zeros)
-plain_a = (is_plain refl refl refl refl refl, (is_plain refl refl refl refl refl, (is_plain refl refl refl refl refl, tt)))
+plain_a = (
+  is_plain refl refl refl refl refl,
+  (is_plain refl refl refl refl refl, (is_plain refl refl refl refl refl, tt)),
+)
 
 a_does : DoesWith (a_of (k_begun sci_a)) a_sends (sent_1 Zeros ∷ []) [] (a_of (k_sent sci_a Zeros))
 a_does =
@@ -929,9 +919,27 @@ keys_2 = command_goes k_forgot k_two no_ends key_2 refl not_known installs_2 ref
 
 two_are : AreKeyRows with_two.keys
 two_are = (
-  record { number = omega arith; bytes = long_b; salt = refl; ssci = omega arith; first_unused_least = omega arith; first_unused = omega arith },
+  record {
+    number = omega arith;
+    bytes = long_b;
+    salt = refl;
+    ssci = omega arith;
+    first_unused_least = omega arith;
+    first_unused = omega arith;
+  },
   refl,
-  (record { number = omega arith; bytes = refl; salt = refl; ssci = omega arith; first_unused_least = omega arith; first_unused = omega arith }, refl, tt),
+  (
+    record {
+      number = omega arith;
+      bytes = refl;
+      salt = refl;
+      ssci = omega arith;
+      first_unused_least = omega arith;
+      first_unused = omega arith;
+    },
+    refl,
+    tt,
+  ),
 )
 
 two_sound : IsSound with_two

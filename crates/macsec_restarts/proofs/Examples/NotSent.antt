@@ -155,7 +155,12 @@ two_runs_of_b left_out s r sound sound' agree' salts durable same =
     let its : List EndRun = (B, s) ∷ (B, r) ∷ [] in
     record {
       a = subst (IsHistoryBut left_out) (sym (runs_of-blocks A its))
-          (record { sound = λ d. All-nil IsSoundRun; agree = no_pairs (AgreeInRunsBut left_out); salt = λ d. no_pairs SameSalt; durable = λ d. no_pairs KeepsDurable });
+          (record {
+            sound = λ d. All-nil IsSoundRun;
+            agree = no_pairs (AgreeInRunsBut left_out);
+            salt = λ d. no_pairs SameSalt;
+            durable = λ d. no_pairs KeepsDurable;
+          });
       b = subst (IsHistoryBut left_out) (sym (runs_of-blocks B its)) (record {
         sound = λ d. both IsSoundRun s r sound sound';
         agree = pair (AgreeInRunsBut left_out) s r agree';
@@ -220,7 +225,11 @@ unfolding first_words schedule rounds compress hash_after digest_bytes sha256
 names_differ = refl
 
 abbrev later : Run
-later = record { journal = journal false (reserved_2 ∷ []); config = gcm_b; inputs = receiver.commands false ++ receiver.link 1 t ∷ [] }
+later = record {
+  journal = journal false (reserved_2 ∷ []);
+  config = gcm_b;
+  inputs = receiver.commands false ++ receiver.link 1 t ∷ [];
+}
 
 abbrev at_later : State → Keeping
 at_later s = receiver.at (salt false) (reads (reserved_2 ∷ [])) s

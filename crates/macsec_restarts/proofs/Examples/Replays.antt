@@ -173,7 +173,13 @@ new_if : (c : Command) → ((salt' : List ℕ) (s : State) → begins_at salt' s
     AreNew (at_b (start gcm_b)) (receiver.set_up false ++ c ∷ [])
 new_if c is = (
   refl,
-  (refl, (is_new (reads []) (name_of (salt false)) 1 free_b, (refl, (ap (was_reserved (reads [])) (is (salt false) (receiver.ready false)), tt)))),
+  (
+    refl,
+    (
+      is_new (reads []) (name_of (salt false)) 1 free_b,
+      (refl, (ap (was_reserved (reads [])) (is (salt false) (receiver.ready false)), tt)),
+    ),
+  ),
 )
 
 works : (k : Kind) → Works k
@@ -290,7 +296,12 @@ begun_told =
 command_now : {uses : List CipherUse} {s : State} {c : Command} →
     IsStep IsCreatedAbove bytes sci_a 0 (at_b s) d1 uses (command c)
 command_now =
-    record { genuine = λ d. tt; octets = tt; order = λ d there. absurd (member [] d there); creates = λ d. absurd (d refl) }
+    record {
+      genuine = λ d. tt;
+      octets = tt;
+      order = λ d there. absurd (member [] d there);
+      creates = λ d. absurd (d refl);
+    }
 
 begun_steps : (uses : List CipherUse) → Contains uses use_1 →
     AreSteps IsCreatedAbove bytes sci_a 0 (opening begun) [] uses begun.inputs

@@ -396,7 +396,11 @@ orderly_inside before (h ∷ more) each = (one h each.0, orderly_inside (before 
     one : (h' : Happening) → IsOrderly B bytes sci_a 0 before h' → IsOrderlyInside true B bytes sci_a 0 before h'
     one (begins f config journal') is = record { genuine = is.genuine; octets = is.octets; ordered = λ same off. cc }
     one (comes_in f input) is =
-        record { genuine = is.genuine; octets = is.octets; ordered = λ same. by_run (last_run (runs_of B before)) (is.ordered same) }
+        record {
+          genuine = is.genuine;
+          octets = is.octets;
+          ordered = λ same. by_run (last_run (runs_of B before)) (is.ordered same);
+        }
       where
         by_run : (o : Option Run) → IfSome o (λ run. IsOrderedInput run bytes sci_a 0 input) →
             IfSome o (λ run. IsStrictInput (closing run) bytes sci_a 0 input)

@@ -136,7 +136,11 @@ abbrev reads_other : List Reservation
 reads_other = reduced (reservations (journal true (reserved_3 ∷ [])))
 
 abbrev salted_run : Run
-salted_run = record { journal = journal true (reserved_3 ∷ []); config = gcm_a; inputs = sender.inputs false (salt true) }
+salted_run = record {
+  journal = journal true (reserved_3 ∷ []);
+  config = gcm_a;
+  inputs = sender.inputs false (salt true);
+}
 
 abbrev salted_last : Keeping
 salted_last = kept (salt true) reads_other (sender.reserves false (salt true) ∷ []) (sender.at_end false)
@@ -148,7 +152,8 @@ names_differ = refl
 other_free : highest reads_other (sending_name (salt true) bytes) < 1
 other_free =
     let name = sending_name (salt true) bytes in
-    omega (arith, reduced_reserves (reservations (journal true (reserved_3 ∷ []))) name, says true (reserved_3 ∷ []) three_is name, highest_of_one reserved_3 name false names_differ)
+    let none = highest_of_one reserved_3 name false names_differ in
+    omega (arith, reduced_reserves (reservations (journal true (reserved_3 ∷ []))) name, says true (reserved_3 ∷ []) three_is name, none)
 
 salted_told : Told (opening salted_run) salted_run.inputs (sender.sent false) [] salted_last
 salted_told = sender.told (salt true) reads_other false other_free

@@ -168,7 +168,11 @@ before_a false = []
 before_a true = reserved_2 ∷ []
 
 abbrev pub run_a : Bool → Run
-run_a again = record { journal = journal false (before_a again); config = gcm_a; inputs = sender.inputs again (salt false) }
+run_a again = record {
+  journal = journal false (before_a again);
+  config = gcm_a;
+  inputs = sender.inputs again (salt false);
+}
 
 abbrev last_a : Bool → Keeping
 last_a again = kept (salt false) (reads (before_a again)) (sender.reserves again (salt false) ∷ [])
@@ -209,7 +213,11 @@ before_b false = []
 before_b true = saved_1 ∷ []
 
 abbrev run_b : Bool → Run
-run_b again = record { journal = journal false (before_b again); config = gcm_b; inputs = receiver.commands again ++ heard_in again }
+run_b again = record {
+  journal = journal false (before_b again);
+  config = gcm_b;
+  inputs = receiver.commands again ++ heard_in again;
+}
 
 abbrev at_b : Bool → State → Keeping
 at_b again s = receiver.at (salt false) (reads (before_b again)) s
