@@ -8,7 +8,7 @@ from collections.abc import Iterator, Sequence
 from .endpoint_of_config import Configuration, KeyLine
 from .frames import SecTag
 from .names import Suite
-from .settings import Change, Found, Option, Setting
+from .settings import Change, Option, Setting
 from .trial import Key, KeyArgument
 
 _TWINS = {
@@ -17,8 +17,8 @@ _TWINS = {
     Suite.gcm256: Suite.xpn256,
     Suite.xpn256: Suite.gcm256,
 }
-_UPPER_HALVES, _FEW_UPPER_HALVES = 256, 8
-_SSCIS, _FEW_SSCIS = 16, 4
+UPPER_HALVES, _FEW_UPPER_HALVES = 256, 8
+SSCIS, _FEW_SSCIS, _FEW_SCIS = 16, 4, 8
 WIDE, _TOGETHER = 65_536, 2_048
 _LONGEST_TRAILER = 64
 _MOST_KEYS, _MOST_ADDRESSES, _FEW_ADDRESSES = 64, 32, 8
@@ -85,38 +85,45 @@ class Alternatives:
         self, base: Setting, line: int | None, frame: bytes, tag: SecTag | None, is_alone: bool
     ) -> dict[str, list[Option]]:
         """The ways by their names; more of each if it alone is changed."""
-        of_key = next((it.line for it in self._lines if it.octets == base.key.octets), None)
+        of_key, most = self._line_of(base), None if is_alone else _FEW_SCIS
         twin = _TWINS[base.key.suite]
         found: dict[str, list[Option]] = {
             "key": [
                 (Change("key", f"{it.name} in place of {base.key.name}", line), {"key": it})
                 for it in self.keys(base.an) if it.octets != base.key.octets
             ],
-            "sci": [(_sci(it, base, line), {"sci": it}) for it in self._scis(base, frame, tag) if it != base.sci],
+            "sci": [(_sci(it, base, line), {"sci": it}) for it in self._scis(base, frame, tag)[:most] if it != base.sci],
             "suite": [
                 (Change("suite", f"suite {twin.name}, not {base.key.suite.name}", of_key), {"suite": twin})
             ],
-            "offset": [
-                (Change("offset", f"offset {it}, not {base.key.offset}", of_key), {"offset": it}) for it in (0, 30, 50)
-            ],
+            "offset": self.offsets(base),
         }  # fmt: skip
-        uppers = range(_UPPER_HALVES if is_alone else _FEW_UPPER_HALVES)
+        uppers = range(UPPER_HALVES if is_alone else _FEW_UPPER_HALVES)
         found["upper"] = [
             (_upper(it, base, line), {"upper": it})
             for it in dict.fromkeys([max(base.upper - 1, 0), base.upper + 1, *self._shown.uppers, *uppers])
             if it != base.upper
         ]
-        sscis = [reversed_ssci(base.ssci), *self._shown.sscis, *range(1, 1 + (_SSCIS if is_alone else _FEW_SSCIS))]
+        sscis = [reversed_ssci(base.ssci), *self._shown.sscis, *range(1, 1 + (SSCIS if is_alone else _FEW_SSCIS))]
         sscis += [own for it in self._lines for own in (it.ssci, reversed_ssci(it.ssci))]
         found["ssci"] = [(_ssci(it, base, line), {"ssci": it}) for it in dict.fromkeys(sscis) if it != base.ssci]
         found["salt"] = [(Change("salt", "the salt's octets in the other order", of_key), {"salt": True})]
         cuts = [4, *range(1, 4), *range(5, _LONGEST_TRAILER + 1)] if is_alone else [4]
-        found["cut"] = [(_trailer(it), {"cut": it}) for it in cuts]
+        found["cut"] = [trailer(it) for it in cuts]
         if tag is not None and tag.sci is None and not names_nobody(tag):
             found["iv-sci"] = [
-                (_iv_sci(it, base, tag), {"iv_sci": it}) for it in self._iv_scis(frame) if it != base.sci
+                (_iv_sci(it, base, tag), {"iv_sci": it}) for it in self._iv_scis(frame)[:most] if it != base.sci
             ]
         return found
+
+    def offsets(self, base: Setting) -> list[Option]:
+        """Other confidentiality offsets."""
+        of_key, own = self._line_of(base), base.key.offset
+        return [(Change("offset", f"offset {it}, not {own}", of_key), {"offset": it}) for it in (0, 30, 50)]
+
+    def _line_of(self, base: Setting) -> int | None:
+        """The line of a setting's key."""
+        return next((it.line for it in self._lines if it.octets == base.key.octets), None)
 
     def _scis(self, base: Setting, frame: bytes, tag: SecTag | None) -> list[bytes]:
         """The SCIs that the sender of a frame can have whose tag names nobody."""
@@ -135,20 +142,21 @@ class Alternatives:
         destination, source = frame[:6], frame[6:12]
         sent = [it + source for it in others] + [destination + it for it in others]
         sent += [one + other for one in others[:_FEW_ADDRESSES] for other in others[:_FEW_ADDRESSES]]
-        return [(_addresses(it, frame), {"addresses": it}) for it in dict.fromkeys(sent) if it != frame[:12]]
+        return [(address_change(it, frame), {"addresses": it}) for it in dict.fromkeys(sent) if it != frame[:12]]
 
-    def wide(self, base: Setting, line: int | None, frame: bytes, tag: SecTag | None) -> Iterator[Found]:
+    def wide(self, base: Setting, line: int | None, frame: bytes, tag: SecTag) -> Iterator[Option]:
         """The ways that take long: all upper halves and SSCIs below 2^16, all ports of the source address."""
         if base.key.suite.is_extended:
             for first in range(0, WIDE, _TOGETHER):
                 numbers = range(first, first + _TOGETHER)
-                yield from (Found((_upper(it, base, line),), base._replace(upper=it)) for it in numbers)
-                yield from (Found((_ssci(it, base, line),), base._replace(ssci=it)) for it in numbers)
-        elif tag is not None and tag.sci is None and not base.key.offset:
+                for it in numbers:
+                    yield _upper(it, base, line), {"upper": it}
+                for it in numbers:
+                    yield _ssci(it, base, line), {"ssci": it}
+        elif tag.sci is None and not base.key.offset:
             for port in range(WIDE):
                 sci = frame[6:12] + port.to_bytes(2, "big")
-                change = _sci(sci, base, line) if names_nobody(tag) else _iv_sci(sci, base, tag)
-                yield Found((change,), base._replace(iv_sci=sci))
+                yield _sci(sci, base, line) if names_nobody(tag) else _iv_sci(sci, base, tag), {"iv_sci": sci}
 
 
 def _sci(sci: bytes, base: Setting, line: int | None) -> Change:
@@ -170,16 +178,17 @@ def _ssci(ssci: int, base: Setting, line: int | None) -> Change:
     return Change("ssci", f"SSCI {ssci:08x}, not {base.ssci:08x}{order}", line)
 
 
-def _addresses(sent: bytes, frame: bytes) -> Change:
+def address_change(sent: bytes, frame: bytes) -> Change:
     names = ("destination", sent[:6], frame[:6]), ("source", sent[6:], frame[6:12])
     texts = [f"{name} address {was.hex()}, not {now.hex()}" for name, was, now in names if was != now]
     return Change("address", f"sent with {' and '.join(texts)}: rewritten on the way")
 
 
-def _trailer(count: int) -> Change:
+def trailer(count: int) -> Option:
+    """Octets after the ICV."""
     if count == 4:
-        return Change("fcs", "without the last 4 octets: a frame check sequence")
-    return Change("padding", f"without the last {count} octets: padding or a trailer")
+        return Change("fcs", "without the last 4 octets: a frame check sequence"), {"cut": 4}
+    return Change("padding", f"without the last {count} octets: padding or a trailer"), {"cut": count}
 
 
 def _ports_of(sci: bytes) -> list[bytes]:

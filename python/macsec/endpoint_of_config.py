@@ -74,6 +74,8 @@ class Configuration:
         self.refusals: list[Refusal] = []
         self._lines = text.split(b"\n")
         self._alone: SecY | None = None
+        self._unused: SecY | None = None
+        self._channels: list[bytes] | None = None
         self.secy = self._made(True)
 
     def _made(self, is_first: bool) -> SecY:
@@ -93,6 +95,11 @@ class Configuration:
                 self.keys[made.number] = made
         return secy
 
+    @property
+    def is_extended(self) -> bool:
+        """Is a key of an extended suite?"""
+        return any(it.suite.is_extended for it in self.keys.values())
+
     def refused_keys(self) -> list[KeyLine]:
         """The keys whose length does not fit their suite, as keys of the suite that it fits."""
         refused = {it.line for it in self.refusals if it.name == "KeyLength"}
@@ -105,12 +112,23 @@ class Configuration:
 
     def alone(self, frame: bytes) -> Received:
         """What becomes of a frame that is the first one."""
-        with self.fresh() as secy:
-            return secy.receive(frame)
+        received = self._first().receive(frame)
+        if received.frame is not None:
+            self._first().close()
+            self._unused = None
+        return received
+
+    def _first(self) -> SecY:
+        """An endpoint that has accepted nothing so far."""
+        if self._unused is None:
+            self._unused = self.fresh()
+        return self._unused
 
     def channels(self) -> list[bytes]:
         """The SCIs of the receive channels."""
-        return self._state().rx_scs()
+        if self._channels is None:
+            self._channels = self._state().rx_scs()
+        return self._channels
 
     def rx_sa(self, sci: bytes, an: int) -> RxSa | None:
         """A receive association as CONFIG leaves it, before any frame; None if there is none."""
@@ -122,8 +140,9 @@ class Configuration:
     def close(self) -> None:
         """Frees the endpoints, and the keys in them."""
         self.secy.close()
-        if self._alone is not None:
-            self._alone.close()
+        for each in (self._alone, self._unused):
+            if each is not None:
+                each.close()
 
     def _state(self) -> SecY:
         """An endpoint that receives nothing."""
@@ -142,3 +161,7 @@ class Configuration:
     def line_of_rxsc(self, sci: bytes) -> int | None:
         """The number of the last line `rxsc` for a channel."""
         return self._line_of("rxsc", sci)
+
+    def line_of_validate(self) -> int | None:
+        """The number of the last line `validate`."""
+        return self._line_of("validate")

@@ -10,7 +10,7 @@ from .frames import SecTag, without_padding
 from .summary import ranges
 from .trial import Key
 
-_MOST_LINES = 8
+MOST_LINES = 8
 _DIGEST_OCTETS = 8
 
 
@@ -39,13 +39,15 @@ def _digest(frame: bytes, tag: SecTag) -> int:
 
 
 class _Use(NamedTuple):
-    """A frame that opened: its record and a digest of its octets, the name of the key, SCI and packet number."""
+    """A frame that opened: its record and a digest of its octets, the name of the key, SCI and packet number, and
+    whether it is encrypted."""
 
     record: int
     digest: int
     key: str
     sci: bytes
     pn: int
+    is_encrypted: bool
 
 
 class UsedTwice:
@@ -63,6 +65,16 @@ class UsedTwice:
     def records(self) -> list[int]:
         """The records, in order, each with other octets."""
         return sorted(it.record for it in self._uses.values())
+
+    @property
+    def is_encrypted(self) -> bool:
+        """Are two of the frames encrypted?"""
+        return sum(it.is_encrypted for it in self._uses.values()) > 1
+
+    @property
+    def is_of_one_sender(self) -> bool:
+        """Have all frames one SCI?"""
+        return len({it.sci for it in self._uses.values()}) == 1
 
     def as_dict(self) -> dict[str, object]:
         """The records, key and SCI by their names, and the packet number. Several names are joined by `and`."""
@@ -85,11 +97,13 @@ class UsedIvs:
     def __init__(self, most: int | None = None) -> None:
         self._most = most
         # The first frame of each key and IV. A capture can have millions, so both are single numbers: the key's number
-        # and the IV; and the record, the number of the key and SCI, and the digest.
+        # and the IV; and the record, whether the frame is encrypted, the number of the key and SCI, and the digest.
         self._first: dict[int, int] = {}
         self._keys: dict[bytes, int] = {}
         self._senders: dict[tuple[Key, bytes], int] = {}
         self._twice: dict[int, UsedTwice] = {}
+        # The IV of the last frame that was added, if it is used twice.
+        self.last: UsedTwice | None = None
 
     def add(
         self, record: int, key: Key, sci: bytes, ssci: int, pn: int, frame: bytes, tag: SecTag
@@ -101,20 +115,21 @@ class UsedIvs:
         place = self._keys.setdefault(key.octets, len(self._keys)) << 96 | iv
         sender = self._senders.setdefault((key, sci), len(self._senders))
         digest = _digest(frame, tag)
-        first = self._first.setdefault(place, record << 96 | sender << 64 | digest)
+        is_encrypted = bool(tag.tci & 8)
+        first = self._first.setdefault(place, record << 97 | is_encrypted << 96 | sender << 64 | digest)
         if self._most is not None and len(self._first) > self._most:
             del self._first[next(iter(self._first))]
-        found = self._twice.get(place)
+        found = self.last = self._twice.get(place)
         if found is None and first % 2**64 == digest:
             return None
         if found is None:
-            found = self._twice[place] = UsedTwice(self._use(first, iv))
-        return found, found.add(_Use(record, digest, key.name, sci, pn))
+            found = self.last = self._twice[place] = UsedTwice(self._use(first, iv))
+        return found, found.add(_Use(record, digest, key.name, sci, pn, is_encrypted))
 
     def _use(self, first: int, iv: int) -> _Use:
         """The first frame of an IV."""
         key, sci = list(self._senders)[first >> 64 & 0xFFFF_FFFF]
-        return _Use(first >> 96, first % 2**64, key.name, sci, _pn_of(key, iv))
+        return _Use(first >> 97, first % 2**64, key.name, sci, _pn_of(key, iv), bool(first >> 96 & 1))
 
     @property
     def twice(self) -> list[UsedTwice]:
@@ -123,13 +138,25 @@ class UsedIvs:
 
 
 def lines_of(found: Sequence[UsedTwice]) -> list[str]:
-    """A line for each IV that is used twice; many are summarized in the last line."""
-    more = found[_MOST_LINES:]
-    lines = [str(it) for it in found[:_MOST_LINES]]
-    if more:
-        records = sorted(record for it in more for record in it.records)
-        lines.append(f"IV USED TWICE: {len(more)} more, records {ranges(records)}")
-    return lines
+    """A line for each IV that is used twice; many are summarized in one more. The last line says what that means."""
+    lines = [str(it) for it in found[:MOST_LINES]]
+    more = more_of(found[MOST_LINES:])
+    return lines + more + ([lost_by(found)] if found else [])
+
+
+def more_of(found: Sequence[UsedTwice]) -> list[str]:
+    """A line for IVs that have none of their own."""
+    records = sorted(record for it in found for record in it.records)
+    return [f"IV USED TWICE: {len(found)} more, records {ranges(records)}"] if found else []
+
+
+def lost_by(found: Sequence[UsedTwice]) -> str:
+    """What is lost by IVs that are used twice, and what to do."""
+    xor = "reads the XOR of their data, and " if any(it.is_encrypted for it in found) else ""
+    why = "two senders have one SSCI"
+    if any(it.is_of_one_sender for it in found):
+        why = "a sender began again at a used packet number, or two senders have one SCI"
+    return f"  whoever has both frames {xor}can forge frames under the key. Stop using it: {why}"
 
 
 def dicts_of(found: Sequence[UsedTwice]) -> list[dict[str, object]]:

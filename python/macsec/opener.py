@@ -81,6 +81,9 @@ class Event(NamedTuple):
     an: int
     key: str
 
+    def __str__(self) -> str:
+        return f"record {self.record}: SCI {self.sci} AN {self.an} under {self.key}"
+
 
 def _shown_sci(sci: bytes, is_guess: bool) -> str:
     """An SCI; in parentheses if neither the tag nor the IV has it, so that it is a guess from the source address."""

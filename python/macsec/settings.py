@@ -54,15 +54,25 @@ class Setting(NamedTuple):
         return made
 
 
+# One way to change a setting: its name among the ways, and what it gives.
+Option = tuple[Change, dict[str, object]]
+
+
 class Found(NamedTuple):
-    """Changes under which a frame opens, and the setting. Without a setting, it was not opened."""
+    """Why a frame does not open. `setting` opens it, and `number` is its whole packet number then; without a setting it
+    was not opened. `missing` octets were cut off."""
 
     changes: tuple[Change, ...]
     setting: Setting | None = None
+    number: int | None = None
+    missing: int = 0
 
 
-# One way to change a setting: its name among the ways, and what it gives.
-Option = tuple[Change, dict[str, object]]
+def go_together(base: Setting, ways: Sequence[str]) -> bool:
+    """Can settings be changed in these ways together? Some are of extended suites alone, or of others."""
+    if "suite" in ways or "key" in ways:
+        return True
+    return not {"offset", "iv-sci"} & {*ways} if base.key.suite.is_extended else not {"upper", "ssci", "salt"} & {*ways}
 
 
 def changed(base: Setting, chosen: Sequence[Option]) -> Setting | None:

@@ -2,6 +2,7 @@
 
 from __future__ import annotations
 
+import itertools
 from typing import NamedTuple
 
 from .errors import MacsecError, UsageError
@@ -30,7 +31,8 @@ def own_sci(*others: bytes) -> bytes:
     >>> own_sci(bytes.fromhex("02ffffffffff0001")).hex()
     '02fffffffffe0001'
     """
-    return next(it for it in (*_OWN_SCIS, *(bytes([2, *[0] * 6, n]) for n in range(256))) if it not in others)
+    more = (bytes([2, *[0] * 6, n]) for n in range(256))
+    return next(it for it in itertools.chain(_OWN_SCIS, more) if it not in others)
 
 
 def whole_number(pn: int, next_number: int) -> int:
@@ -151,11 +153,12 @@ class Trials:
 
     def _trial(self, key: Key, sci: bytes, an: int, ssci: int) -> Trial:
         place = (key, sci, an, ssci == _LAST_SSCI)
-        if place not in self._kept:
-            if len(self._kept) >= self.MOST:
-                self.close()
-            self._kept[place] = Trial(key, sci, an, ssci)
-        return self._kept[place]
+        found = self._kept.pop(place, None) or Trial(key, sci, an, ssci)
+        # The last one is that which was used last.
+        self._kept[place] = found
+        if len(self._kept) > self.MOST:
+            self._kept.pop(next(iter(self._kept))).close()
+        return found
 
     def close(self) -> None:
         """Closes all of them."""

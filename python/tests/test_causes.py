@@ -1,5 +1,5 @@
-"""Fifty-three planted causes over captures of Linux 6.1 and wpa_supplicant, and over frames that the library makes:
-macsec-why has to name each one, and nothing else."""
+"""Planted causes over captures of Linux 6.1 and wpa_supplicant, and over frames that the library makes: macsec-why has to
+name each one, and nothing else."""
 
 from __future__ import annotations
 
@@ -93,6 +93,17 @@ def tagless(tci: int, sci: str) -> list[bytes]:
     return made
 
 
+def sealed(tci: int, conf: bool, length: int = 200) -> list[bytes]:
+    """Frames that are sealed as their bits say, or not."""
+    made = []
+    for number, frame in enumerate(ip_frames(6), 1):
+        data = frame[12:length]
+        head = frame[:12] + b"\x88\xe5" + bytes([tci, len(data) if len(data) < 48 else 0]) + number.to_bytes(4, "big")
+        head += bytes.fromhex(SENDER)
+        made.append(seal(head + data, len(head), key=KEYS[0], sci=SENDER, pn=number, conf=conf))
+    return made
+
+
 def xpn_frames(suite: Suite = Suite.xpn128, **how: object) -> list[bytes]:
     return protected(ip_frames(6), suite=suite, key=KEYS[0] if suite == Suite.xpn128 else KEYS[0] * 2, **how)
 
@@ -181,6 +192,11 @@ CAUSES = (
     Planted("no SCI, a wrong one in CONFIG", PLAIN.replace(FAR, OTHER), [], lambda _: tagless(0x0C, SENDER[:12] + "1234"), "sci"),
     Planted("ES, another SCI", PLAIN, [], lambda _: tagless(0x4C, FAR), "iv-sci"),
     Planted("ES, the SCI of another address", PLAIN.replace(FAR, OTHER), [], lambda _: tagless(0x4C, OTHER), "iv-sci"),
+    Planted("integrity alone, E and C", PLAIN.replace(FAR, SENDER), [], lambda _: sealed(0x2C, False), "bits"),
+    Planted("integrity alone, E and C, data of no packet", PLAIN.replace(FAR, SENDER), [],
+            lambda _: sealed(0x2C, False, 40), "bits"),
+    Planted("encrypted, E clear", PLAIN.replace(FAR, SENDER), [], lambda _: sealed(0x20, True), "bits"),
+    Planted("validate disabled", "linux", [("A replay off 0", "A validate disabled\nA replay off 0")], same, "mode"),
     Planted("SCB, another SCI", PLAIN.replace(FAR, SENDER[:12] + "0000"), [], lambda _: tagless(0x1C, FAR), "iv-sci"),
 )  # fmt: skip
 
@@ -220,8 +236,7 @@ class Causes(InFolder):
     @mock.patch("macsec.alternatives.WIDE", 0x2000)
     @NEEDS
     def test_all(self) -> None:
-        self.assertEqual(len(CAUSES), 53)
-        self.assertEqual(len({it.name for it in CAUSES}), 53)
+        self.assertEqual((len(CAUSES), len({it.name for it in CAUSES})), (57, 57))
         for it in CAUSES:
             with self.subTest(it.name):
                 status, names, notes = self.named(it)
@@ -232,6 +247,15 @@ class Causes(InFolder):
                     self.assertEqual((names, notes), (set(it.expected.split()), ""), it.name)
                 if it.name not in ("EtherType", "snapshot length"):
                     self.assertEqual(status, 3 if it.expected else 0, it.name)
+
+    def test_shorter_icvs(self) -> None:
+        """Octets that each frame lacks can be those of an ICV that is shorter, unless a frame is whole."""
+        whole, text = sealed(0x2C, True), PLAIN.replace(FAR, SENDER)
+        for count, more, expected in ((8, [], "icvlen 8,"), (4, [], "icvlen 12,"), (3, [], ""), (8, whole[5:], "")):
+            frames = [it[:-count] for it in whole[:5]] + more
+            told = main_of(main, self.put("CONFIG", text), self.put("IN", frames))[1]
+            self.assertIn(f"cut: {count} octets were cut off", told)
+            self.assertEqual(expected in told and "icvlen" in told, bool(expected), told)
 
 
 class Packets(unittest.TestCase):
@@ -246,7 +270,10 @@ class Packets(unittest.TestCase):
             (ipv6[:2] + b"\x40" + ipv6[3:], None), (ipv6[:8] + b"\xc8" + ipv6[9:], None), (ipv6[:30], None), (b"", None),
         ):  # fmt: skip
             found = packet_of(data)
-            self.assertEqual(found and found[1], length, data.hex())
+            self.assertEqual(found and found.octets, length, data.hex())
+        found = packet_of(ipv6)
+        # Its length is 16, without a checksum: one bit makes it of 0, and not of 8.
+        self.assertEqual([found.can_be_altered(it) for it in (8, 16)] if found else None, [False, True])
 
 
 if __name__ == "__main__":

@@ -176,7 +176,7 @@ class Cut(InFolder):
 
     def test_more_frames_than_are_kept_are_counted(self) -> None:
         path = self.put("IN", protected(client_frames(9), key=KEYS[1]))
-        with mock.patch.object(why, "_MOST_FRAMES", 4):
+        with mock.patch("macsec.explanation.MOST_FRAMES", 4):
             text = main_of(why.main, self.put("CONFIG", CONFIG), path)[1]
             told = main_of(why.main, self.put("CONFIG", CONFIG), path, "--json")[1].splitlines()
         self.assertIn(f"record 0-3 NotValid (4 frames), SCI {SENDER} AN 0:", text)

@@ -142,8 +142,10 @@ class Runs(Case):
             "key 0": self.why(link.receives(), frames), "key 1": self.decrypt(frames, *link.words()),
         }.items():  # fmt: skip
             self.assertEqual(status, 3)
-            line = out.splitlines()[0]
+            line, lost = out.splitlines()[:2]
             self.assertEqual(line, f"IV USED TWICE: records 1 and 3, {key}, SCI {SENDER}, PN 0x2")
+            self.assertIn("reads the XOR of their data, and can forge frames", lost)
+            self.assertIn("two senders have one SCI", lost)
             self.assertNotIn("rekey", out)
             self.assertNotIn(KEYS[0].hex(), out)
 
@@ -245,6 +247,14 @@ class Frames(Case):
             status, out = self.decrypt(frames, "--json", *Link(Suite.xpn128).words())
             rows = [([it, it + 2], "key 1", f"{SENDER} and {OTHER}", it + 1) for it in range(count)]
             self.assertEqual((status, self.used_twice(out)), (3 if count else 0, rows))
+            told = self.decrypt(frames, *Link(Suite.xpn128).words())[1]
+            self.assertEqual("Stop using it: two senders have one SSCI\n" in told, count > 0)
+
+    def test_what_is_lost_by_integrity_alone(self) -> None:
+        """Nothing is secret, but frames can be forged."""
+        frames = protected(client_frames(2), conf=False) + protected(client_frames(3)[2:], pn=2, conf=False)
+        told = self.decrypt(frames, *Link().words())[1]
+        self.assertIn("\n  whoever has both frames can forge frames under the key. Stop using it", told)
 
 
 class Rekeys(Case):
@@ -311,7 +321,7 @@ class Many(Case):
         lines = self.why(Link().receives(), frames)[1].splitlines()
         self.assertEqual(lines[7], f"IV USED TWICE: records 7 and 3007, key 0, SCI {SENDER}, PN 0x8")
         self.assertEqual(lines[8], "IV USED TWICE: 2992 more, records 8-2999, 3008-5999")
-        self.assertFalse(lines[9].startswith("IV"))
+        self.assertTrue(lines[9].startswith("  whoever has both frames"))
         self.assertEqual(lines_of([]), [])
 
 

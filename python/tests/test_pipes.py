@@ -91,6 +91,30 @@ class Pipes(InFolder):
         # Others use the machine too, so two frames may be late.
         self.assertLess(sorted(times)[-3], WITHIN)
 
+    def test_what_happens_is_said_at_once(self) -> None:
+        """The key of a sender, and an IV that is used twice with what that means; the counts at the end."""
+        frames = protected(client_frames(2)) + protected(client_frames(9)[8:], pn=2)
+        it = subprocess.Popen(command("decrypt", "-", "-", "--key", KEY), stdin=subprocess.PIPE, stdout=subprocess.DEVNULL,
+                              stderr=subprocess.PIPE)  # fmt: skip
+        self.addCleanup(it.communicate)
+        self.addCleanup(it.kill)
+        assert it.stdin is not None and it.stderr is not None
+        key, first = (
+            f"record 0: SCI {SENDER} AN 0 under key 1\n",
+            f"IV USED TWICE: records 1 and 2, key 1, SCI {SENDER}, PN 0x2\n",
+        )
+        written = capture.pcap_header()
+        for octets, expected in ((frames[0], key), (frames[1], ""), (frames[2], first)):
+            it.stdin.write(written + capture.pcap_record(0, octets))
+            it.stdin.flush()
+            written = b""
+            said = self.read_until(it.stderr.fileno(), 60, lambda text, e=expected: text.endswith(b"\n") or not e)  # type: ignore[misc]
+            self.assertTrue(said.decode().startswith(expected), said)
+        said += it.communicate()[1]
+        lost, counts = said.decode().splitlines()[1:]
+        self.assertEqual((counts, it.returncode), ("3 frames opened", 3))
+        self.assertIn("reads the XOR of their data, and can forge frames under the key. Stop using it", lost)
+
     @staticmethod
     def read_until(file: int, seconds: float, is_there: object) -> bytes:
         found, until = b"", time.monotonic() + seconds
@@ -220,36 +244,60 @@ class Extcap(InFolder):
                          ["--device", "--keys", "--config", "--wpa", "--cak-file", "--only-opened"])  # fmt: skip
         self.assertIn("value {arg=0}{value=lo}{display=lo}", options)
 
-    def test_capture(self) -> None:
-        """Frames are in the FIFO while they come; a signal ends it and what it started."""
-        (self.folder / "bin").mkdir()
-        script = self.folder / "bin/dumpcap"
-        script.write_text(f'#!/bin/sh\necho "$@" > {self.folder}/WORDS\ncat {CAPTURES}/link.pcap\nexec sleep 60\n')
-        script.chmod(0o755)
-        os.mkfifo(self.folder / "FIFO")
+    def started(self, script: str, *words: object) -> subprocess.Popen[str]:
+        """The extcap, as Wireshark calls it, with a script in place of dumpcap."""
+        (self.folder / "bin").mkdir(exist_ok=True)
+        dumpcap = self.folder / "bin/dumpcap"
+        dumpcap.write_text(f"#!/bin/sh\necho Capturing >&2\n{script}\n")
+        dumpcap.chmod(0o755)
+        fifo = self.folder / "FIFO"
+        fifo.unlink(missing_ok=True)
+        os.mkfifo(fifo)
+        called = [EXTCAP, "--capture", "--extcap-interface", "macsec", "--fifo", fifo, "--device", "eth7", *words]
         with environment(PATH=f"{self.folder}/bin:{os.path.dirname(sys.executable)}:/usr/bin:/bin"):
-            words = [
-                EXTCAP,
-                "--capture",
-                "--extcap-interface",
-                "macsec",
-                "--fifo",
-                self.folder / "FIFO",
-                "--device",
-                "eth7",
-            ]
-            words += ["--extcap-capture-filter", "ether", "--config", CAPTURES / "receiver.config", "--only-opened"]
-            it = subprocess.Popen([str(word) for word in words], stderr=subprocess.PIPE, text=True)
+            it = subprocess.Popen([str(word) for word in called], stderr=subprocess.PIPE, text=True)
         self.addCleanup(it.communicate)
         self.addCleanup(it.kill)
+        return it
+
+    def test_capture(self) -> None:
+        """Frames are in the FIFO while they come; a signal ends it and what it started, and it says nothing."""
+        script = f'echo "$@" > {self.folder}/WORDS\ncat {CAPTURES}/link.pcap\nexec sleep 60'
+        words = ("--extcap-capture-filter", "ether", "--config", CAPTURES / "receiver.config", "--only-opened")
+        it = self.started(script, *words)
         clients = [one.frame for one in capture.read(str(CAPTURES / "client.pcap"))]
         with open(self.folder / "FIFO", "rb") as fifo:
             packets = capture.read(fifo)
             self.assertEqual([next(packets).frame for _ in clients], clients)
             it.send_signal(signal.SIGTERM)
             self.assertEqual(list(packets), [])
-        self.assertEqual(it.wait(120), 0)
+        self.assertEqual((it.communicate(timeout=120)[1], it.returncode), ("", 0))
         self.assertEqual((self.folder / "WORDS").read_text(), "-q -i eth7 -w - -f ether\n")
+
+    def test_what_both_say_is_printed_if_one_fails(self) -> None:
+        frames, good = f"cat {CAPTURES}/link.pcap", CAPTURES / "receiver.config"
+        for script, config, said in (
+            (frames, good, ()),
+            (f"{frames}; {frames}", good, ("Capturing", "macsec-decrypt: -: ")),
+            ("echo no device >&2; exit 1", good, ("no device", "macsec-decrypt: -: ")),
+            (f"{frames}; echo it is gone >&2; exit 1", good, ("under key 0", "it is gone")),
+            (frames, self.put("CONFIG", "none"), ("Capturing", "macsec-decrypt: ")),
+        ):
+            with self.subTest(script):
+                it = self.started(script, "--config", config)
+                (self.folder / "FIFO").read_bytes()
+                error = it.communicate(timeout=120)[1]
+                self.assertEqual((it.returncode, bool(error)), (int(bool(said)), bool(said)), error)
+                for each in said:
+                    self.assertIn(each, error)
+
+    def test_wireshark_closes_the_fifo(self) -> None:
+        link = CAPTURES / "link.pcap"
+        script = f"cat {link}; while sleep 0.1; do tail -c +25 {link} || exit; done"
+        it = self.started(script, "--config", CAPTURES / "receiver.config")
+        with open(self.folder / "FIFO", "rb") as fifo:
+            self.assertTrue(fifo.read(8))
+        self.assertEqual((it.communicate(timeout=120)[1], it.returncode), ("", 0))
 
     def test_faults(self) -> None:
         for words, text in (

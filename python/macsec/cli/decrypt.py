@@ -8,13 +8,15 @@ import json
 import sys
 from collections import Counter
 from collections.abc import Sequence
+from typing import Callable
 
 from .. import capture
 from ..config_keys import keys_of_config
 from ..errors import UsageError
 from ..grammar import MOST_OCTETS
-from ..ivs import UsedIvs, dicts_of
+from ..ivs import MOST_LINES, UsedIvs, UsedTwice, dicts_of
 from ..ivs import lines_of as lines_of_ivs
+from ..ivs import lost_by, more_of
 from ..names import Suite
 from ..opener import Opener
 from ..summary import frames_text
@@ -134,9 +136,7 @@ def _decrypt(asked: argparse.Namespace) -> int:
         lines = [*map(json.dumps, dicts_of(twice)), *(json.dumps({"sak": it.as_dict()}) for it in made.saks)]
         lines += [*made.records, *(json.dumps({"hint": " ".join(it.split())}) for it in made.hints)]
     else:
-        lines = lines_of_ivs(twice)
-        lines += [str(it) for it in made.saks]
-        lines += [f"record {it.record}: SCI {it.sci} AN {it.an} under {it.key}" for it in made.events]
+        lines = made.live.rest(twice) if made.live else [*lines_of_ivs(twice), *map(str, (*made.saks, *made.events))]
         counts = made.counts.items()
         lines.append("; ".join(f"{frames_text(count)} {state}" for state, count in counts) or "0 frames")
         lines += [f"hint: {it}" for it in made.hints]
@@ -159,6 +159,7 @@ class _Made:
         # Where the text goes: standard output has the frames if that is OUT.
         self.text = sys.stderr if asked.out == STDOUT else sys.stdout
         self._asked = asked
+        self.live = _Live(self._say_at_once) if asked.capture == STDIN and not asked.json else None
         opener = Opener(keys, Suite[asked.suite] if asked.suite else None, asked.offset, ivs, caks_of(asked))
         # The input is opened first, so that a wrong name leaves no file.
         with Reading("macsec-decrypt", asked.capture) as reading:
@@ -189,14 +190,55 @@ class _Made:
             self._note(json.dumps({"record": packet.number, **about, "length": len(it.frame)}))
         if it.state == "opened" or not self._asked.only_opened:
             self.out.write(packet.time, it.frame, len(it.frame), it.comment)
+        if self.live:
+            self.live.add(opener)
 
     def _note(self, line: str) -> None:
         """Keeps a line of the text for the end; prints it at once if the input has no end yet."""
         if self._asked.capture == STDIN:
-            say(f"{line}\n", self.text)
-            self.text.flush()
+            self._say_at_once(line)
         else:
             self.records.append(line)
+
+    def _say_at_once(self, line: str) -> None:
+        say(f"{line}\n", self.text)
+        self.text.flush()
+
+
+class _Live:
+    """What is said about an input without an end as soon as it happens: SAKs, keys, and IVs that are used twice."""
+
+    def __init__(self, say_at_once: Callable[[str], None]) -> None:
+        self._say = say_at_once
+        self._saks = self._events = 0
+        # Each IV that was named, and how; and how many of each key and sender.
+        self._named: dict[UsedTwice, str] = {}
+        self._counts: Counter[tuple[object, object]] = collections.Counter()
+        self._lost = ""
+
+    def add(self, opener: Opener) -> None:
+        """Says what the last frame brought."""
+        saks, events = opener.agreements.saks, opener.events
+        for line in (*saks[self._saks :], *events[self._events :]):
+            self._say(str(line))
+        self._saks, self._events = len(saks), len(events)
+        twice = opener.ivs.last
+        if twice is None or twice in self._named:
+            return
+        of = twice.as_dict()
+        self._counts[of["key"], of["sci"]] += 1
+        if self._counts[of["key"], of["sci"]] > MOST_LINES:
+            return
+        self._named[twice] = str(twice)
+        self._say(str(twice))
+        if lost_by([twice]) != self._lost:
+            self._lost = lost_by([twice])
+            self._say(self._lost)
+
+    def rest(self, twice: Sequence[UsedTwice]) -> list[str]:
+        """What remains to be said of the IVs at the end."""
+        again = [str(it) for it, line in self._named.items() if str(it) != line]
+        return again + more_of([it for it in twice if it not in self._named])
 
 
 def _new_file(path: str) -> capture.PcapngWriter:

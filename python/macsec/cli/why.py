@@ -7,68 +7,28 @@ import collections
 import json
 import sys
 from collections.abc import Iterable, Sequence
-from typing import Counter, NamedTuple, Optional
 
 from .. import capture
+from ..alternatives import names_nobody
 from ..cak import Cak, KeyAgreements
 from ..causes import Search
 from ..endpoint_of_config import Configuration
 from ..errors import FrameFault, UsageError
-from ..frames import SecTag, ethertype, read_tag, without_vlan
+from ..explanation import Explanation, Seen, Unopened
+from ..frames import SecTag, ethertype, read_tag, sender_of, without_vlan
 from ..grammar import MOST_OCTETS
 from ..ivs import UsedIvs, UsedTwice, dicts_of, lines_of
 from ..names import Verdict
 from ..secy import Received
-from ..settings import Change, Found, Setting
-from ..summary import Summary, frames_text, ranges
-from ..trial import OPENED, key_argument, whole_number
+from ..settings import Setting
+from ..summary import Summary, ranges
+from ..trial import key_argument, whole_number
 from . import new_parser, run, say
 from .decrypt import keys_of_file
 from .key_agreement import add_cak_options, caks_of
 from .reading import Reading
 
 _DELIVERED_AS_SENT = (Verdict.OK, Verdict.Delayed)
-# How many frames of a kind, and of all kinds, other settings are searched for; and how many of a kind are kept.
-_MOST_SEARCHES, _MOST_SEARCHES_OF_ALL, _MOST_FRAMES = 4, 100, 20_000
-# A verdict, and an SCI with an association number or an EtherType.
-_Kind = tuple[Verdict, str, Optional[int]]
-
-
-class Seen(NamedTuple):
-    """A frame that was not opened: its record, and its octets."""
-
-    record: int
-    frame: bytes
-
-
-class Group(NamedTuple):
-    """Frames of one kind with the same explanation. `changes` are empty if nothing that was tried explains them."""
-
-    verdict: Verdict
-    sender: str
-    an: int | None
-    records: list[int]
-    changes: tuple[Change, ...]
-    note: str = ""
-    more: int = 0  # frames that nobody looked at, in place of records
-
-    def as_dict(self) -> dict[str, object]:
-        causes = [{key: value for key, value in it._asdict().items() if value is not None} for it in self.changes]
-        named: dict[str, object] = {"sci": self.sender, "an": self.an}
-        if self.an is None:
-            named = {"ethertype": self.sender}
-        note = {"note": self.note} if self.note else {}
-        more = {"more": self.more} if self.more else {}
-        return {"verdict": self.verdict.name, **named, "records": self.records, "causes": causes, **note, **more}
-
-    def lines(self) -> list[str]:
-        of = f"EtherType {self.sender}" if self.an is None else f"SCI {self.sender} AN {self.an}"
-        found = [f"record {ranges(self.records)} {self.verdict.name} ({frames_text(len(self.records))}), {of}:"]
-        if self.more:
-            found = [f"{self.more} more frames {self.verdict.name}, {of}:"]
-        for each in self.changes:
-            found.append(f"  {each.cause}: " + (f"line {each.line}: " if each.line else "") + each.text)
-        return found + ([f"  {self.note}"] if self.note else [])
 
 
 class Ivs:
@@ -126,13 +86,8 @@ class Run:
     ) -> None:
         self.summary = Summary()
         self.agreements = KeyAgreements(caks)
-        # The record of each frame that was accepted, by a hash of its octets.
-        self.accepted: dict[int, int] = {}
         self.ivs = Ivs(configuration, search, only)
-        self.unopened: dict[_Kind, list[Seen]] = {}
-        # How many more frames of a kind there are than are kept.
-        self.more: Counter[_Kind] = collections.Counter()
-        self.first_opened: dict[tuple[str, int | None], int] = {}
+        self.unopened = Unopened()
         self.others: dict[str, list[int]] = collections.defaultdict(list)
         # Is there a record that may have a protected frame, and that the endpoint does not see?
         self.has_unseen = False
@@ -140,7 +95,7 @@ class Run:
         self.only_verdict = ""
         for packet in packets:
             self._show(search, packet)
-            verdict = self._add(configuration, packet, only)
+            verdict = self._add(configuration, search, packet, only)
             if packet.number == only:
                 self.only, self.only_verdict = packet, verdict
                 break
@@ -162,7 +117,7 @@ class Run:
             for sci in self.agreements.scis:
                 search.shown.add_sci(sci)
 
-    def _add(self, configuration: Configuration, packet: capture.Packet, only: int | None) -> str:
+    def _add(self, configuration: Configuration, search: Search, packet: capture.Packet, only: int | None) -> str:
         """Gives a record to the endpoint."""
         if not packet.is_whole:
             name = "partial" if packet.link_type == capture.ETHERNET else f"linktype {packet.link_type}"
@@ -179,112 +134,26 @@ class Run:
             self.ivs.add_received(packet.number, packet.frame, received)
         of = self.summary.add(packet.number, packet.frame, verdict.name)
         if verdict in _DELIVERED_AS_SENT:
-            self.first_opened.setdefault(of, packet.number)
-            self.accepted.setdefault(hash(packet.frame), packet.number)
+            self.unopened.add_opened(of, packet.number, packet.frame)
+            search.note_opened(packet.frame)
         elif only is None or only == packet.number:
-            kept = self.unopened.setdefault((verdict, *of), [])
-            if len(kept) < _MOST_FRAMES:
-                kept.append(Seen(packet.number, packet.frame))
-            else:
-                self.more[(verdict, *of)] += 1
+            self.unopened.add((verdict, *of), Seen(packet.number, packet.frame, _expected(configuration, packet.frame)))
         return verdict.name
 
 
-def _opened_by(setting: Setting, seen: Sequence[Seen], ivs: Ivs) -> list[int]:
-    """The records of the frames that open under a setting, one after another. Their IVs are noted."""
-    trial = setting.trial()
-    of_iv = setting if setting.iv_sci is None else setting._replace(sci=setting.iv_sci)
-    found = []
-    for each in seen:
-        plain, _ = without_vlan(each.frame)
-        octets = setting.octets(plain)
-        tag = read_tag(octets)
-        if tag is not None and len(octets) >= 14 and trial.receive(octets).verdict in OPENED:
-            found.append(each.record)
-            ivs.add(each.record, of_iv, trial.packet_number(tag.pn), octets, tag)
-    trial.close()
-    return found
-
-
-def _note_of(run_: Run, search: Search, kind: _Kind, seen: Seen) -> str:
-    """What is known of a frame for which no change was found, and what was tried."""
-    verdict, sender, an = kind
-    if an is None:
-        return f"the frame has no SecTAG: EtherType {ethertype(seen.frame)}"
-    if verdict == Verdict.BadTag:
-        return "its SecTAG is malformed, or the frame is shorter than the tag says"
-    if verdict == Verdict.Reserved:
-        return "E is set and C is clear: not a data frame"
-    first = run_.first_opened.get((sender, an))
-    tried = search.tried(seen.frame)
-    after = f" ({tried})" if tried else ""
-    if first is not None and verdict in (Verdict.NotValid, Verdict.Invalid):
-        return (
-            f"no change that was tried opens it; others of the association open (record {first}): altered, or under a "
-            f"key that is not given{after}"
-        )
-    return f"no change that was tried opens it: another key or salt, or altered; give more keys by --key{after}"
-
-
-def _with_rekey(run_: Run, kind: _Kind, found: Found, record: int, frame: bytes) -> tuple[Change, ...]:
-    """The changes; a key that follows another one of the same association is a rekey."""
-    first = run_.first_opened.get((kind[1], kind[2]))
-    changes = tuple(
-        it._replace(cause="rekey", text=f"from here on {it.text}: macsec-decrypt follows rekeys")
-        if it.cause == "key" and first is not None and first < record else it for it in found.changes
-    )  # fmt: skip
-    if changes or found.setting is None:
-        return changes
-    earlier = run_.accepted.get(hash(frame))
-    if earlier is not None and earlier < record:
-        return (Change("replay", f"it repeats record {earlier}, from before the upper half of the numbers changed"),)
-    return (Change("order", "it opens as the first frame: its packet number is far from those that were accepted"),)
-
-
-class Explanation:
-    """The causes of all verdicts that are not OK."""
-
-    def __init__(self, run_: Run, search: Search) -> None:
-        self.groups: list[Group] = []
-        self._run, self._search, self._searches = run_, search, 0
-        for kind, seen in run_.unopened.items():
-            self._explain(kind, seen)
-            if run_.more[kind]:
-                note = f"the first {_MOST_FRAMES} were looked at"
-                self.groups.append(Group(*kind, [], (), note, run_.more[kind]))
-
-    def _explain(self, kind: _Kind, seen: list[Seen]) -> None:
-        """Explains the frames of a kind: those that one setting opens together."""
-        left = list(seen)
-        unexplained: list[Seen] = []
-        while left and len(unexplained) < _MOST_SEARCHES and self._searches < _MOST_SEARCHES_OF_ALL:
-            first = left[0]
-            self._searches += 1
-            found = self._search.of(first.frame, kind[0])
-            if found is None:
-                unexplained.append(left.pop(0))
-                continue
-            records = self._records(found, left, kind[0])
-            self.groups.append(Group(*kind, records, _with_rekey(self._run, kind, found, *first)))
-            chosen = set(records)
-            left = [it for it in left if it.record not in chosen]
-        if unexplained or left:
-            note = _note_of(self._run, self._search, kind, (unexplained + left)[0])
-            self.groups.append(Group(*kind, [it.record for it in unexplained + left], (), note))
-
-    def _records(self, found: Found, left: list[Seen], verdict: Verdict) -> list[int]:
-        """The records of the first frame, and of those that have the same cause."""
-        if found.setting is not None:
-            return sorted({left[0].record, *_opened_by(found.setting, left, self._run.ivs)})
-        return [left[0].record, *(it.record for it in left[1:] if _is_same(self._search, found, it, verdict))]
-
-
-def _is_same(search: Search, found: Found, seen: Seen, verdict: Verdict) -> bool:
-    """Has another frame the same cause? What no setting opened is compared by its kind alone."""
-    if any(it.cause in ("vlan", "replay") for it in found.changes):
-        other = search.of(seen.frame, verdict)
-        return other is not None and [it.cause for it in other.changes] == [it.cause for it in found.changes]
-    return True
+def _expected(configuration: Configuration, frame: bytes) -> int | None:
+    """The whole packet number that the association of a frame expects, or another one of its sender, if they have
+    extended ones."""
+    plain, _ = without_vlan(frame)
+    tag = read_tag(plain)
+    if tag is None or not configuration.is_extended:
+        return None
+    channels = configuration.channels()
+    sci = channels[0] if names_nobody(tag) and channels else sender_of(plain, tag)
+    for an in (tag.an, *range(4)) if sci in channels else ():
+        if configuration.rx_sa(sci, an):
+            return configuration.secy.rx_sa(sci, an).next
+    return None
 
 
 def _record_lines(packet: capture.Packet, verdict: str) -> list[str]:
@@ -345,12 +214,13 @@ def _why(asked: argparse.Namespace) -> int:
             search.add_key(key, f"key {place} of {path}")
     with Reading("macsec-why", asked.capture) as reading:
         made = Run(configuration, search, reading, asked.record, caks_of(asked))
-        groups = Explanation(made, search).groups
-    search.trials.close()
+        groups = Explanation(made.unopened, search, made.ivs.add).groups
+    search.close()
     made.summary.note_keys(made.ivs.keys)
     twice = made.ivs.twice
     if asked.json:
-        objects = [*dicts_of(twice), *({"refused": it._asdict()} for it in configuration.refusals)]
+        objects: list[dict[str, object]] = [*dicts_of(twice)]
+        objects += [{"refused": it._asdict()} for it in configuration.refusals]
         objects += [] if asked.record is not None else made.summary.as_dicts()
         objects += [{"not seen": name, "records": records} for name, records in made.others.items()]
         objects += [{"unopened": it.as_dict()} for it in groups]
