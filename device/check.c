@@ -389,12 +389,8 @@ static void check_journal(struct check *c) {
         fault(c, 0, "the journal %s belongs to another user than its folder, so macsecd can't write it: chown", path);
     else if ((wrong = journals_fault(path)) != NULL)
         fault(c, 0, "the journal %s %s", path, wrong);
-    else {
-        if ((about.st_mode & 022) != 0)
-            hint(c, 0, "others may write the journal %s, and make macsecd repeat packet numbers: chmod 600", path);
-        if (journals_check_keys(&c->config, c->name) != 0)
-            c->faults++; /* it has said why */
-    }
+    else if (journals_check_keys(&c->config, c->name) != 0)
+        c->faults++; /* it has said why */
 }
 
 /* ---- The whole ---- */

@@ -433,6 +433,7 @@ struct saver;
 /* What became of an order. */
 struct saved {
     bool good;
+    bool cut;        /* has another program changed the length of the file? */
     int step, error; /* as in struct journal_fault */
     uint32_t status;
     double seconds;
@@ -442,13 +443,13 @@ struct saved {
 int saver_open(struct saver **s, struct journal *journal);
 /* Starts the thread. Without it, orders are carried out at once. Returns 0, or the exit status after a message. */
 int saver_start(struct saver *s);
-/* A descriptor that can be read when an order was carried out. */
+/* A descriptor that can be read when an order was carried out, or another program has cut the file. */
 int saver_file(const struct saver *s);
 /* Is an order under way? */
 bool saver_is_busy(const struct saver *s);
 /* Orders that octets be appended to the journal, or be the whole journal. They stay as they are until it is done. */
 void saver_order(struct saver *s, const uint8_t *octets, size_t length, bool whole);
-/* Has the order been carried out? Then the saver has none any more. */
+/* Has the order been carried out? Then the saver has none any more. Of `saved`, `cut` is filled in always. */
 bool saver_is_done(struct saver *s, struct saved *saved);
 /* Waits until then, at most so long. */
 void saver_wait(struct saver *s, int milliseconds);
@@ -530,7 +531,12 @@ int journals_check_disk(const char *name, bool creates);
 /* Compares the keys under which this NAME sends with the other journals of the host, in the same folder and in those
  * beside one that has the name of the device. Returns 0, or the exit status after a message. */
 int journals_check_keys(const struct config *c, const char *name);
-/* Why macsecd does not start with the journal that is there; or NULL, also if it can't be read. Nothing is locked. */
+/* Locks the folders of these journals, so that no other NAME compares until the first records of this one are on the
+ * disk, and unlocks them. The first call waits for other starts; it returns 0, or the exit status after a message. */
+int journals_lock(const char *name);
+void journals_unlock(void);
+/* Why macsecd does not start with the journal that is there; or NULL, also if it can't be read. Nothing is locked. The
+ * text is valid until the next call. */
 const char *journals_fault(const char *path);
 
 /* ---- keys.c: the keys that an endpoint has, for one that takes over from it ---- */

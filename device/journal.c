@@ -16,10 +16,20 @@
 /* How often another process may put a new file in place between opening and locking. */
 #define OPEN_ATTEMPTS 8
 
+/* Octets of a sector, which a crash can damage as a whole while a part of it is written. */
+enum { SECTOR = JOURNAL_FILL / 2 };
+
+/* Where a record has its packet number. */
+enum { NUMBER_AT = 32 };
+
+/* What a mark has there: no packet number, and a text in place of the check. */
+static const uint8_t mark_end[MACSEC_RECORD_LENGTH - NUMBER_AT + 1] = "\0\0\0\0\0\0\0\0macsec journal: given up";
+
 static int failed(struct journal_fault *fault, enum journal_step step, int error) {
     fault->step = step;
     fault->error = error;
     fault->status = MACSEC_OK;
+    fault->record = 0;
     return -1;
 }
 
@@ -126,6 +136,30 @@ static int check_named(const struct journal *journal, struct journal_fault *faul
     return 0;
 }
 
+/* Sees that the file has as many octets as this process has written. */
+static int check_length(const struct journal *journal, size_t length, struct journal_fault *fault) {
+    struct stat status;
+    if (fstat(journal->file, &status) != 0)
+        return failed(fault, JOURNAL_STATUS, errno);
+    return (uintmax_t)status.st_size == length ? 0 : failed(fault, JOURNAL_LENGTH, ESTALE);
+}
+
+int journal_check_owner(const struct stat *file, const struct stat *folder) {
+    if ((file->st_mode & (S_IRWXG | S_IRWXO)) != 0)
+        return EACCES;
+    return file->st_uid == geteuid() || file->st_uid == folder->st_uid ? 0 : EPERM;
+}
+
+/* Refuses a file that is not its owner's alone. */
+static int check_owner(const struct journal *journal, struct journal_fault *fault) {
+    struct stat file, folder;
+    int error;
+    if (fstat(journal->file, &file) != 0 || fstat(journal->folder, &folder) != 0)
+        return failed(fault, JOURNAL_STATUS, errno);
+    error = journal_check_owner(&file, &folder);
+    return error != 0 ? failed(fault, JOURNAL_OWNER, error) : 0;
+}
+
 /* Notes which file it is, and returns its length. */
 static int note_file(struct journal *journal, off_t *length, struct journal_fault *fault) {
     struct stat status;
@@ -139,6 +173,42 @@ static int note_file(struct journal *journal, off_t *length, struct journal_faul
     journal->inode = status.st_ino;
     *length = status.st_size;
     return 0;
+}
+
+/* ---- Damage ---- */
+
+bool journal_is_mark(const uint8_t *octets) {
+    return memcmp(octets + NUMBER_AT, mark_end, MACSEC_RECORD_LENGTH - NUMBER_AT) == 0;
+}
+
+void journal_make_mark(const uint8_t *name, uint8_t *octets) {
+    memcpy(octets, name, NUMBER_AT);
+    memcpy(octets + NUMBER_AT, mark_end, MACSEC_RECORD_LENGTH - NUMBER_AT);
+}
+
+/* Are these octets a record or a mark? The library tests the check of a record: it leaves a valid one in a journal. */
+static uint32_t test_record(const uint8_t *header, const uint8_t *octets, bool *is_good) {
+    uint8_t journal[2 * MACSEC_RECORD_LENGTH], left[sizeof journal];
+    size_t length = 0;
+    uint32_t status;
+    memcpy(journal, header, MACSEC_RECORD_LENGTH);
+    memcpy(journal + MACSEC_RECORD_LENGTH, octets, MACSEC_RECORD_LENGTH);
+    status = macsec_journal_compacted(journal, sizeof journal, left, &length);
+    *is_good = length == sizeof journal || journal_is_mark(octets);
+    return status;
+}
+
+uint32_t journal_find_damage(const uint8_t *octets, size_t length, size_t *record) {
+    const size_t end = length == 0 ? 0 : (length - 1) / SECTOR * SECTOR; /* the rest was written last */
+    uint32_t status = MACSEC_OK;
+    *record = 0;
+    for (size_t at = 1; at * MACSEC_RECORD_LENGTH < end && status == MACSEC_OK && *record == 0; at++) {
+        bool is_good;
+        status = test_record(octets, octets + at * MACSEC_RECORD_LENGTH, &is_good);
+        if (status == MACSEC_OK && !is_good)
+            *record = at;
+    }
+    return status;
 }
 
 /* ---- New files ---- */
@@ -200,7 +270,7 @@ static int open_and_lock(struct journal *journal, off_t *length, struct journal_
     journal->file = open_in(journal->folder, journal->name, O_NONBLOCK, 0);
     if (journal->file < 0)
         return failed(fault, JOURNAL_OPEN, errno);
-    if (note_file(journal, length, fault) != 0)
+    if (note_file(journal, length, fault) != 0 || check_owner(journal, fault) != 0)
         return -1;
     if (flock(journal->file, LOCK_EX | LOCK_NB) != 0)
         return failed(fault, JOURNAL_LOCK, errno);
@@ -218,6 +288,19 @@ static int open_named(struct journal *journal, off_t *length, struct journal_fau
         result = open_and_lock(journal, length, fault);
     }
     return result == 0 ? sync_folder(journal, fault) : -1;
+}
+
+/* Refuses a file that has other octets among its records. The header is tested when the endpoint is made. */
+static int check_records(const struct journal *journal, size_t length, struct journal_fault *fault) {
+    size_t record;
+    uint32_t status = journal_find_damage(journal->octets, length, &record);
+    if (status == MACSEC_E_MEMORY)
+        return failed_in_library(fault, status);
+    if (record == 0)
+        return 0;
+    failed(fault, JOURNAL_RECORD, EBADMSG);
+    fault->record = record;
+    return -1;
 }
 
 /* Reads the whole records of a file with so many octets. */
@@ -239,7 +322,9 @@ static int read_records(struct journal *journal, off_t length, size_t limit, str
     /* All pages come now, and not one after another as the file fills. */
     memset(journal->octets, 0, journal->room);
     memset(journal->spare, 0, journal->room);
-    return read_all(journal->file, journal->octets, journal->length) != 0 ? failed(fault, JOURNAL_READ, errno) : 0;
+    if (read_all(journal->file, journal->octets, journal->length) != 0)
+        return failed(fault, JOURNAL_READ, errno);
+    return check_records(journal, (size_t)length, fault);
 }
 
 int journal_open(struct journal *journal, const char *path, size_t limit, struct journal_fault *fault) {
@@ -267,7 +352,7 @@ void journal_close(struct journal *journal) {
 
 /* ---- Rewriting ---- */
 
-int journal_make_room(struct journal *journal, size_t length, struct journal_fault *fault) {
+static int grow(struct journal *journal, size_t length, struct journal_fault *fault) {
     uint8_t *grown;
     if (length <= journal->room)
         return 0;
@@ -285,6 +370,13 @@ int journal_make_room(struct journal *journal, size_t length, struct journal_fau
     return 0;
 }
 
+int journal_make_room(struct journal *journal, size_t length, struct journal_fault *fault) {
+    size_t room = 2 * (length + JOURNAL_FILL);
+    if (2 * length > JOURNAL_MAX)
+        return failed(fault, JOURNAL_LENGTH, EFBIG);
+    return grow(journal, room < JOURNAL_MAX ? room : JOURNAL_MAX, fault);
+}
+
 /* Goes on with the file that has taken the place of the old one. */
 static int take_new_file(struct journal *journal, int file, size_t length, struct journal_fault *fault) {
     uint8_t *octets = journal->spare;
@@ -298,9 +390,19 @@ static int take_new_file(struct journal *journal, int file, size_t length, struc
     return note_file(journal, &written, fault);
 }
 
-/* Puts a new file with so many octets of `spare` in the place of the journal. */
+/* Fills octets up to a length with copies of the last record. */
+static size_t fill(uint8_t *octets, size_t length, size_t filled) {
+    for (; length < filled; length += MACSEC_RECORD_LENGTH)
+        memcpy(octets + length, octets + length - MACSEC_RECORD_LENGTH, MACSEC_RECORD_LENGTH);
+    return length;
+}
+
+/* Puts a new file with so many octets of `spare` in the place of the journal. It ends with a sector of copies: damage
+ * of the last sector is not found, since a crash leaves the same. */
 static int put_spare(struct journal *journal, size_t length, struct journal_fault *fault) {
     int file;
+    if (length > MACSEC_RECORD_LENGTH)
+        length = fill(journal->spare, length, (length + SECTOR - 1) / SECTOR * SECTOR + SECTOR);
     if (check_named(journal, fault) != 0)
         return -1;
     /* This process holds the lock, so a file of this name is left over. */
@@ -319,12 +421,12 @@ int journal_rewrite(struct journal *journal, struct journal_fault *fault) {
     journal->in_doubt = true;
     if (status != MACSEC_OK)
         return failed_in_library(fault, status);
-    return journal_make_room(journal, 2 * length, fault) != 0 ? -1 : put_spare(journal, length, fault);
+    return journal_make_room(journal, length, fault) != 0 ? -1 : put_spare(journal, length, fault);
 }
 
 int journal_replace(struct journal *journal, const uint8_t *octets, size_t length, struct journal_fault *fault) {
     journal->in_doubt = true;
-    if (length > journal->room)
+    if (length + JOURNAL_FILL > journal->room)
         return failed(fault, JOURNAL_LENGTH, EFBIG);
     memcpy(journal->spare, octets, length);
     return put_spare(journal, length, fault);
@@ -374,25 +476,50 @@ static bool has_record(const struct journal *journal, const macsec_record *recor
     return false;
 }
 
-int journal_append_all(struct journal *journal, const uint8_t *records, size_t length, struct journal_fault *fault) {
-    if ((journal->in_doubt || journal->length + length > journal->room) && journal_rewrite(journal, fault) != 0)
-        return -1;
-    if (journal_make_room(journal, journal->length + length, fault) != 0)
-        return -1;
+/* Writes records with all others into a new file. */
+static int append_in_new_file(struct journal *journal, const uint8_t *records, size_t length,
+                              struct journal_fault *fault) {
     journal->in_doubt = true;
-    if (write_all(journal->file, records, length, (off_t)journal->length) != 0)
+    memcpy(journal->spare, journal->octets, journal->length);
+    memcpy(journal->spare + journal->length, records, length);
+    return put_spare(journal, journal->length + length, fault);
+}
+
+/* Writes records into a sector of their own at the end of the file. */
+static int append_sector(struct journal *journal, const uint8_t *records, size_t length, struct journal_fault *fault) {
+    uint8_t *sector = journal->octets + journal->length;
+    journal->in_doubt = true;
+    if (check_length(journal, journal->length, fault) != 0)
+        return -1;
+    memcpy(sector, records, length);
+    (void)fill(sector, length, SECTOR);
+    if (write_all(journal->file, sector, SECTOR, (off_t)journal->length) != 0)
         return failed(fault, JOURNAL_WRITE, errno);
     if (fdatasync(journal->file) != 0)
         return failed(fault, JOURNAL_SYNC, errno);
-    if (check_named(journal, fault) != 0)
+    if (check_named(journal, fault) != 0 || check_length(journal, journal->length + SECTOR, fault) != 0)
         return -1;
-    memcpy(journal->octets + journal->length, records, length);
-    journal->length += length;
+    journal->length += SECTOR;
     journal->in_doubt = false;
     return 0;
 }
 
+int journal_append_all(struct journal *journal, const uint8_t *records, size_t length, struct journal_fault *fault) {
+    size_t more = length <= SECTOR ? SECTOR : length + JOURNAL_FILL;
+    if ((journal->in_doubt || journal->length + more > journal->room) && journal_rewrite(journal, fault) != 0)
+        return -1;
+    if (journal->length % SECTOR != 0) /* a header alone */
+        more = length + JOURNAL_FILL;
+    if (grow(journal, journal->length + more, fault) != 0)
+        return -1;
+    return more == SECTOR ? append_sector(journal, records, length, fault)
+                          : append_in_new_file(journal, records, length, fault);
+}
+
 int journal_append(struct journal *journal, const macsec_record *record, struct journal_fault *fault) {
+    struct journal_fault cut;
+    if (!journal->in_doubt && check_length(journal, journal->length, &cut) != 0)
+        journal->in_doubt = true; /* so it is written again */
     if (!journal->in_doubt && has_record(journal, record))
         return 0;
     return journal_append_all(journal, record->octets, MACSEC_RECORD_LENGTH, fault);
@@ -472,6 +599,8 @@ const char *journal_step_name(enum journal_step step) {
         return "status";
     case JOURNAL_KIND:
         return "kind";
+    case JOURNAL_OWNER:
+        return "owner";
     case JOURNAL_NAMED:
         return "named";
     case JOURNAL_LENGTH:
@@ -480,6 +609,8 @@ const char *journal_step_name(enum journal_step step) {
         return "memory";
     case JOURNAL_READ:
         return "read";
+    case JOURNAL_RECORD:
+        return "record";
     case JOURNAL_WRITE:
         return "write";
     case JOURNAL_SYNC:

@@ -42,22 +42,36 @@
  *            that it has reserved, and then drops its frames (MACSEC_FATE_NO_RESERVATION). With `ahead` it also
  *            receives with those that it has reserved, and then drops frames (MACSEC_VERDICT_NO_RESERVATION). After a
  *            failure, wait a second before the next call.
- * TORN TAIL  Records are at multiples of 64 octets. The next record overwrites what an interrupted write left.
+ * DAMAGE     Records are at multiples of 64 octets. What is appended together begins at a multiple of 512 octets and
+ *            has 512: up to eight records, with copies of the last one where there are fewer. More are written into a
+ *            new file with all others. A new file ends with 512 octets of copies. So a crash can damage only the last
+ *            512 octets, or what is after the last multiple of 512: records that were not reported to the endpoint.
+ *            Other damage comes from a program or the disk, also from one that damages more than a sector of 512
+ *            octets when a write is interrupted. Then nobody knows which packet numbers were used. So journal_open
+ *            refuses a file (JOURNAL_RECORD) that has, before these octets, 64 that are neither a record nor a mark:
+ *            install new keys at both ends, and create another journal.
+ * NOT SHOWN  Damage of what was appended last, records that are missing at the end, and the journal of another host
+ *            are not noticed.
+ * CUT        The length of the file is compared with what was written, before and after each append. If another
+ *            program has changed it, the file is written again from memory.
  * LENGTH     Before a journal is longer than its limit, it is written again with one record for each name, into a new
  *            file that takes its place. The limit grows to twice the length of that file, if it was lower. Names of old
  *            keys stay in the journal. If they fill half of JOURNAL_MAX, nothing more can be written (EFBIG): create
  *            another journal, and install new keys.
  * RECORDS    A record is a name of 32 octets, a packet number of 8 with the most significant octet first, and a check
- *            of 24. The last record of a name need not be the greatest. Other octets of 64 are skipped.
+ *            of 24. The last record of a name need not be the greatest. A mark is a name, 8 octets of 0, and a text of
+ *            24: macsecd marks names that it gives up. The library skips marks.
  * TIME       The library compares each record with each name when it opens or rewrites a journal, and the endpoint
  *            waits for it. For 1,024 records this took 3 ms of a processor with 2 names, and 24 ms with 512; for 4,096
- *            records with 2,048 names it took 350 ms (x86-64, an unproved build). So keep the limit low.
+ *            records with 2,048 names it took 350 ms (x86-64, an unproved build). journal_open tests each record
+ *            first: 16 ms for 1,024. So keep the limit low.
  * LEFTOVERS  A new file has the name of the journal with the suffix .new until it is complete. A crash can leave one.
  *            The next rewriting removes it, but journal_create does not (EEXIST): remove it manually.
- * SECRETS    The journal contains no key. Its file is readable and writable by its owner only. Anyone who can write it
- *            can make the endpoint repeat packet numbers.
- * DISK       Not covered: a disk that loses or alters what it reported as written, a restored backup or snapshot, and a
- *            second copy of the file in use. Then install new keys.
+ * SECRETS    The journal contains no key. Anyone who can write it can make the endpoint repeat packet numbers. So
+ *            journal_open refuses a file that others may read or write, and one that belongs neither to this user nor
+ *            to the owner of its folder (JOURNAL_OWNER).
+ * DISK       Not covered: a disk that loses what it reported as written, or alters it where that is not shown; a
+ *            restored backup or snapshot; and a second copy of the file in use. Then install new keys.
  * ERRORS     A call returns 0, or -1 and fills in `fault`: the step that failed, its errno, and the library's status if
  *            a call of the library failed. Nothing is printed. Use a journal in one call at a time.
  */
@@ -69,12 +83,15 @@
 #include <stdbool.h>
 #include <stddef.h>
 #include <stdint.h>
+#include <sys/stat.h>
 #include <sys/types.h>
 
 /* The limit for a device: 1,024 records. */
 #define JOURNAL_LIMIT ((size_t)1 << 16)
 /* The most octets of a journal. */
 #define JOURNAL_MAX ((size_t)1 << 22)
+/* How many octets of copies a new file has at most. */
+#define JOURNAL_FILL ((size_t)1 << 10)
 /* The fewest packet numbers of a reservation. Tests have fewer. */
 #ifndef JOURNAL_AMOUNT_MIN
 #define JOURNAL_AMOUNT_MIN 65536
@@ -92,10 +109,12 @@ enum journal_step {
     JOURNAL_LOCK,        /* locking it; EWOULDBLOCK: another process uses the journal */
     JOURNAL_STATUS,      /* reading its status */
     JOURNAL_KIND,        /* EINVAL: it is no regular file; EMLINK: it has other names too */
+    JOURNAL_OWNER,       /* EACCES: others may read or write it; EPERM: it is another user's */
     JOURNAL_NAMED,       /* ESTALE: the name leads to another file, or to none */
-    JOURNAL_LENGTH,      /* ENODATA: it is too short for a header; EFBIG: it is too long */
+    JOURNAL_LENGTH,      /* ENODATA: too short for a header; EFBIG: too long; ESTALE: another program has changed it */
     JOURNAL_MEMORY,      /* allocating memory */
     JOURNAL_READ,        /* reading */
+    JOURNAL_RECORD,      /* EBADMSG: the record of this number is damaged */
     JOURNAL_WRITE,       /* writing */
     JOURNAL_SYNC,        /* making what was written durable */
     JOURNAL_ENDPOINT,    /* EBUSY: another endpoint has the journal */
@@ -106,6 +125,7 @@ struct journal_fault {
     enum journal_step step;
     int error;       /* errno */
     uint32_t status; /* MACSEC_E_.. if step is JOURNAL_LIBRARY, else MACSEC_OK */
+    size_t record;   /* its number, counted from 1, if step is JOURNAL_RECORD, else 0 */
 };
 
 /* An open journal. The members from `spare` on belong to these calls. */
@@ -148,7 +168,7 @@ void journal_hand_over(struct journal *journal, const macsec_endpoint *next);
 /* Makes a record durable. One that this process has made durable is not written again. */
 int journal_append(struct journal *journal, const macsec_record *record, struct journal_fault *fault);
 
-/* Makes several records durable by one write and one synchronization. */
+/* Makes several records durable together. More than eight are written into a new file. */
 int journal_append_all(struct journal *journal, const uint8_t *records, size_t length, struct journal_fault *fault);
 
 /* Reserves `amount` packet numbers for a transmit association if the endpoint has fewer than half of them left; else it
@@ -176,9 +196,20 @@ int journal_save(struct journal *journal, macsec_endpoint *e, const uint8_t sci[
 int journal_rewrite(struct journal *journal, struct journal_fault *fault);
 
 /* For a program that keeps the records itself: puts the octets of a whole journal in the place of the file, and makes
- * room for so many first. The second call alone allocates memory. */
+ * room for so many first, and for what is appended. The second call alone allocates memory. */
 int journal_replace(struct journal *journal, const uint8_t *octets, size_t length, struct journal_fault *fault);
 int journal_make_room(struct journal *journal, size_t length, struct journal_fault *fault);
+
+/* Looks for damage in the octets of a file. `record` is the number of the first damaged record, counted from 1, or 0.
+ * Returns the library's status. */
+uint32_t journal_find_damage(const uint8_t *octets, size_t length, size_t *record);
+
+/* Is the file its owner's alone? 0, or an errno as for JOURNAL_OWNER. */
+int journal_check_owner(const struct stat *file, const struct stat *folder);
+
+/* Are these 64 octets a mark? And makes one of a name. */
+bool journal_is_mark(const uint8_t *octets);
+void journal_make_mark(const uint8_t *name, uint8_t *octets);
 
 /* Unlocks and closes an open journal. Nothing is lost: each record was made durable when it was written. */
 void journal_close(struct journal *journal);

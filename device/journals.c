@@ -1,5 +1,6 @@
 /* The journals of the host: where the one of a NAME is, whether its file system keeps it, and whether another one has
- * packet numbers of a key under which this NAME sends. */
+ * packet numbers of a key under which this NAME sends. No two devices compare at one time: the folders of the journals
+ * are locked until the own records are on the disk. Whoever can open a folder can lock it. */
 #define _GNU_SOURCE
 #include "device.h"
 #include "journal.h"
@@ -7,9 +8,11 @@
 #include <errno.h>
 #include <fcntl.h>
 #include <linux/magic.h>
+#include <poll.h>
 #include <stdio.h>
 #include <stdlib.h>
 #include <string.h>
+#include <sys/file.h>
 #include <sys/stat.h>
 #include <sys/statfs.h>
 #include <unistd.h>
@@ -157,27 +160,64 @@ static uint8_t *read_file(int file, size_t *length) {
     return octets;
 }
 
-static const char *fault_of_file(int file) {
-    uint8_t header[MACSEC_RECORD_LENGTH], valid[MACSEC_RECORD_LENGTH];
-    size_t length;
+/* What is wrong with the octets of a journal, or NULL. */
+static const char *fault_of_octets(const uint8_t *octets, size_t length) {
+    static char text[160];
+    uint8_t left[MACSEC_RECORD_LENGTH];
+    size_t record;
+    if (length < MACSEC_RECORD_LENGTH)
+        return "is too short for its header";
+    if (macsec_journal_compacted(octets, MACSEC_RECORD_LENGTH, left, &record) == MACSEC_E_NOT_JOURNAL)
+        return "is none, is of another version, or has a damaged header";
+    if (journal_find_damage(octets, length, &record) != MACSEC_OK || record == 0)
+        return NULL;
+    snprintf(text, sizeof text,
+             "has damage in record %zu, so it does not say which packet numbers were used. Install new keys at both "
+             "ends, move it away, and create another",
+             record);
+    return text;
+}
+
+/* What is wrong with the owner of a journal, or NULL. */
+static const char *fault_of_owner(const struct stat *about, const char *path) {
+    char folder[PATH_MAX];
+    struct stat of_folder;
+    snprintf(folder, sizeof folder, "%s", path);
+    *strrchr(folder, '/') = '\0';
+    if (stat(folder, &of_folder) != 0)
+        return NULL;
+    switch (journal_check_owner(about, &of_folder)) {
+    case EACCES:
+        return "can be read or written by others, who could make macsecd repeat packet numbers: chmod 600";
+    case EPERM:
+        return "belongs to another user than its folder: chown";
+    default:
+        return NULL;
+    }
+}
+
+static const char *fault_of_file(int file, const char *path) {
     struct stat about;
+    const char *fault;
+    uint8_t *octets;
+    size_t length;
     if (fstat(file, &about) != 0)
         return NULL;
+    if ((fault = fault_of_owner(&about, path)) != NULL)
+        return fault;
     if (about.st_nlink > 1)
         return "has another name too";
-    if (about.st_size < (off_t)sizeof header)
-        return "is too short for its header";
     if (about.st_size > (off_t)JOURNAL_MAX)
         return "is too long";
-    if (pread(file, header, sizeof header, 0) != (ssize_t)sizeof header ||
-        macsec_journal_compacted(header, sizeof header, valid, &length) != MACSEC_E_NOT_JOURNAL)
-        return NULL;
-    return "is none, is of another version, or has a damaged header";
+    octets = read_file(file, &length);
+    fault = octets == NULL ? NULL : fault_of_octets(octets, length);
+    free(octets);
+    return fault;
 }
 
 const char *journals_fault(const char *path) {
     int file = open(path, O_RDONLY | O_CLOEXEC | O_NOFOLLOW | O_NONBLOCK | O_NOCTTY);
-    const char *fault = file < 0 ? NULL : fault_of_file(file);
+    const char *fault = file < 0 ? NULL : fault_of_file(file, path);
     if (file >= 0)
         (void)close(file); /* it was only read */
     return fault;
@@ -187,7 +227,7 @@ const char *journals_fault(const char *path) {
 static int compare_file(const struct keys *k, const char *folder, const char *name) {
     char path[PATH_MAX];
     uint8_t *octets;
-    size_t length;
+    size_t length, record;
     int result = 0, file;
     if (snprintf(path, sizeof path, "%s/%s", folder, name) >= (int)sizeof path)
         return 0;
@@ -195,8 +235,9 @@ static int compare_file(const struct keys *k, const char *folder, const char *na
     octets = file < 0 ? NULL : read_file(file, &length);
     if (octets == NULL)
         message("%s can't be read, so keys are not compared with it", path);
-    else
-        result = compare(k, path, octets, length);
+    else if ((result = compare(k, path, octets, length)) == 0 &&
+             journal_find_damage(octets, length, &record) == MACSEC_OK && record != 0)
+        message("%s has damage in record %zu, so not all its keys are compared", path, record);
     free(octets);
     if (file >= 0)
         (void)close(file); /* it was only read */
@@ -239,22 +280,136 @@ static int compare_beside(const struct keys *k, const char *parent) {
     return result;
 }
 
+/* Finds the folder of the own journal and, if that has the name of the device, the one above it; else that is empty.
+ * Returns the name of the journal in its folder, or NULL after a message. */
+static const char *find_folders(char own[PATH_MAX], char parent[PATH_MAX], const char *name) {
+    char *file, *slash;
+    if (!journals_path(own, PATH_MAX, name))
+        return NULL;
+    file = strrchr(own, '/');
+    *file++ = '\0';
+    memcpy(parent, own, PATH_MAX);
+    slash = strrchr(parent, '/');
+    if (slash == NULL || slash == parent || strcmp(slash + 1, name) != 0)
+        slash = parent;
+    *slash = '\0';
+    return file;
+}
+
 int journals_check_keys(const struct config *c, const char *name) {
     static struct keys k; /* some KB */
     char own[PATH_MAX], parent[PATH_MAX];
-    char *slash;
+    const char *file = find_folders(own, parent, name);
     int result;
-    if (!journals_path(own, sizeof own, name))
+    if (file == NULL)
         return ENDS_WRONG;
-    slash = strrchr(own, '/');
-    *slash = '\0';
-    k = (struct keys){ .config = c, .own = own, .name = slash + 1 };
+    k = (struct keys){ .config = c, .own = own, .name = file };
     find_sending(&k);
     result = compare_folder(&k, own);
-    memcpy(parent, own, sizeof parent);
-    slash = strrchr(parent, '/');
-    if (result != 0 || slash == NULL || slash == parent || strcmp(slash + 1, name) != 0)
-        return result;
-    *slash = '\0';
-    return compare_beside(&k, parent);
+    return result == 0 && parent[0] != '\0' ? compare_beside(&k, parent) : result;
+}
+
+/* ---- One start at a time ---- */
+
+/* How long it waits for other devices that start, how long if anyone could keep the lock, and how often it looks, in
+ * milliseconds. */
+enum { WAITS = 30000, WAITS_FOR_ANYONE = 5000, LOOKS = 20 };
+
+/* The locked folders. */
+static struct {
+    int *files;
+    size_t count;
+    int waited;
+} locks;
+
+/* Has a folder another name, by which it is locked already? */
+static bool is_locked(const struct stat *about) {
+    struct stat other;
+    for (size_t i = 0; i < locks.count; i++)
+        if (fstat(locks.files[i], &other) == 0 && about->st_dev == other.st_dev && about->st_ino == other.st_ino)
+            return true;
+    return false;
+}
+
+/* Locks an open folder. Returns 0, or the exit status after a message. */
+static int lock_file(int file, const char *path, bool is_private) {
+    int waits = is_private ? WAITS : WAITS_FOR_ANYONE;
+    while (flock(file, LOCK_EX | LOCK_NB) != 0) {
+        if (errno == EINTR)
+            continue;
+        if (errno != EWOULDBLOCK) {
+            message_of_errno("%s can't be locked, so devices with one key that start together are not noticed", path);
+            return 0;
+        }
+        if (locks.waited >= waits) {
+            message("%s has been locked for %d seconds%s", path, waits / 1000,
+                    is_private ? ": another device is starting, and can't write its journal"
+                               : ". Anyone can do that: chmod 700");
+            return is_private ? ENDS_FAILED : 0;
+        }
+        locks.waited += LOOKS;
+        (void)poll(NULL, 0, LOOKS);
+    }
+    return 0;
+}
+
+/* Locks a folder. One that this user can't open has no journal of this user's. */
+static int lock_folder(const char *path) {
+    struct stat about;
+    int file = open(path, O_RDONLY | O_DIRECTORY | O_CLOEXEC);
+    if (file < 0 && errno != EMFILE && errno != ENFILE && errno != ENOMEM)
+        return 0;
+    if (file < 0 || fstat(file, &about) != 0) {
+        message_of_errno("%s", path);
+        return ENDS_FAILED;
+    }
+    if (is_locked(&about))
+        return close(file);
+    locks.files[locks.count++] = file;
+    return lock_file(file, path, (about.st_mode & (S_IRGRP | S_IROTH)) == 0);
+}
+
+static bool make_room(size_t folders) {
+    locks.files = calloc(folders, sizeof *locks.files);
+    if (locks.files == NULL)
+        message("out of memory");
+    return locks.files != NULL;
+}
+
+static int is_visible(const struct dirent *entry) {
+    return entry->d_name[0] != '.';
+}
+
+/* All lock in one order, so that no two wait for each other. Whoever makes a folder later locks these folders too. */
+static int lock_beside(const char *parent) {
+    struct dirent **entries;
+    int result, count = scandir(parent, &entries, is_visible, alphasort);
+    if (count < 0)
+        return 0;
+    result = make_room((size_t)count + 1) ? 0 : ENDS_FAILED;
+    for (int i = 0; i < count; i++) {
+        char path[PATH_MAX];
+        if (result == 0 && snprintf(path, sizeof path, "%s/%s", parent, entries[i]->d_name) < PATH_MAX)
+            result = lock_folder(path);
+        free(entries[i]);
+    }
+    free(entries);
+    return result;
+}
+
+int journals_lock(const char *name) {
+    char own[PATH_MAX], parent[PATH_MAX];
+    if (find_folders(own, parent, name) == NULL)
+        return ENDS_WRONG;
+    if (parent[0] != '\0')
+        return lock_beside(parent);
+    return make_room(1) ? lock_folder(own) : ENDS_FAILED;
+}
+
+void journals_unlock(void) {
+    for (size_t i = 0; i < locks.count; i++)
+        (void)close(locks.files[i]);
+    free(locks.files);
+    locks.files = NULL;
+    locks.count = 0;
 }

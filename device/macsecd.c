@@ -53,6 +53,8 @@ static int start(struct device *d) {
     if (result == 0)
         result = numbers_open(&d->numbers, d->name, !d->config.behind, &d->counts);
     if (result == 0)
+        result = journals_lock(d->name);
+    if (result == 0)
         result = journals_check_keys(&d->config, d->name);
     if (result == 0)
         result = link_open(&d->link, d->config.link);

@@ -5,15 +5,14 @@
  * A mark says that a key agreement has given a key up. The library skips it, since its check is wrong. The names of the
  * keys that were given up last stay, so that a key which comes again soon goes on above its packet numbers. Older names
  * leave the journal when it is written again. */
+#define _GNU_SOURCE
 #include "device.h"
+#include "journal.h"
 #include <stdlib.h>
 #include <string.h>
 
 /* Octets of a record: the name, then the packet number, then the check. */
-enum { NUMBER_AT = NAME, NUMBER = 8, CHECK_AT = NUMBER_AT + NUMBER, CHECK = MACSEC_RECORD_LENGTH - CHECK_AT };
-
-/* What a mark has in place of the check. */
-static const char mark_text[CHECK + 1] = "macsec journal: given up";
+enum { NUMBER_AT = NAME, NUMBER = 8 };
 
 /* How many names are made room for at first, and how many records are read at a time. */
 enum { FIRST = 256, CHUNK = 32 };
@@ -23,16 +22,6 @@ static uint64_t number_of(const uint8_t *record) {
     for (int i = 0; i < NUMBER; i++)
         number = number << 8 | record[NUMBER_AT + i];
     return number;
-}
-
-static bool is_mark(const uint8_t *record) {
-    return memcmp(record + CHECK_AT, mark_text, CHECK) == 0;
-}
-
-static void make_mark(const struct name *name, uint8_t *record) {
-    memset(record, 0, MACSEC_RECORD_LENGTH);
-    memcpy(record, name->made.octets, NAME);
-    memcpy(record + CHECK_AT, mark_text, CHECK);
 }
 
 /* ---- The table ---- */
@@ -97,7 +86,7 @@ static struct name *name_of(struct names *n, const uint8_t *record) {
 
 /* ---- Reading ---- */
 
-/* Takes in records of the file. The library leaves those that are valid. */
+/* Takes in records of the file. The library leaves those that are valid: the last ones may be torn. */
 static uint32_t take_records(struct names *n, const uint8_t *header, const uint8_t *records, size_t count) {
     uint8_t some[(CHUNK + 1) * MACSEC_RECORD_LENGTH], valid[sizeof some];
     size_t length = 0;
@@ -118,7 +107,7 @@ static uint32_t take_records(struct names *n, const uint8_t *header, const uint8
 
 static void take_mark(struct names *n, const uint8_t *record) {
     struct name *name = names_find(n, record);
-    if (name == NULL)
+    if (name == NULL || name->given_up != 0) /* a mark can be there several times */
         return;
     name->given_up = ++n->given_up;
     name->marked = true;
@@ -131,7 +120,8 @@ uint32_t names_read(struct names *n, const uint8_t *octets, size_t length) {
     memcpy(n->header, octets, MACSEC_RECORD_LENGTH);
     while (at < end && status == MACSEC_OK) {
         size_t count = 0;
-        while (count < CHUNK && at + count * MACSEC_RECORD_LENGTH < end && !is_mark(at + count * MACSEC_RECORD_LENGTH))
+        while (count < CHUNK && at + count * MACSEC_RECORD_LENGTH < end &&
+               !journal_is_mark(at + count * MACSEC_RECORD_LENGTH))
             count++;
         if (count > 0)
             status = take_records(n, octets, at, count);
@@ -220,7 +210,7 @@ size_t names_changes(struct names *n, uint8_t *out) {
         if (name->again || !name->is_durable || names_last(name) > name->durable_last)
             at = put_record(name, at);
         if (name->given_up != 0 && !name->marked) {
-            make_mark(name, at);
+            journal_make_mark(name->made.octets, at);
             at += MACSEC_RECORD_LENGTH;
         }
         name->changed = name->again = false;
@@ -289,7 +279,7 @@ size_t names_all(struct names *n, uint8_t *out) {
             at = put_record(&n->at[i], at);
     for (size_t i = 0; i < count; i++) {
         at = put_record(given_up[i], at);
-        make_mark(given_up[i], at);
+        journal_make_mark(given_up[i]->made.octets, at);
         at += MACSEC_RECORD_LENGTH;
     }
     n->changed_count = 0;
@@ -328,7 +318,7 @@ void names_written(struct names *n, const uint8_t *records, size_t length,
         bool rises;
         if (name == NULL)
             continue; /* the header */
-        if (is_mark(records + at)) {
+        if (journal_is_mark(records + at)) {
             name->marked = name->given_up != 0;
             continue;
         }

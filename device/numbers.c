@@ -104,6 +104,20 @@ static int read_names(struct numbers *n) {
     return status == MACSEC_E_NOT_JOURNAL ? ENDS_WRONG : ENDS_FAILED;
 }
 
+/* Says why the journal can't be used. Returns the exit status. */
+static int explain(const char *path, const char *name, const struct journal_fault *fault) {
+    const char *wrong = journals_fault(path);
+    if (wrong != NULL) {
+        message("the journal %s %s", path, wrong);
+        return ENDS_WRONG;
+    }
+    report(path, fault);
+    if (fault->step != JOURNAL_OPEN || fault->error != ENOENT)
+        return ENDS_FAILED;
+    message("if the keys of %s.conf were never used: macsecd --create-journal %s", name, name);
+    return ENDS_WRONG;
+}
+
 int numbers_open(struct numbers **n, const char *name, bool ahead, struct counts *counts) {
     char path[PATH_MAX];
     struct journal_fault fault;
@@ -119,11 +133,7 @@ int numbers_open(struct numbers **n, const char *name, bool ahead, struct counts
         result = read_names(&the_numbers);
         return result == 0 ? saver_open(&the_numbers.saver, &the_numbers.journal) : result;
     }
-    report(path, &fault);
-    if (fault.step != JOURNAL_OPEN || fault.error != ENOENT)
-        return ENDS_FAILED;
-    message("if the keys of %s.conf were never used: macsecd --create-journal %s", name, name);
-    return ENDS_WRONG;
+    return explain(path, name, &fault);
 }
 
 int numbers_folder(const struct numbers *n) {
@@ -161,7 +171,7 @@ static void note_failure(struct numbers *n, const struct journal_fault *fault) {
 }
 
 static bool fails_for_memory(struct numbers *n) {
-    const struct journal_fault fault = { JOURNAL_MEMORY, ENOMEM, MACSEC_OK };
+    const struct journal_fault fault = { JOURNAL_MEMORY, ENOMEM, MACSEC_OK, 0 };
     note_failure(n, &fault);
     return false;
 }
@@ -177,7 +187,7 @@ static bool make_room(struct numbers *n, bool whole) {
         n->octets = grown;
         n->room = 2 * length;
     }
-    if (!whole || journal_make_room(&n->journal, 2 * length, &fault) == 0)
+    if (!whole || journal_make_room(&n->journal, length, &fault) == 0)
         return true;
     note_failure(n, &fault);
     return false;
@@ -188,7 +198,7 @@ static void order(struct numbers *n) {
     bool whole;
     if (n->waits || saver_is_busy(n->saver) || (n->names.changed_count == 0 && !n->anew))
         return;
-    whole = n->anew || n->journal.length + names_change_room(&n->names) > n->journal.room;
+    whole = n->anew || n->journal.length + names_change_room(&n->names) + JOURNAL_FILL > n->journal.room;
     if (!make_room(n, whole))
         return;
     n->length = whole ? names_all(&n->names, n->octets) : names_changes(&n->names, n->octets);
@@ -216,15 +226,24 @@ static void note_seconds(struct numbers *n, double seconds) {
     n->amount = by_rate > least ? by_rate : least;
 }
 
-/* Takes the result of an order. Returns false if it is under way. */
+/* Another program has cut the file: all that is in memory is written again. */
+static bool note_cut(struct numbers *n) {
+    message("the journal was cut or changed by another program: it is written again");
+    n->anew = true;
+    return true;
+}
+
+/* Takes the result of an order. Returns false if there is none, and nothing else has to be written at once. */
 static bool take_result(struct numbers *n, macsec_endpoint *e) {
     struct saved saved;
     struct journal_fault fault;
     if (!saver_is_done(n->saver, &saved))
-        return false;
+        return saved.cut && note_cut(n);
+    if (!saved.good && saved.step == JOURNAL_LENGTH && saved.error == ESTALE)
+        return note_cut(n);
     n->done = n->orders;
     note_seconds(n, saved.seconds);
-    fault = (struct journal_fault){ (enum journal_step)saved.step, saved.error, saved.status };
+    fault = (struct journal_fault){ (enum journal_step)saved.step, saved.error, saved.status, 0 };
     if (!saved.good) {
         note_failure(n, &fault);
         return true;
@@ -240,7 +259,9 @@ static bool take_result(struct numbers *n, macsec_endpoint *e) {
 void numbers_go_on(struct numbers *n, macsec_endpoint *e) {
     do
         order(n);
-    while (take_result(n, e) && !n->waits && n->names.changed_count > 0);
+    while (take_result(n, e) && !n->waits && (n->names.changed_count > 0 || n->anew));
+    if (n->begun && n->names.changed_count == 0 && !n->anew && !saver_is_busy(n->saver))
+        journals_unlock(); /* a NAME that compares now sees the first records */
 }
 
 uint64_t numbers_ticket(const struct numbers *n) {

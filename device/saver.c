@@ -8,11 +8,16 @@
 #include <pthread.h>
 #include <string.h>
 #include <sys/eventfd.h>
+#include <sys/stat.h>
 #include <time.h>
 #include <unistd.h>
 
 /* Octets of its stack. A journal's calls need less than a tenth of it. */
 enum { STACK = 256 * 1024 };
+
+/* After so many seconds without an order the thread looks whether another program has changed the file's length: much
+ * can be sent until the next order. */
+enum { LOOKS = 1 };
 
 enum state { IDLE, ORDERED, CARRIED_OUT };
 
@@ -20,7 +25,10 @@ struct saver {
     struct journal *journal;
     pthread_t thread;
     bool runs;  /* is there a thread? */
-    int events; /* an eventfd, written when an order was carried out */
+    int events; /* an eventfd, written when an order was carried out, or the file was cut */
+    /* What the thread looks at: the file, and its length, or -1 if that is unknown. */
+    int file;
+    off_t length_of_file;
     pthread_mutex_t lock;
     pthread_cond_t changed;
     /* Guarded by the lock from here on. The octets, the journal and the result belong to the thread while the state is
@@ -30,11 +38,11 @@ struct saver {
     int confined;
     const uint8_t *octets;
     size_t length;
-    bool whole;
+    bool whole, cut;
     struct saved saved;
 };
 
-static struct saver the_saver = { .events = -1 };
+static struct saver the_saver = { .events = -1, .length_of_file = -1 };
 
 static double now(void) {
     struct timespec t;
@@ -43,11 +51,13 @@ static double now(void) {
 }
 
 static void carry_out(struct saver *s) {
-    struct journal_fault fault = { 0, 0, MACSEC_OK };
+    struct journal_fault fault = { 0, 0, MACSEC_OK, 0 };
     double began = now();
     int result = s->whole ? journal_replace(s->journal, s->octets, s->length, &fault)
                           : journal_append_all(s->journal, s->octets, s->length, &fault);
-    s->saved = (struct saved){ result == 0, (int)fault.step, fault.error, fault.status, now() - began };
+    s->saved = (struct saved){ result == 0, false, (int)fault.step, fault.error, fault.status, now() - began };
+    s->file = s->journal->file;
+    s->length_of_file = s->journal->in_doubt ? -1 : (off_t)s->journal->length;
 }
 
 /* ---- The thread ---- */
@@ -59,6 +69,25 @@ static void tell(const struct saver *s) {
         ;
 }
 
+/* Waits for an order, or looks at the file. */
+static void wait_for_order(struct saver *s) {
+    struct timespec end;
+    struct stat about;
+    bool cut;
+    (void)clock_gettime(CLOCK_MONOTONIC, &end);
+    end.tv_sec += LOOKS;
+    if (pthread_cond_timedwait(&s->changed, &s->lock, &end) != ETIMEDOUT || s->length_of_file < 0)
+        return;
+    (void)pthread_mutex_unlock(&s->lock);
+    cut = fstat(s->file, &about) == 0 && about.st_size != s->length_of_file;
+    (void)pthread_mutex_lock(&s->lock);
+    if (!cut)
+        return;
+    s->length_of_file = -1;
+    s->cut = true;
+    tell(s);
+}
+
 static void *work(void *argument) {
     struct saver *s = argument;
     int confined = confine_saver();
@@ -68,7 +97,7 @@ static void *work(void *argument) {
     (void)pthread_cond_broadcast(&s->changed);
     while (!s->ends) {
         if (s->state != ORDERED) {
-            (void)pthread_cond_wait(&s->changed, &s->lock);
+            wait_for_order(s);
             continue;
         }
         (void)pthread_mutex_unlock(&s->lock);
@@ -154,17 +183,20 @@ void saver_order(struct saver *s, const uint8_t *octets, size_t length, bool who
 
 bool saver_is_done(struct saver *s, struct saved *saved) {
     uint64_t count;
-    bool done;
+    bool done, cut;
     if (read(s->events, &count, sizeof count) < 0 && errno != EAGAIN && errno != EINTR)
         message_of_errno("the thread of the journal");
     (void)pthread_mutex_lock(&s->lock);
     done = s->state == CARRIED_OUT;
+    cut = s->cut;
+    s->cut = false;
     if (done) {
         *saved = s->saved;
         s->state = IDLE;
         s->length = 0;
     }
     (void)pthread_mutex_unlock(&s->lock);
+    saved->cut = cut;
     return done;
 }
 

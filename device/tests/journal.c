@@ -30,7 +30,7 @@
 #include <string.h>
 #include <unistd.h>
 
-enum { FRAME_LENGTH = 64, KEYS = 2, TURN = 16, HELD = 16, LINK_MAX = 256 };
+enum { FRAME_LENGTH = 64, KEYS = 2, TURN = 16, HELD = 16, LINK_MAX = 256, SECTOR = 512 };
 
 static const uint8_t sender[8] = { 2, 0, 0, 0, 0, 1, 0, 1 }, receiver[8] = { 2, 0, 0, 0, 0, 2, 0, 1 };
 
@@ -128,7 +128,7 @@ static void open_journal(struct journal *journal, const char *name, size_t limit
 /* Creates an endpoint with its keys and a journal. Key and association have the same number. */
 static uint32_t make_endpoint(macsec_endpoint *e, const uint8_t *sci, uint32_t suite, struct journal *journal,
                               bool ahead) {
-    struct journal_fault fault = { JOURNAL_LIBRARY, 0, MACSEC_OK };
+    struct journal_fault fault = { JOURNAL_LIBRARY, 0, MACSEC_OK, 0 };
     macsec_config config = { { 0 }, suite, MACSEC_FORM_SCI, 1600 };
     bool wide = suite == MACSEC_SUITE_GCM_AES_256 || suite == MACSEC_SUITE_GCM_AES_XPN_256;
     uint32_t status;
@@ -487,7 +487,7 @@ static int run_floors(int count, char **words) {
             continue;
         printf("%zu", at);
         print_floors(words[1], octets, at, count - 4, words + 4);
-        random = 1 + random_octet();
+        random = 1 + 2U * random_octet() % (SECTOR - at % SECTOR); /* as a crash leaves them */
         for (size_t it = 0; it < random; it++)
             octets[at + it] = random_octet();
         print_floors(words[1], octets, at + random, count - 4, words + 4);

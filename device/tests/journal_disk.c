@@ -8,8 +8,9 @@
  *
  * DISK is the folder of the disk. A successful fsync or fdatasync of a file copies the pages that were written since
  * the last one, whether it was successful or not, to DISK/INODE. A failed one copies nothing, and leaves the pages
- * clean, as on Linux. A successful fsync of a folder writes the names in it and their inodes to DISK/names. Nothing is
- * synchronized really.
+ * clean, as on Linux. A folder is synchronized in the same way: if a name has changed since the last call, which
+ * DISK/changed says, a successful one writes the names in it and their inodes to DISK/names. DISK/INODE.torn says that
+ * octets of a file were written and are not on the disk. Nothing is synchronized really.
  *
  * PAUSE is a file that flock creates when it is called for the first time. It waits until the file is removed. */
 #define _GNU_SOURCE
@@ -28,7 +29,7 @@
 #include <time.h>
 #include <unistd.h>
 
-enum { PAGE = 4096, FILES = 32 };
+enum { PAGE = 4096, FILES = 64 };
 
 /* The calls, and how often each was made. */
 static struct call {
@@ -114,6 +115,25 @@ static struct dirty *dirty_of(int file) {
     abort();
 }
 
+/* Notes something of which the next processes know too, in an empty file. */
+static void note(const char *name) {
+    if (getenv("DISK") != NULL)
+        close(disk_file(name, O_WRONLY));
+}
+
+/* Was it noted? Then it is not any more. */
+static int take_note(const char *name) {
+    char path[PATH_MAX];
+    snprintf(path, sizeof path, "%s/%s", getenv("DISK"), name);
+    return unlink(path) == 0;
+}
+
+static const char *torn_of(ino_t inode) {
+    static char name[40];
+    snprintf(name, sizeof name, "%ju.torn", (uintmax_t)inode);
+    return name;
+}
+
 static void write_dirty(int file, off_t at, size_t length) {
     struct dirty *dirty = dirty_of(file);
     off_t from = at / PAGE * PAGE, to = (at + (off_t)length + PAGE - 1) / PAGE * PAGE;
@@ -121,6 +141,7 @@ static void write_dirty(int file, off_t at, size_t length) {
         dirty->from = from;
     if (to > dirty->to)
         dirty->to = to;
+    note(torn_of(dirty->inode));
 }
 
 /* Copies what is dirty to the disk. */
@@ -156,8 +177,10 @@ static void keep_names(int folder) {
 
 static int sync_file(int file, int is_failed) {
     struct dirty *dirty = dirty_of(file);
-    if (!is_failed)
+    if (!is_failed) {
         keep(file, dirty);
+        (void)take_note(torn_of(dirty->inode));
+    }
     dirty->from = dirty->to = 0;
     return is_failed ? -1 : 0;
 }
@@ -183,7 +206,7 @@ int fsync(int file) {
         abort();
     if (!S_ISDIR(status.st_mode))
         sync_file(file, refused);
-    else if (!refused)
+    else if (take_note("changed") && !refused)
         keep_names(file);
     errno = error;
     return refused ? -1 : 0;
@@ -225,6 +248,8 @@ int openat(int folder, const char *name, int flags, ...) {
         dirty->from = dirty->to = 0;
         snprintf(path, sizeof path, "%s/%ju", getenv("DISK"), (uintmax_t)status.st_ino);
         unlink(path);
+        (void)take_note(torn_of(status.st_ino));
+        note("changed");
     }
     return file;
 }
@@ -232,12 +257,18 @@ int openat(int folder, const char *name, int flags, ...) {
 int renameat2(int from, const char *name, int to, const char *new_name, unsigned flags) {
     int (*real)(int, const char *, int, const char *, unsigned) =
         (int (*)(int, const char *, int, const char *, unsigned))next("renameat2");
-    return is_refused(RENAMEAT2) ? -1 : real(from, name, to, new_name, flags);
+    int result = is_refused(RENAMEAT2) ? -1 : real(from, name, to, new_name, flags);
+    if (result == 0)
+        note("changed");
+    return result;
 }
 
 int unlinkat(int folder, const char *name, int flags) {
     int (*real)(int, const char *, int) = (int (*)(int, const char *, int))next("unlinkat");
-    return is_refused(UNLINKAT) ? -1 : real(folder, name, flags);
+    int result = is_refused(UNLINKAT) ? -1 : real(folder, name, flags);
+    if (result == 0)
+        note("changed");
+    return result;
 }
 
 int flock(int file, int operation) {

@@ -53,7 +53,7 @@ class Runs:
 
     def start_sender(self, capture: pathlib.Path) -> subprocess.Popen[bytes]:
         """Starts a sender, which does not end."""
-        return self.start(send_words(self.folder / "sender", capture, 1024, AMOUNT, 0, self.suite))
+        return self.start(send_words(self.folder / "sender", capture, 8192, AMOUNT, 0, self.suite))
 
     def killed(self, process: subprocess.Popen[bytes]) -> None:
         """Waits for a run that was killed."""

@@ -3,12 +3,16 @@
  *
  *     journal_numbers create JOURNAL
  *     journal_numbers send JOURNAL LIMIT SUITE AMOUNT FRAMES CAPTURE
+ *     journal_numbers agree JOURNAL LIMIT COUNT CAPTURE
  *     journal_numbers paces
  *
- * The arguments and the output are as in journal.c, except that LIMIT, SUITE and AMOUNT are not used, and CAPTURE also
- * gets the frames that are delivered. The clock ticks a few frames after a failure: each tick makes reservations
- * longer, since no time passes. If nothing fails, each new frame has to be delivered. paces prints how many packet
- * numbers are reserved for a channel that is quiet, busy, quiet again, and whose frames lack a reservation. */
+ * The arguments and the output are as in journal.c, except that SUITE and AMOUNT are not used, and CAPTURE also gets
+ * the frames that are delivered. numbers.c finds LIMIT in the environment. The clock ticks a few frames after a
+ * failure: each tick makes reservations longer, since no time passes. If nothing fails, each new frame has to be
+ * delivered. agree is a key agreement. It sends and receives frames of association 0 under a key, retires the key, and
+ * installs it again in a second endpoint. Then it does so with association 1 under COUNT other keys, and ends without
+ * an orderly end. paces prints how many packet numbers are reserved for a channel that is quiet, busy, quiet again, and
+ * whose frames lack a reservation. */
 #define _GNU_SOURCE
 #include "device.h"
 #include "journal.h"
@@ -86,20 +90,28 @@ static void carry_out(struct numbers *n, macsec_endpoint *e, const char *form, .
                          : lines_carry_out(n, e, line, strlen(line), &raised));
 }
 
-/* Key and association have the same number. */
-static void install_key(struct numbers *n, macsec_endpoint *e, unsigned an) {
-    char key[33];
-    for (int i = 0; i < 16; i++)
-        snprintf(key + 2 * i, 3, "%02x", 0xa0 + an); /* only for this test */
-    carry_out(n, e, "A key %u %s 0", an, key);
+/* The octets of a key are only for this test. */
+static void install_key(struct numbers *n, macsec_endpoint *e, unsigned number) {
+    carry_out(n, e, "A key %u a0a1a2a3a4a5a6a7a8a9aaab%08x 0", number, number);
 }
 
-/* Creates the endpoint with its keys and associations. */
-static void begin(struct numbers *n, macsec_endpoint *e) {
+static void create(struct numbers *n, macsec_endpoint *e) {
     char end[LINE];
     snprintf(end, sizeof end, "end A gcm128 %s 1600 sci", own);
     if (numbers_configure(n, e, end, strlen(end), NULL, 0) != MACSEC_OK)
         exit(3);
+}
+
+static void create_peer(macsec_endpoint *e) {
+    char end[LINE];
+    uint32_t line;
+    snprintf(end, sizeof end, "end A gcm128 %s 1600 sci", other);
+    must(end, macsec_configure(e, (const uint8_t *)end, strlen(end), &line));
+}
+
+/* Creates the endpoint with its keys and associations. Key and association have the same number. */
+static void begin(struct numbers *n, macsec_endpoint *e) {
+    create(n, e);
     for (unsigned an = 0; an < KEYS; an++) {
         install_key(n, e, an);
         carry_out(n, e, "A txsa %u %u 1 conf", an, an);
@@ -122,11 +134,8 @@ struct peer {
 
 /* Creates it. Under each key it begins with packet numbers that the receiver may have accepted. */
 static void begin_peer(struct peer *p, const macsec_endpoint *receiver) {
-    char end[LINE];
-    uint32_t line;
     memset(p, 0, sizeof *p);
-    snprintf(end, sizeof end, "end A gcm128 %s 1600 sci", other);
-    must(end, macsec_configure(&p->e, (const uint8_t *)end, strlen(end), &line));
+    create_peer(&p->e);
     for (unsigned an = 0; an < KEYS; an++) {
         macsec_rx_sa sa;
         must("rx_sa", macsec_get_rx_sa(receiver, other_sci, (uint8_t)an, &sa));
@@ -217,6 +226,83 @@ static int run_send(unsigned long frames, const char *out) {
     return close(file) == 0 ? 0 : 1;
 }
 
+/* ---- A key agreement ---- */
+
+/* Installs a key as the owner of the device does, at both ends, and creates the associations of one end. It sends from
+ * this packet number on. */
+static void begin_key(struct numbers *n, macsec_endpoint *e, macsec_endpoint *peer, unsigned an, unsigned key,
+                      unsigned pn) {
+    install_key(n, e, key);
+    numbers_note_key(n, key, true);
+    carry_out(n, e, "A rxsa %s %u %u 1", other, an, key);
+    carry_out(n, e, "A rxon %s %u", other, an);
+    numbers_accept(n, e);
+    carry_out(n, e, "A txsa %u %u %x conf", an, key, pn);
+    numbers_reserve(n, e);
+    carry_out(n, e, "A txon %u", an);
+    install_key(NULL, peer, key);
+}
+
+static void retire_key(struct numbers *n, macsec_endpoint *e, macsec_endpoint *peer, unsigned an, unsigned key) {
+    carry_out(n, e, "A rxdel %s %u", other, an);
+    carry_out(n, e, "A txdel %u", an);
+    carry_out(n, e, "A retire %u", key);
+    numbers_note_retired(n, key, true);
+    numbers_go_on(n, e);
+    carry_out(NULL, peer, "A retire %u", key);
+}
+
+/* A frame is sent, and the peer sends one with this packet number, which is given again if it lacks a reservation. */
+static void pass_frames(struct numbers *n, macsec_endpoint *e, macsec_endpoint *peer, unsigned an, unsigned key,
+                        unsigned pn, int file) {
+    macsec_sent sent;
+    macsec_received got;
+    (void)send_frame(e, file);
+    carry_out(NULL, peer, "A txsa %u %u %x conf", an, key, pn);
+    carry_out(NULL, peer, "A txon %u", an);
+    must("send", macsec_send(peer, client_frame, sizeof client_frame, &sent));
+    must("receive", macsec_receive(e, sent.frame, sent.length, &got));
+    numbers_received(n, e, &got, 1);
+    if (got.verdict == MACSEC_VERDICT_NO_RESERVATION)
+        must("receive", macsec_receive(e, sent.frame, sent.length, &got));
+    if (got.delivered)
+        capture(file, sent.frame, sent.length);
+    carry_out(NULL, peer, "A txdel %u", an);
+}
+
+static int run_agree(unsigned count, const char *out) {
+    macsec_endpoint e = MACSEC_ENDPOINT_INIT, peer = MACSEC_ENDPOINT_INIT;
+    struct numbers *n;
+    struct counts counts = { 0 };
+    int file;
+    if (numbers_open(&n, "journal", true, &counts) != 0)
+        return 3;
+    file = create_capture(out);
+    for (unsigned number = 0; number < 2; number++) {
+        create(n, &e);
+        create_peer(&peer);
+        carry_out(n, &e, "A rxsc %s", other);
+        numbers_begin(n, &e);
+        begin_key(n, &e, &peer, 0, 0, 1);
+        pass_frames(n, &e, &peer, 0, 0, 1 + number, file); /* the first reservation is enough for both */
+        if (number == 1)
+            break;
+        retire_key(n, &e, &peer, 0, 0);
+        numbers_save(n, &e, NULL);
+        numbers_forget(n);
+        macsec_free(&e);
+        macsec_free(&peer);
+    }
+    for (unsigned key = 1; key <= count; key++) { /* with packet numbers that no other key has */
+        begin_key(n, &e, &peer, 1, key, 16 * key);
+        pass_frames(n, &e, &peer, 1, key, 16 * key, file);
+        retire_key(n, &e, &peer, 1, key);
+    }
+    macsec_free(&e);
+    macsec_free(&peer);
+    return close(file) == 0 ? 0 : 1;
+}
+
 /* ---- Amounts ---- */
 
 static void receive_frames(struct pace *p, unsigned count) {
@@ -260,5 +346,9 @@ int main(int count, char **words) {
     journal_path = words[2];
     if (strcmp(words[1], "create") == 0)
         return numbers_create("journal") == 0 ? 0 : 3;
+    if (count > 3 && setenv("LIMIT", words[3], 1) != 0)
+        return 1;
+    if (count == 6 && strcmp(words[1], "agree") == 0)
+        return run_agree((unsigned)strtoul(words[4], NULL, 10), words[5]);
     return count == 8 && strcmp(words[1], "send") == 0 ? run_send(strtoul(words[6], NULL, 10), words[7]) : 2;
 }

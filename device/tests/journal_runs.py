@@ -19,7 +19,7 @@ from house.compiling import INCLUDED, SANITIZED, WARNINGS
 from house.reporting import report
 
 FLAGS = [*WARNINGS, "-O2", *INCLUDED, "-I", f"{ROOT}/device"]
-RECORD = 64
+RECORD, SECTOR = 64, 512
 ANS = (0, 1)
 SENDER = bytes.fromhex("0200000000010001")
 SECONDS = 60
@@ -43,11 +43,11 @@ class Options(NamedTuple):
 
 
 def build_numbers(library: pathlib.Path, folder: pathlib.Path) -> pathlib.Path:
-    """Builds the end that reserves as macsecd does. Its file is short, and so are its reservations."""
+    """Builds the end that reserves as macsecd does. Its reservations are short."""
     folder.mkdir(parents=True, exist_ok=True)
     program = folder / "journal_numbers"
     parts = ("journal", "journals", "lines", "names", "numbers", "paces", "saver", "text", "words")
-    sizes = ["-DNUMBERS_FILE_LENGTH=320", "-DJOURNAL_AMOUNT_MIN=8", "-DPACES_LEAST=8"]
+    sizes = ['-DNUMBERS_FILE_LENGTH=(size_t)atol(getenv("LIMIT"))', "-DJOURNAL_AMOUNT_MIN=8", "-DPACES_LEAST=8"]
     sources = [str(ROOT / f"device/{it}.c") for it in (*parts, "tests/journal_numbers")]
     command = ["gcc", *FLAGS, "-pedantic", "-pthread", *sizes, "-o", str(program), *sources, str(library)]
     if subprocess.call(command):
@@ -123,14 +123,14 @@ def send_words(
 
 def receive_words(journal: pathlib.Path, out: pathlib.Path, captures: list[pathlib.Path], suite: int = 1) -> list[str]:
     """The arguments of a receiver."""
-    return ["receive", str(journal), "1024", str(suite), str(out), *map(str, captures)]
+    return ["receive", str(journal), "8192", str(suite), str(out), *map(str, captures)]
 
 
 def accept_words(
     journal: pathlib.Path, out: pathlib.Path, prefix: pathlib.Path, count: int, amount: int, suite: int = 1
 ) -> list[str]:
     """The arguments of a receiver that reserves ahead."""
-    return ["accept", str(journal), "1024", str(suite), str(amount), str(out), str(prefix), str(count)]
+    return ["accept", str(journal), "8192", str(suite), str(amount), str(out), str(prefix), str(count)]
 
 
 # ---- Captures and journals
@@ -199,12 +199,13 @@ class State(NamedTuple):
 
 
 After = Callable[[pathlib.Path], State]
+Words = Callable[[pathlib.Path, int], list[str]]
 
 
 class Chain:
     """Runs of a sender one after another on the disk of journal_disk.c, with a power failure after each."""
 
-    LIMIT, AMOUNT, FRAMES = 320, 8, 48
+    LIMIT, AMOUNT, FRAMES = 3072, 8, 48
 
     def __init__(self, options: Options, start: bytes, names: list[bytes], what: str) -> None:
         self.options, self.names, self.what = options, names, what
@@ -224,20 +225,29 @@ class Chain:
             names.append(f"{inode} {name}\n")
         (folder / "disk/names").write_text("".join(names))
 
-    def run(self, faults: str, words: Callable[[pathlib.Path], list[str]], after: After, **more: str) -> Ended:
-        """Runs the program on the state, and takes the power away at its end. `after` chooses what is left."""
+    def run(self, faults: list[str], words: Words, after: After, **more: str) -> Ended:
+        """Runs the program on the state, once with each list of faults, and takes the power away at the end. `after`
+        chooses what is left."""
+        frames: list[Frame] = []
         with work_folder() as folder:
             self.restore(folder)
-            env = {"LD_PRELOAD": str(self.options.disk), "DISK": str(folder / "disk"), "FAULTS": faults, **more}
-            ended = run(self.options.program, words(folder), env)
+            for number, each in enumerate(faults):
+                env = {"LD_PRELOAD": str(self.options.disk), "DISK": str(folder / "disk"), "FAULTS": each, **more}
+                ended = run(self.options.program, words(folder, number), env)
+                frames += frames_of(folder / "capture")
             self.state = after(folder)
-            self.judge(frames_of(folder / "capture"))
+            self.judge(frames)
         return ended
 
-    def send(self, faults: str, after: After, **more: str) -> Ended:
-        """Runs the sender, with more variables in its environment."""
-        sizes = (self.LIMIT, self.AMOUNT, self.FRAMES)
-        return self.run(faults, lambda it: send_words(it / "files/journal", it / "capture", *sizes), after, **more)
+    def send(self, faults: str, after: After, before: str | None = None, **more: str) -> Ended:
+        """Runs the sender, with more variables in its environment. With the faults `before` another one runs first, and
+        the power stays on. Then this one need not write the journal again."""
+
+        def words(folder: pathlib.Path, number: int) -> list[str]:
+            sizes = (self.LIMIT << 10 * number, self.AMOUNT, self.FRAMES)
+            return send_words(folder / "files/journal", folder / "capture", *sizes)
+
+        return self.run([faults] if before is None else [before, faults], words, after, **more)
 
     def judge(self, frames: list[Frame]) -> None:
         """Sees that no packet number is used or accepted again, and that each is reserved in what is left."""
@@ -260,7 +270,8 @@ def disk_content(folder: pathlib.Path, inode: str) -> bytes:
 
 def state_after(folder: pathlib.Path, renamed: bool, tail: str, seed: str) -> State:
     """What a power failure leaves: the names that were made durable, or those that were there at last. Of each file,
-    what was made durable, and after the journal's octets some of those that were not, or random ones."""
+    what was made durable. After the journal's octets there may be those that were not: random ones, or some records and
+    zeros for others."""
     names = {}
     for line in (folder / "disk/names").read_text().splitlines():
         inode, name = line.split(" ", 1)
@@ -269,10 +280,15 @@ def state_after(folder: pathlib.Path, renamed: bool, tail: str, seed: str) -> St
         names = {it.name: str(it.stat().st_ino) for it in (folder / "files").iterdir()}
     files = {name: disk_content(folder, inode) for name, inode in names.items()}
     rest = random.Random(seed)
-    octets = files.get("journal")
-    if octets is not None and tail == "random":
-        files["journal"] = octets + rest.randbytes(rest.randrange(1, 150))
-    elif octets is not None and tail == "written" and (folder / "files/journal").exists():
-        now = (folder / "files/journal").read_bytes()
-        files["journal"] = octets + now[len(octets) : len(octets) + rest.randrange(1, 3 * RECORD)]
+    inode, now = names.get("journal"), folder / "files/journal"
+    if inode is None or not (folder / f"disk/{inode}.torn").exists():
+        return State(files)
+    is_same = now.exists() and str(now.stat().st_ino) == inode
+    more = now.read_bytes()[len(files["journal"]) :] if is_same else bytes(SECTOR)
+    parts = [more[at : at + RECORD] for at in range(0, len(more), RECORD)]
+    if tail == "random":
+        parts = [rest.randbytes(len(it)) for it in parts]
+    elif tail == "written":
+        parts = [it if rest.random() < 0.5 else bytes(len(it)) for it in parts]
+    files["journal"] += b"".join(parts)[: rest.randrange(len(more) + 1) if tail != "none" else 0]
     return State(files)

@@ -132,21 +132,43 @@ def check_planted(end: End) -> None:
             expect(end, f"{lines}", 2, where[0] if where and "LINK" not in faults[0] else "")
 
 
+def check_journal(end: End, text: str) -> None:
+    """With its journal macsecd does not start, and --check says why."""
+    status, found = run(end)
+    report(status == 2 and text in found[0], f"a journal that {text}: {found}")
+    expect(end, f"a journal that {text}", 2, text)
+
+
 def check_octets(end: End, journal: pathlib.Path) -> None:
     """Journals with which macsecd does not start."""
     octets = journal.read_bytes()
-    wrong = {"is too short": octets[:63], "is too long": octets + bytes(1 << 22), "is none": b"\0" + octets[1:]}
-    for text, each in wrong.items():
+    header, mark = octets[:64], bytes(40) + b"macsec journal: given up"
+    for text, each in (
+        ("is too short", octets[:63]),
+        ("is too long", octets + bytes(1 << 22)),
+        ("is none", b"\0" + octets[1:]),
+        ("has damage in record 1,", header + bytes(512)),
+        ("has damage in record 2,", header + mark + bytes(39) + b"x" + mark[40:] + 6 * mark),
+    ):
         journal.write_bytes(each)
-        status, found = run(end)
-        report(status == 2 and text in found[0], f"a journal that {text}: {found}")
-        report(end.run("macsec0").returncode != 0, f"macsecd starts with a journal that {text}")
+        check_journal(end, text)
+    journal.write_bytes(header + 7 * mark + bytes(512))
+    report(run(end) == (0, []), f"a journal of which a crash has torn the last records: {run(end)}")
     journal.write_bytes(octets)
     other = journal.with_suffix(".other")
     os.link(journal, other)
-    status, found = run(end)
-    report(status == 2 and "has another name too" in found[0], f"a journal of two names: {found}")
+    check_journal(end, "has another name too")
     other.unlink()
+    for mode, owner, text in (
+        (0o604, 0, "can be read or written by others"),
+        (0o620, 0, "can be read or written by others"),
+        (0o600, 65534, "belongs to another user than its folder"),
+    ):
+        journal.chmod(mode)
+        os.chown(journal, owner, owner)
+        check_journal(end, text)
+    journal.chmod(0o600)
+    os.chown(journal, 0, 0)
 
 
 def check_surroundings(end: End) -> None:
@@ -155,14 +177,10 @@ def check_surroundings(end: End) -> None:
     end.write_config()
     report(run(end) == (0, []), "--check has found something in a good configuration")
     report(run(end, str(end.config)) == (0, []), "--check of a path has found something in a good configuration")
-    os.chown(journal, 65534, 65534)
+    os.chown(journal.parent, 65534, 65534)
     status, found = run(end)
-    report(status == 2 and "belongs to another user than its folder" in found[0], f"another's journal: {found}")
-    os.chown(journal, 0, 0)
-    journal.chmod(0o666)
-    status, found = run(end)
-    report(status == 0 and "others may write the journal" in found[0], f"a journal of mode 0666: {found}")
-    journal.chmod(0o600)
+    report(status == 2 and "so macsecd can't write it" in found[0], f"a journal of root in another's folder: {found}")
+    os.chown(journal.parent, 0, 0)
     check_octets(end, journal)
     journal.rename(journal.with_suffix(".away"))
     status, found = run(end)

@@ -1,14 +1,19 @@
-"""The journals of a host: where they are, on which file systems, and keys that are in two of them."""
+"""The journals of a host: where they are, on which file systems, keys that are in two of them, and journals that are cut
+while macsecd runs."""
 
 from __future__ import annotations
 
+import fcntl
 import os
 import pathlib
 import shutil
+import signal
 import subprocess
 
-from house.reporting import report
-from macsecd_world import End, World, expect, ping_again
+from house import ROOT
+from house.compiling import WARNINGS
+from house.reporting import call, report, until
+from macsecd_world import End, World, expect, ping, ping_again
 
 
 def on(end: End, kind: str, *words: str) -> subprocess.CompletedProcess[str]:
@@ -63,7 +68,7 @@ def try_start(end: End, what: str, journal: pathlib.Path, peer: End) -> None:
     report(end.stop() == 0, f"macsecd with {what} does not end well")
 
 
-def check_keys(a: End, b: End) -> None:
+def check_keys(a: End, b: End, cuts: int) -> None:
     """A key for which another journal of the host has packet numbers."""
     own, other = arrange(a)
     try_start(a, "an empty folder beside", other, b)
@@ -91,15 +96,117 @@ def check_keys(a: End, b: End) -> None:
     (other.parent / "link.journal").symlink_to(own)
     (other.parent / "long.journal").write_bytes(bytes(5 << 20))
     os.mkfifo(other.parent / "fifo.journal")
+    (other.parent / "damaged.journal").write_bytes(used[:64] + bytes(64) + used[-512:])
     try_start(a, "other files and journals", other, b)
-    report("fifo.journal can't be read" in a.log(), f"no message about a file that can't be read: {a.log()}")
+    for text in ("fifo.journal can't be read", "damaged.journal has damage in record 1"):
+        report(text in a.log(), f"no message of a journal that {text}: {a.log()}")
+    check_cut(a, cuts)
 
 
-def check_journals(world: World) -> None:
-    """File systems and keys."""
+def next_of(end: End) -> int:
+    """The next packet number of its transmit association."""
+    return int(end.ask("numbers tx 0").split()[3], 16)
+
+
+def check_cut(a: End, cuts: int) -> None:
+    """A journal that is cut while macsecd runs is written again, without a new record too. So the next run begins above."""
+    journal = a.folder / "state/macsec0/macsec0.journal"
+    for number in range(cuts):
+        a.start()
+        ping(a, 1, seconds=0.1)
+        used, log, inode = next_of(a), len(a.log()), journal.stat().st_ino
+        os.truncate(journal, journal.stat().st_size * number // cuts)
+        noticed = until(lambda: journal.stat().st_ino != inode and "it is written again" in a.log()[log:], 5)
+        report(noticed, f"a journal that is cut is not written again: {a.log()[log:]}")
+        a.stop(signal.SIGKILL)
+        a.start()
+        report(next_of(a) >= used, f"after a journal was cut, {next_of(a)} is sent next, and {used} was before")
+        a.stop()
+
+
+# ---- Two starts at one time
+
+
+class Pair:
+    """Two NAMEs with one key, each with a link and a folder of its own, whose disk is slow."""
+
+    NAMES = "macsec0", "other1"
+
+    def __init__(self, world: World, milliseconds: int) -> None:
+        self.end = world.ends[0]
+        world.join("other0")
+        self.end.write_config()
+        other = self.end.config.with_name("other1.conf")
+        other.write_text(self.end.config.read_text().replace("device link link0", "device link other0"))
+        other.chmod(0o600)
+        preloaded, source = self.end.folder / "slow.so", ROOT / "device/tests/macsecd_disk.c"
+        call("gcc", *WARNINGS, "-O2", "-shared", "-fPIC", "-pthread", "-o", str(preloaded), str(source))
+        self.environment = {"LD_PRELOAD": str(preloaded), "SLOW": str(milliseconds)}
+
+    def folder(self, name: str) -> pathlib.Path:
+        """The folder of a journal."""
+        return self.end.folder / "both" / name
+
+    def create(self) -> None:
+        """Gives both new journals."""
+        shutil.rmtree(self.end.folder / "both", ignore_errors=True)
+        for name in self.NAMES:
+            self.folder(name).mkdir(mode=0o700, parents=True)
+            self.end.more_environment = {"STATE_DIRECTORY": str(self.folder(name))}
+            report(self.end.run("--create-journal", name).returncode == 0, f"no journal for {name}")
+
+    def start(self, *names: str, **more: str) -> dict[str, str]:
+        """Starts them at one time, and waits until each has ended or runs. Then all end. Returns what each has said."""
+        logs = {name: self.end.folder / f"{name}.log" for name in names}
+        processes = []
+        for name, path in logs.items():
+            environment = {
+                **self.end.environment,
+                **self.environment,
+                "STATE_DIRECTORY": str(self.folder(name)),
+                **more,
+            }
+            with open(path, "wb") as log:
+                words = [*self.end.enter, str(self.end.program), name]
+                processes.append(subprocess.Popen(words, stdin=subprocess.DEVNULL, stderr=log, env=environment))
+        for process, path in zip(processes, logs.values()):
+            until(lambda: process.poll() is not None or "protects" in path.read_text(), 60)
+        for process in processes:
+            process.kill()
+            process.wait()
+        return {name: path.read_text() for name, path in logs.items()}
+
+
+def check_starts(world: World, starts: int, milliseconds: int) -> None:
+    """Two devices with one key that start at one time never both run, and one of them does."""
+    pair, run = Pair(world, milliseconds), []
+    for _ in range(starts):
+        pair.create()
+        said = pair.start(*pair.NAMES)
+        run.append([name for name, text in said.items() if "protects" in text])
+        refused = [text for text in said.values() if "key 0 has packet numbers in" in text]
+        report(len(run[-1]) == len(refused) == 1, f"two devices with one key start at one time: {said}")
+    print(
+        f"journals: {starts} starts of two devices with one key: {run.count([])} with none, "
+        f"{sum(len(it) == 1 for it in run)} with one, {sum(len(it) == 2 for it in run)} with both",
+        flush=True,
+    )
+    # Somebody keeps the lock of a folder, which only its owner can open or anybody can.
+    pair.create()
+    held = os.open(pair.folder("other1"), os.O_RDONLY)
+    fcntl.flock(held, fcntl.LOCK_EX)
+    for mode, runs, text in ((0o700, False, "for 30 seconds: another device"), (0o755, True, "chmod 700")):
+        pair.folder("other1").chmod(mode)
+        said = pair.start("macsec0", HURRY="1")["macsec0"]
+        report(text in said and ("protects" in said) == runs, f"a locked folder of mode {mode:o}: {said}")
+    os.close(held)
+
+
+def check_journals(world: World, cuts: int) -> None:
+    """File systems, keys, and journals that are cut."""
     a, b = world.ends
     check_disks(a)
     b.write_config()
     b.create_journal()
     b.start()
-    check_keys(a, b)
+    check_keys(a, b, cuts)
