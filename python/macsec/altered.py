@@ -30,13 +30,13 @@ def cut_of(frame: bytes, tag: SecTag) -> Found | None:
     missing = tag.sl - max(len(frame) - tag.end - ICV_OCTETS, 0)
     if not 0 < tag.sl < 48 or missing <= 0:
         return None
-    text = f"{_octets(missing)} cut off the end of the frame, by its SL, or SL is wrong"
+    text = f"{_octets(missing)} cut off the end, as SL says, or SL is wrong"
     return Found((Change("cut", text),), missing=missing)
 
 
 def too_short(what: str, missing: int) -> Change:
     """The octets that a packet in the data counts and that the frame lacks."""
-    return Change("cut", f"{_octets(missing)} cut off the end of the frame, by {what} in its data")
+    return Change("cut", f"{_octets(missing)} cut off the end, as {what} says")
 
 
 def altered(setting: Setting, what: str) -> Change:

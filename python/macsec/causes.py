@@ -23,7 +23,7 @@ from .ways import MOST_WAYS, Way, covers_all, data_octets, near
 _MOST_TRIES, _FOR_A_FRAME, _MOST_WIDE, _MOST_PLACES = 200_000, 4, 1, 256
 # How many frames of a sender and association number are searched for in vain, and how many of a run; for how many more
 # few settings are tried. How many settings with other addresses are tried in vain for readable frames.
-_MOST_SEARCHES, _MOST_SEARCHES_OF_ALL, _MOST_QUICK, _MOST_QUICK_OF_ALL, _MOST_ADDRESSES = 4, 16, 128, 1024, 4_000
+_MOST_SEARCHES, _MOST_SEARCHES_OF_ALL, _MOST_QUICK, _MOST_QUICK_OF_ALL, _MOST_ADDRESSES = 4, 16, 64, 1024, 4_000
 # How many settings can open a frame without changes, how many are asked what its data show, and how many keys are.
 _MOST_STARTS, _MOST_LOOKS, _MOST_KEYS, _LONGEST_TRAILER = 16, 4, 8, 64
 # Causes after which a frame is still one of the association that CONFIG has.
@@ -67,11 +67,18 @@ class _Place:
 class _Asked:
     """A frame without VLAN tags before its SecTAG, where it belongs, and the settings that are tried first."""
 
-    def __init__(self, frame: bytes, tag: SecTag, place: _Place, next_number: int | None) -> None:
-        self.frame, self.tag, self.place = frame, tag, place
-        self.starts = [near(it, tag.pn, next_number) for it in place.starts]
+    def __init__(self, frame: bytes, tag: SecTag, verdict: Verdict, place: _Place, next_number: int | None) -> None:
+        self.frame, self.tag, self.verdict, self.place = frame, tag, verdict, place
+        self.starts, few = place.starts, place.starts[:_MOST_STARTS]
+        if next_number is not None:
+            self.starts = [near(it, tag.pn, next_number) for it in place.starts]
         # And as CONFIG has them before any frame.
-        self.alone = list(dict.fromkeys([*self.starts, *place.starts]))[:_MOST_STARTS]
+        self.alone = list(dict.fromkeys([*self.starts[:_MOST_STARTS], *few]))
+
+    @property
+    def has_good_tag(self) -> bool:
+        """Does a receiver take its SecTAG? Its sender can have made another one."""
+        return self.verdict not in (Verdict.BadTag, Verdict.Reserved)
 
     @property
     def is_low(self) -> bool:
@@ -125,7 +132,7 @@ class Search:
         if tag is None:
             return _behind(tags, None)
         if tags:
-            found = self.again(frame, sender, next_number)
+            found = self.again(frame, verdict, sender, next_number)
             if found:
                 return found
             verdict = self.configuration.alone(plain).verdict
@@ -134,16 +141,22 @@ class Search:
             self._sources.add(plain[6:12])
         return _behind(tags, found)
 
-    def again(self, frame: bytes, sender: Sender, next_number: int | None) -> Found | None:
+    def again(self, frame: bytes, verdict: Verdict, sender: Sender, next_number: int | None) -> Found | None:
         """The same, if a way opens the frame that opened another one."""
         plain, tags = without_vlan(frame)
+        for asked in self._asked(plain, verdict, sender, next_number):
+            found = self._by_ways(asked)
+            if found:
+                return _behind(tags, self._and_late(asked, found) if verdict == Verdict.Late else found)
+        return None
+
+    def _asked(self, plain: bytes, verdict: Verdict, sender: Sender, next_number: int | None) -> Iterator[_Asked]:
+        """A frame in each place of its sender."""
         tag = read_tag(plain)
         for state in _STATES if tag else ():
             place = self._places.get((sender, state))
-            found = self._by_ways(_Asked(plain, tag, place, next_number)) if tag and place else None
-            if found:
-                return _behind(tags, found)
-        return None
+            if tag and place:
+                yield _Asked(plain, tag, verdict, place, next_number)
 
     def in_vain(self, sender: Sender) -> int:
         """How many frames of a sender and association number were searched for in vain, with all settings."""
@@ -157,11 +170,10 @@ class Search:
         if cut:
             return cut
         place = self._place(frame, tag, verdict, sender)
-        asked = _Asked(frame, tag, place, next_number)
+        asked = _Asked(frame, tag, verdict, place, next_number)
         if verdict == Verdict.Late and (not is_alone or asked.is_low):
             return self._late(asked)
-        found = self._searched(asked, verdict)
-        return found or (Found(place.before) if place.before else None)
+        return self._searched(asked) or (Found(place.before, is_partial=True) if place.before else None)
 
     def _place(self, frame: bytes, tag: SecTag, verdict: Verdict, sender: Sender) -> _Place:
         """What is known of the sender of a frame, which can be nothing so far."""
@@ -189,13 +201,17 @@ class Search:
 
     def _late(self, asked: _Asked) -> Found | None:
         """Of a frame that is late: its ICV was not checked."""
-        alone = self.configuration.alone(asked.frame).verdict
-        if alone in OPENED:
+        if self.configuration.alone(asked.frame).verdict in OPENED:
             return Found((_REPLAY,))
-        found = self._searched(asked, Verdict.Late, 2)
-        if found is None:
-            return None
-        if alone == Verdict.Late and asked.is_low:
+        found = self._searched(asked, 2)
+        return self._and_late(asked, found) if found else None
+
+    def _and_late(self, asked: _Asked, found: Found) -> Found:
+        """The causes of a frame that is late, too."""
+        if found.number is not None and found.number >> 32 > asked.starts[0].upper:
+            # It is not late: the receiver takes it for one of an earlier upper half.
+            return found
+        if self.configuration.alone(asked.frame).verdict == Verdict.Late and asked.is_low:
             late = Change("pn", f"a lower packet number than {asked.place.lowest:x}, hex, in rxsa", asked.place.line)
             return found._replace(changes=(late, *found.changes))
         if {it.cause for it in found.changes} <= _OF_THE_SAME_NUMBERS:
@@ -203,7 +219,7 @@ class Search:
         # Another key or IV begins with numbers of its own.
         return found
 
-    def _searched(self, asked: _Asked, verdict: Verdict, most: int = 3) -> Found | None:
+    def _searched(self, asked: _Asked, most: int = 3) -> Found | None:
         found = self._by_ways(asked)
         if found:
             return found
@@ -211,10 +227,7 @@ class Search:
             if self._opens(start, asked.frame):
                 return self._new_way(asked, start, ())
         shown = self._by_data(asked)
-        if shown and (shown.setting or shown.missing or verdict not in (Verdict.BadTag, Verdict.Reserved)):
-            return shown
-        # That its data can be read does not show that it was altered: its sender can have made such a tag.
-        return self._by_search(asked, most)
+        return shown or self._by_search(asked, most)
 
     # What opened other frames.
 
@@ -266,7 +279,7 @@ class Search:
     def _of_another_sender(self, asked: _Asked) -> Found | None:
         """A frame whose SCI was altered: its data can be read under an SCI of CONFIG."""
         before, tag = asked.place.before, asked.tag
-        if tag.sci is None or "sci" not in [it.cause for it in before] or not tag.tci & 8:
+        if tag.sci is None or "sci" not in [it.cause for it in before] or not tag.tci & 8 or not asked.has_good_tag:
             return None
         for setting in self._associations.settings(tag.an)[:_MOST_LOOKS]:
             packet = packet_of(data_under(asked.frame, tag, setting, True))
@@ -313,13 +326,16 @@ class Search:
             option = self._addresses(asked, setting)
         if option:
             return self._new_way(asked, base, (*chosen, option))
-        if not is_right or self.is_spent:
+        # With a bad SecTAG, that data can be read does not show that they were altered.
+        if not is_right or self.is_spent or not asked.has_good_tag or not (tag.pn or setting.key.suite.is_extended):
             return None
         return Found((*before, *changes, altered(setting, packet.name)))
 
     def _against_bits(self, asked: _Asked, setting: Setting, is_search: bool) -> Change | None:
         """Is a frame encrypted although its bits say that it is not, or the other way round?"""
         frame, tag = asked.frame, asked.tag
+        if not asked.has_good_tag:
+            return None
         is_encrypted = not tag.tci & 8
         packet = packet_of(data_under(frame, tag, setting, is_encrypted))
         if packet is None and not is_search:
@@ -450,19 +466,16 @@ class Search:
             return False
         return not (any("offset" in given for _, given in chosen) and covers_all(made, asked.frame))
 
-    def widely(self, frame: bytes, sender: Sender, next_number: int | None) -> Found | None:
+    def widely(self, frame: bytes, verdict: Verdict, sender: Sender, next_number: int | None) -> Found | None:
         """The cause of a frame by the changes that take long to try: once in vain, and not if frames of its source are
         known to be read so."""
         plain, tags = without_vlan(frame)
-        tag = read_tag(plain)
-        if tag is None or plain[6:12] in self._sources:
+        if plain[6:12] in self._sources:
             return None
-        for state in _STATES:
-            place = self._places.get((sender, state))
-            asked = _Asked(plain, tag, place, next_number) if place else None
-            for start in asked.starts[:_MOST_LOOKS] if asked else ():
-                option = self._widely(asked, start) if asked and self._wide_left else None
-                if asked and option:
+        for asked in self._asked(plain, verdict, sender, next_number):
+            for start in asked.starts[:_MOST_LOOKS]:
+                option = self._widely(asked, start) if self._wide_left else None
+                if option:
                     return _behind(tags, self._new_way(asked, start, (option,)))
         return None
 
@@ -476,7 +489,7 @@ class Search:
         return None
 
     def tried(self, frame: bytes, sender: Sender) -> str:
-        """What was tried for a frame that no change opens."""
+        """What was tried for a frame that no change opens, at most."""
         plain, _ = without_vlan(frame)
         tag, place = read_tag(plain), self._places.get((sender, _USUAL))
         if tag is None or place is None or not place.starts:
@@ -492,7 +505,7 @@ class Search:
                 parts.append("all ports of the source address" if place.is_wide else "its usual ports")
         parts += ["addresses that the capture shows", "up to 64 octets cut off"]
         cut = "; the search was cut short" if self.is_spent else ""
-        return f"tried: {', '.join(parts)}{cut}"
+        return f"{', '.join(parts)}{cut}"
 
 
 def _behind(tags: bytes, found: Found | None) -> Found | None:
@@ -500,4 +513,4 @@ def _behind(tags: bytes, found: Found | None) -> Found | None:
     if not tags:
         return found
     change = Change("vlan", f"without the VLAN tag {tags.hex()} before the SecTAG")
-    return found._replace(changes=(change, *found.changes)) if found else Found((change,))
+    return found._replace(changes=(change, *found.changes)) if found else Found((change,), is_partial=True)

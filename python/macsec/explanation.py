@@ -4,6 +4,7 @@ from __future__ import annotations
 
 import collections
 import dataclasses
+import itertools
 from typing import Callable, Counter, NamedTuple, Optional
 
 from .causes import Search
@@ -11,14 +12,15 @@ from .frames import ICV_OCTETS, SecTag, ethertype, read_tag, without_vlan
 from .names import Verdict
 from .settings import Change, Found, Setting
 from .summary import frames_text, ranges
+from .ways import upper_half
 
 MOST_FRAMES = 20_000
 # A verdict, and an SCI with an association number or an EtherType.
 Kind = tuple[Verdict, str, Optional[int]]
 # Notes a frame that opens under a setting: its record, the setting of its IV, its whole packet number, octets and tag.
 Note = Callable[[int, Setting, int, bytes, SecTag], None]
-# Causes whose texts are of one frame. Groups are of the same causes then, and not of the same texts.
-_OF_FRAMES = ("vlan", "cut")
+# Causes whose texts are of one frame, and how many groups with such other texts there are.
+_OF_FRAMES, _MOST_ALIKE = ("vlan", "cut"), 8
 
 
 class Seen(NamedTuple):
@@ -114,32 +116,35 @@ class Explanation:
     def _causes(self) -> list[tuple[Kind, Seen, Found]]:
         """The causes of each frame that has some, in the order of the records; the others are unknown."""
         search = self._search
-        kinds = {each.record: kind for kind, seen in self._unopened.kinds.items() for each in seen}
-        frames = sorted(each for seen in self._unopened.kinds.values() for each in seen)
-        found = {it: search.of(it.frame, kinds[it.record][0], kinds[it.record][1:], it.next) for it in frames}
-        unsure = [it for it, one in found.items() if one is None or "bits" in [change.cause for change in one.changes]]
-        found.update((it, search.again(it.frame, kinds[it.record][1:], it.next) or found[it]) for it in unsure)
-        self._search_widely({it: kinds[it.record] for it in unsure if found[it] is None}, found)
+        frames = sorted((it.record, kind, it) for kind, seen in self._unopened.kinds.items() for it in seen)
+        found = {record: search.of(it.frame, kind[0], kind[1:], it.next) for record, kind, it in frames}
+        for record, kind, it in frames:
+            known = found[record]
+            if known is None or known.is_partial or "bits" in [change.cause for change in known.changes]:
+                found[record] = search.again(it.frame, kind[0], kind[1:], it.next) or known
+        self._search_widely(frames, found)
         made = []
-        for seen, it in found.items():
-            kind = kinds[seen.record]
-            if it is None:
-                self._unknown[kind].append(seen)
+        for record, kind, it in frames:
+            known = found[record]
+            if known is None:
+                self._unknown[kind].append(it)
                 continue
-            made.append((kind, seen, it))
-            self._note_iv(seen, it)
-            self._note_key(kind[1:], seen.record, it)
+            made.append((kind, it, known))
+            self._note_iv(it, known)
+            self._note_key(kind[1:], record, known)
         return made
 
-    def _search_widely(self, unknown: dict[Seen, Kind], found: dict[Seen, Found | None]) -> None:
-        """Searches for what takes long: for one frame of each sender, of most frames first."""
-        senders: dict[tuple[str, int | None], list[Seen]] = collections.defaultdict(list)
-        for each, kind in unknown.items():
-            senders[kind[1:]].append(each)
-        for sender, seen in sorted(senders.items(), key=lambda it: -len(it[1])):
-            found[seen[0]] = self._search.widely(seen[0].frame, sender, seen[0].next)
-            if found[seen[0]]:
-                found.update((it, self._search.again(it.frame, sender, it.next)) for it in seen[1:])
+    def _search_widely(self, frames: list[tuple[int, Kind, Seen]], found: dict[int, Found | None]) -> None:
+        """Searches for what takes long: for one frame of each kind that nothing opens, of that with most frames first."""
+        kinds: dict[Kind, list[Seen]] = collections.defaultdict(list)
+        for record, kind, it in frames:
+            known = found[record]
+            if known is None or known.is_partial:
+                kinds[kind].append(it)
+        for kind, seen in sorted(kinds.items(), key=lambda it: -len(it[1])):
+            first = self._search.widely(seen[0].frame, kind[0], kind[1:], seen[0].next)
+            for it in seen if first else ():
+                found[it.record] = self._search.again(it.frame, kind[0], kind[1:], it.next) or found[it.record]
 
     def _note_key(self, sender: tuple[str, int | None], record: int, found: Found) -> None:
         """Notes under which key a frame is."""
@@ -162,7 +167,13 @@ class Explanation:
     def _with_others(self, kind: Kind, seen: Seen, found: Found) -> _Explained:
         """With the causes that other frames show: a key that follows another one of the same association is a rekey."""
         changes = found.changes
-        if not changes and found.setting is not None:
+        expected = None if seen.next is None or found.number is None else upper_half(found.number % 2**32, seen.next)
+        if not changes and found.number is not None and expected is not None and found.number >> 32 > expected:
+            text = (
+                f"upper half {found.number >> 32:x} of the packet number, not {expected:x}: none before it was accepted"
+            )
+            changes = (Change("upper", text),)
+        elif not changes and found.setting is not None:
             earlier = self._unopened.accepted.get(hash(seen.frame))
             if earlier is not None and earlier < seen.record:
                 text = f"it repeats record {earlier}, from before the upper half of the numbers changed"
@@ -182,11 +193,17 @@ class Explanation:
 
     def _groups(self, kind: Kind) -> list[Group]:
         """The groups of a kind: frames with the same causes, and those without a known one."""
-        alike: dict[object, list[_Explained]] = {}
+        alike: dict[tuple[Change, ...], list[_Explained]] = collections.defaultdict(list)
         for it in self._explained[kind]:
-            key = tuple(one._replace(text="") if one.cause in _OF_FRAMES else one for one in it.changes)
-            alike.setdefault(key, []).append(it)
-        groups = [Group(*kind, [it.record for it in frames], self._together(kind, frames)) for frames in alike.values()]
+            alike[it.changes].append(it)
+        # Many groups that differ in what is of one frame alone are one.
+        likes: dict[tuple[Change, ...], list[list[_Explained]]] = collections.defaultdict(list)
+        for changes, frames in alike.items():
+            likes[tuple(it._replace(text="") if it.cause in _OF_FRAMES else it for it in changes)].append(frames)
+        groups = []
+        for several in likes.values():
+            joined = [sorted(itertools.chain.from_iterable(several))] if len(several) > _MOST_ALIKE else several
+            groups += [Group(*kind, [it.record for it in frames], self._together(kind, frames)) for frames in joined]
         unknown = self._unknown[kind]
         if unknown:
             groups.append(Group(*kind, [it.record for it in unknown], (), self._note_of(kind, unknown)))
@@ -225,9 +242,8 @@ class Explanation:
         if verdict == Verdict.Reserved:
             return "E is set and C is clear: not a data frame"
         tried, count = self._search.tried(frame, kind[1:]), self._search.in_vain(kind[1:])
-        if tried and count < len(unknown):
-            tried = f"{tried}; of {count} of them" if count else ""
-        after = f" ({tried})" if tried else ""
+        fewer = f" for {count} of them, and less for the others" if count < len(unknown) else ""
+        after = f" (tried{fewer}: {tried})" if tried else ""
         first = self._unopened.first_opened.get((sender, an))
         if first is not None and verdict in (Verdict.NotValid, Verdict.Invalid):
             return (

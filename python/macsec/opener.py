@@ -120,7 +120,7 @@ class Opener:
 
     def open(self, record: int, frame: bytes, fcs: int = 0) -> Opened:
         """Opens a frame, whose last octets can be announced as a frame check sequence."""
-        self.last = None
+        self.last = self.ivs.last = None
         is_cut = bool(fcs) or has_fcs(frame)
         whole = frame[:-_FCS] if is_cut else frame
         plain, tags = without_vlan(whole)

@@ -60,12 +60,14 @@ Option = tuple[Change, dict[str, object]]
 
 class Found(NamedTuple):
     """Why a frame does not open. `setting` opens it, and `number` is its whole packet number then; without a setting it
-    was not opened. `missing` octets were cut off."""
+    was not opened. `missing` octets were cut off. `is_partial`: is this a part of the cause, since nothing opened it?
+    """
 
     changes: tuple[Change, ...]
     setting: Setting | None = None
     number: int | None = None
     missing: int = 0
+    is_partial: bool = False
 
 
 def go_together(base: Setting, ways: Sequence[str]) -> bool:

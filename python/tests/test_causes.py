@@ -254,8 +254,16 @@ class Causes(InFolder):
         for count, more, expected in ((8, [], "icvlen 8,"), (4, [], "icvlen 12,"), (3, [], ""), (8, whole[5:], "")):
             frames = [it[:-count] for it in whole[:5]] + more
             told = main_of(main, self.put("CONFIG", text), self.put("IN", frames))[1]
-            self.assertIn(f"cut: {count} octets were cut off", told)
+            self.assertIn(f"cut: {count} octets were cut off the end", told)
             self.assertEqual(expected in told and "icvlen" in told, bool(expected), told)
+
+    def test_many_groups_that_differ_in_their_numbers_are_one(self) -> None:
+        whole = sealed(0x2C, True) * 2
+        for count, groups in ((8, 8), (12, 1)):
+            frames = [it[:-number] for number, it in enumerate(whole[:count], 1)]
+            text = self.put("CONFIG", PLAIN.replace(FAR, SENDER))
+            told = main_of(main, text, self.put("IN", frames))[1]
+            self.assertEqual((told.count("cut: "), told.count("others differ")), (groups, int(groups == 1)), told)
 
 
 class Packets(unittest.TestCase):

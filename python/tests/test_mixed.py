@@ -166,7 +166,7 @@ CAUSES = {
     "salt reversed": Cause(lambda it, pn: it.frame(pn, salt=SALT[::-1]), "salt", "", extended),
     "unknown salt": Cause(lambda it, pn: it.frame(pn, salt=bytes(12)), "unknown", "", extended),
     "upper half": Cause(lambda it, pn: it.frame(pn + (5 << 32)), "upper", "upper half", extended),
-    "suite": Cause(lambda it, pn: it.frame(pn, suite=Suite(it.suite - 2)), "suite", "gcm", extended),
+    "suite": Cause(lambda it, pn: it.frame(pn | 1, suite=Suite(it.suite - 2)), "suite", "gcm", extended),
     "another AN": Cause(lambda it, pn: it.frame(pn, an=3), "an", "AN 3 .*opens under key 0"),
     "another AN and key": Cause(lambda it, pn: it.frame(pn, GIVEN, an=3), "an|an key", "AN 3 .*--key 1"),
     "rewritten address": Cause(lambda it, pn: b"\x02\x77\0\0\0\x09" + it.frame(pn)[6:], "address", PEER.hex()),
@@ -286,7 +286,7 @@ class Mixed(Case):
         found = self.figures(len(CAUSES), "1")
         self.assertEqual(found.wrong, [])
         self.assertEqual({*found.found, *found.unnamed} - {""}, set(CAUSES))
-        self.assertLess(20 * found.unnamed.total(), found.found.total(), found.unnamed)
+        self.assertLess(20 * sum(found.unnamed.values()), sum(found.found.values()), found.unnamed)
 
     def test_one_cause_for_a_whole_group_is_noticed(self) -> None:
         with mock.patch.object(Search, "of", old_rule(Search.of)):
@@ -311,7 +311,7 @@ if __name__ == "__main__":
     case.setUp()
     made = case.figures(int(sys.argv[1]), sys.argv[2])
     print("".join(f"{it}\n" for it in made.wrong), end="")
-    print(f"{sys.argv[1]} captures, {made.found.total() + made.unnamed.total() + len(made.wrong)} frames: "
-          f"{len(made.wrong)} false causes, {made.unnamed.total()} frames without a cause that is known "
-          f"{dict(made.unnamed)}; {time.process_time() - began:.1f} s of processor")  # fmt: skip
+    found, unnamed = sum(made.found.values()), sum(made.unnamed.values())
+    print(f"{sys.argv[1]} captures, {found + unnamed + len(made.wrong)} frames: {len(made.wrong)} false causes, {unnamed} "
+          f"without a cause that is known {dict(made.unnamed)}; {time.process_time() - began:.1f} s of processor")  # fmt: skip
     case.doCleanups()
