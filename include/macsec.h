@@ -32,25 +32,26 @@
  * STATUS     Each call with a handle, except those that free it, returns a status: MACSEC_OK, or why nothing was done
  *            (MACSEC_E_..). In the second case nothing has changed, and the caller's output structs are unchanged,
  *            except that a macsec_sent, a macsec_received, the line of macsec_configure and of
- *            macsec_reserve_configure, and the answer of macsec_answer are always filled in. The handle is tested first
- *            (MACSEC_E_EMPTY, MACSEC_E_TAKEN), then the arguments (MACSEC_E_NO_SUCH_..), then the rest. If several
- *            statuses of arguments apply, or several refusals of a command, the call returns the lowest; but
- *            MACSEC_E_PN_FLOOR comes first where a journal is the reason.
- * MEMORY     macsec_new allocates 14 blocks by malloc, 19.1 MB in all: four for 4,096 keys, two for a frame, eight
- *            for the rest. macsec_free frees them. macsec_configure allocates the same, and so do macsec_reserve_open and
+ *            macsec_reserve_configure, the answer of macsec_answer, the command of macsec_parse_line and the
+ *            configuration of macsec_parse_end are always filled in. The handle is tested first (MACSEC_E_EMPTY,
+ *            MACSEC_E_TAKEN), then the arguments (MACSEC_E_NO_SUCH_..), then the rest. If several statuses of arguments
+ *            apply, or several refusals of a command, the call returns the lowest; but MACSEC_E_PN_FLOOR comes first
+ *            where a journal is the reason.
+ * MEMORY     macsec_new allocates 14 blocks by malloc, 19.1 MB in all: four for 4,096 keys, two for a frame, eight for
+ *            the rest. macsec_free frees them. macsec_configure allocates the same, and so do macsec_reserve_open and
  *            macsec_reserve_configure, with one more for a journal that has records. macsec_key_take allocates one
- *            block, and macsec_slot_new three. macsec_configure, macsec_reserve_configure, macsec_command_line and
- *            macsec_answer also allocate while they read their text, macsec_answer while it composes counters and
- *            packet numbers, and macsec_journal_compacted while it works, and free that before they return. No other
- *            call allocates, so no other call runs out of memory. malloc must align a block to each power of two up to
- *            16 that divides its size, as all C libraries do. It must return: no exception may be thrown through the
- *            library, which has no unwinding tables. The library overwrites a block before it frees it. For blocks of 1
- *            MB or more it asks the kernel for new pages (madvise), and overwrites them if the kernel refuses. The
- *            calls that take a key, a text or an association overwrite the stack that they used. An endpoint overwrites a
- *            key when it retires it (macsec_retire_key). A macsec_key, and a slot with a job, keep the octets of their
- *            key also after that. Registers, swap, core dumps and the caller's own copies are not covered. Give each
- *            call 96 KB of stack: the calls that create an endpoint took 66 KB on x86-64, the others 33 KB or less
- *            (measured, not proved).
+ *            block, and macsec_slot_new three. macsec_configure, macsec_reserve_configure, macsec_command_line,
+ *            macsec_parse_line, macsec_parse_end and macsec_answer also allocate while they read their text,
+ *            macsec_answer while it composes counters and packet numbers, and macsec_journal_compacted while it works,
+ *            and free that before they return. No other call allocates, so no other call runs out of memory. malloc
+ *            must align a block to each power of two up to 16 that divides its size, as all C libraries do. It must
+ *            return: no exception may be thrown through the library, which has no unwinding tables. The library
+ *            overwrites a block before it frees it. For blocks of 1 MB or more it asks the kernel for new pages
+ *            (madvise), and overwrites them if the kernel refuses. The calls that take a key, a text or an association
+ *            overwrite the stack that they used. An endpoint overwrites a key when it retires it (macsec_retire_key). A
+ *            macsec_key, and a slot with a job, keep the octets of their key also after that. Registers, swap, core
+ *            dumps and the caller's own copies are not covered. Give each call 96 KB of stack: the calls that create an
+ *            endpoint took 66 KB on x86-64, the others 33 KB or less (measured, not proved).
  * PROCESSOR  An x86-64 processor with SSSE3 (every x86-64-v2 has it). The library does not test for it: on another one
  *            the process ends with SIGILL.
  * HANDLES    A handle is the caller's memory, initialized with MACSEC_ENDPOINT_INIT (all zero). Do not copy, move or
@@ -106,8 +107,8 @@ extern "C" {
 
 /* The version of this header as text, as the pkg-config file has it, and as a number: 1,000,000 times its first
  * number, plus 1,000 times its second, plus its third. macsec_version() returns the number of the library. */
-#define MACSEC_VERSION "1.0.0"
-#define MACSEC_VERSION_NUMBER 1000000
+#define MACSEC_VERSION "1.1.0"
+#define MACSEC_VERSION_NUMBER 1001000
 
 /* The fewest and the most octets of a frame that is given to an endpoint. */
 #define MACSEC_FRAME_MIN 14
@@ -125,6 +126,7 @@ extern "C" {
 
 /* Statuses. 1 to 20 are the refusals of commands. */
 enum {
+    /* made: statuses of tools/families.json */
     MACSEC_OK = 0,
     MACSEC_E_KEY_LENGTH = 1,          /* the key has another length than its suite's keys */
     MACSEC_E_OFFSET = 2,              /* the suite's keys have no such confidentiality offset */
@@ -172,16 +174,20 @@ enum {
     MACSEC_E_ANSWER_LONG = 55,        /* the buffer is too small for the answer to the line */
     MACSEC_E_JOB = 56,                /* the slot has no such job, or it has a frame already */
     MACSEC_E_OTHER_KEY = 57,          /* the key is not the one that the job needs */
-    MACSEC_E_SPACE = 58               /* the buffer is too small for the frame */
+    MACSEC_E_SPACE = 58,              /* the buffer is too small for the frame */
+    MACSEC_E_NO_SUCH_COMMAND = 59     /* a macsec_command means nothing: its kind, flag or key is wrong */
+    /* end */
 };
 
 /* Cipher suites (clause 14). Only a key can have the default: the suite of the endpoint's configuration. */
 enum {
+    /* made: suites of tools/families.json */
     MACSEC_SUITE_DEFAULT = 0,
     MACSEC_SUITE_GCM_AES_128 = 1,
     MACSEC_SUITE_GCM_AES_256 = 2,
     MACSEC_SUITE_GCM_AES_XPN_128 = 3, /* extended packet numbers, of 64 bits */
     MACSEC_SUITE_GCM_AES_XPN_256 = 4
+    /* end */
 };
 
 /* Tag forms: which SecTAG a frame gets (9.5). */
@@ -199,19 +205,46 @@ enum {
     MACSEC_MODE_STRICT = 2    /* only valid frames are delivered */
 };
 
+/* Kinds of commands (10.7), as lines say them, and the members of a macsec_command that each uses. */
+enum macsec_command_kind {
+    /* made: commands of tools/families.json */
+    MACSEC_COMMAND_NONE = 0,       /* no command: the line is skipped */
+    MACSEC_COMMAND_PROTECT = 1,    /* protect: flag (on) */
+    MACSEC_COMMAND_VALIDATE = 2,   /* validate: choice (MACSEC_MODE_..) */
+    MACSEC_COMMAND_REPLAY = 3,     /* replay: flag (on), pn (the window) */
+    MACSEC_COMMAND_TAG = 4,        /* tag: choice (MACSEC_FORM_..) */
+    MACSEC_COMMAND_KEY = 5,        /* key: sak, key (the same as sak.number) */
+    MACSEC_COMMAND_RETIRE = 6,     /* retire: key */
+    MACSEC_COMMAND_TX_SA = 7,      /* txsa: an, key, pn (the first one), flag (conf) */
+    MACSEC_COMMAND_TX_ON = 8,      /* txon: an */
+    MACSEC_COMMAND_TX_OFF = 9,     /* txoff: an */
+    MACSEC_COMMAND_TX_DEL = 10,    /* txdel: an */
+    MACSEC_COMMAND_RX_SC = 11,     /* rxsc: sci */
+    MACSEC_COMMAND_RX_SC_DEL = 12, /* rxscdel: sci */
+    MACSEC_COMMAND_RX_SA = 13,     /* rxsa: sci, an, key, pn (the lowest acceptable one), ssci */
+    MACSEC_COMMAND_RX_ON = 14,     /* rxon: sci, an */
+    MACSEC_COMMAND_RX_OFF = 15,    /* rxoff: sci, an */
+    MACSEC_COMMAND_RX_LOW = 16,    /* rxlow: sci, an, pn (the lowest acceptable one) */
+    MACSEC_COMMAND_RX_DEL = 17     /* rxdel: sci, an */
+    /* end */
+};
+
 /* Fates of client frames. */
 enum {
+    /* made: fates of tools/families.json */
     MACSEC_FATE_NONE = 0,      /* the status is not MACSEC_OK */
     MACSEC_FATE_PROTECTED = 1, /* the frame is sent protected, under the key of number `key` */
     MACSEC_FATE_PLAIN = 2,     /* it is sent as it is: frames are not protected */
     MACSEC_FATE_NO_SA = 3,     /* dropped: no association is enabled, or the enabled one is exhausted */
     MACSEC_FATE_TOO_LONG = 4,  /* dropped: it would be longer than the configuration's largest frame */
     MACSEC_FATE_NO_RESERVATION = 5 /* dropped: its packet number is not reserved */
+    /* end */
 };
 
 /* Verdicts on link frames, named as their counters are, without InPkts (10.7). The last two are no verdicts of the
  * standard: an endpoint that reserves ahead of receiving drops the frame, and no counter counts it. */
 enum {
+    /* made: verdicts of tools/families.json */
     MACSEC_VERDICT_NONE = 0,        /* the status is not MACSEC_OK */
     MACSEC_VERDICT_UNTAGGED = 1,    /* no SecTAG; delivered */
     MACSEC_VERDICT_NO_TAG = 2,      /* no SecTAG; dropped */
@@ -227,6 +260,7 @@ enum {
     MACSEC_VERDICT_OK = 12,         /* valid and not late; delivered */
     MACSEC_VERDICT_NO_RESERVATION = 13, /* valid, but its packet number is not reserved yet; dropped */
     MACSEC_VERDICT_EARLIER_RUN = 14     /* valid, but an earlier run had reserved its packet number; dropped */
+    /* end */
 };
 
 /* A handle. Its member is the library's. */
@@ -265,6 +299,20 @@ typedef struct macsec_sak {
     uint8_t length;    /* 16 or 32 */
     uint8_t offset;    /* the confidentiality offset: 0, 30 or 50; 0 if packet numbers are extended */
 } macsec_sak;
+
+/* A command. Its kind says which other members it uses. */
+typedef struct macsec_command {
+    macsec_sak sak;  /* the key to be installed */
+    uint64_t pn;     /* a packet number, or the replay window */
+    uint8_t sci[8];  /* the SCI of a receive channel */
+    uint32_t ssci;   /* the sender's, if packet numbers are extended */
+    uint32_t kind;   /* MACSEC_COMMAND_.. */
+    uint32_t choice; /* MACSEC_MODE_.. or MACSEC_FORM_.. */
+    uint16_t key;    /* the number of a key: 0 to 4,095 */
+    uint8_t an;      /* an association number: 0 to 3 */
+    uint8_t flag;    /* on, or conf: 1 if so, else 0 */
+    uint64_t reserved[5];
+} macsec_command;
 
 /* What becomes of a client frame. */
 typedef struct macsec_sent {
@@ -328,6 +376,7 @@ typedef struct macsec_options {
 
 /* The endpoint's counters. All counters count modulo 2^64. */
 typedef struct macsec_counters {
+    /* made: endpoint-counters of tools/families.json */
     uint64_t in_pkts_untagged;
     uint64_t in_pkts_no_tag;
     uint64_t in_pkts_bad_tag;
@@ -340,19 +389,23 @@ typedef struct macsec_counters {
     uint64_t out_pkts_too_long;
     uint64_t out_pkts_no_sa;
     uint64_t reserved[5];
+    /* end */
 } macsec_counters;
 
 /* The transmit channel's counters. */
 typedef struct macsec_tx_counters {
+    /* made: tx-counters of tools/families.json */
     uint64_t out_pkts_protected;
     uint64_t out_pkts_encrypted;
     uint64_t out_octets_protected;
     uint64_t out_octets_encrypted;
     uint64_t reserved[4];
+    /* end */
 } macsec_tx_counters;
 
 /* The counters of a receive channel, of one of its SAs, or of its deleted SAs together. */
 typedef struct macsec_rx_counters {
+    /* made: rx-counters of tools/families.json */
     uint64_t in_pkts_ok;
     uint64_t in_pkts_unchecked;
     uint64_t in_pkts_delayed;
@@ -360,6 +413,7 @@ typedef struct macsec_rx_counters {
     uint64_t in_pkts_invalid;
     uint64_t in_pkts_not_valid;
     uint64_t reserved[10];
+    /* end */
 } macsec_rx_counters;
 
 /* A transmit association. Its next packet number is `next`, and 2^64 more if `next_high` is 1: it is one past the
@@ -471,9 +525,9 @@ static inline uint32_t macsec_receive(macsec_endpoint *e, const uint8_t *frame, 
  *     macsec_finish_receive(&a, &slot, out, sizeof out, &finished); // in the endpoint's thread
  *
  * The caller owes what it owes for an endpoint: HANDLES, POINTERS and THREADS hold for keys and slots too. So each key
- * and each slot is in one call at a time, and passes from thread to thread by a lock or by a thread's start or join. The
- * library refuses everything else: a job that is not there or that was done (MACSEC_E_JOB), and every key but the one
- * of the plan (MACSEC_E_OTHER_KEY).
+ * and each slot is in one call at a time, and passes from thread to thread by a lock or by a thread's start or join.
+ * The library refuses everything else: a job that is not there or that was done (MACSEC_E_JOB), and every key but the
+ * one of the plan (MACSEC_E_OTHER_KEY).
  *
  * ORDER      Transmit sealed frames in the order of their plans, and finish link frames in the order of their arrival:
  *            a replay window of 0 drops what was overtaken. A plan uses its packet number, also if it is never sealed.
@@ -569,8 +623,8 @@ uint32_t macsec_set_tag_form(macsec_endpoint *e, uint32_t form);
  * endpoint, or the next run of the program, knows nothing of the key: see macsec_add_tx_sa. */
 uint32_t macsec_install_key(macsec_endpoint *e, const macsec_sak *key);
 /* Retire a key that no association uses: no new association may use it. The endpoint overwrites its octets, and what it
- * had computed from them. Of the key only a fingerprint stays, by which the octets are still refused: the first octets of
- * a SHA-256 digest, as many as the key had. */
+ * had computed from them. Of the key only a fingerprint stays, by which the octets are still refused: the first octets
+ * of a SHA-256 digest, as many as the key had. */
 uint32_t macsec_retire_key(macsec_endpoint *e, uint16_t key);
 
 /* Create a transmit association (an: 0 to 3), disabled, whose first packet number is `next`; it encrypts if `conf`,
@@ -604,11 +658,43 @@ static inline uint32_t macsec_command_line(macsec_endpoint *e, const uint8_t *te
     return macsec_command_line_raw(e, macsec_octets(text, length), length);
 }
 
+uint32_t macsec_parse_line_raw(const uint8_t *text, size_t length, macsec_command *command);
+/* The command of such a line, as a struct. A caller can look at it, allow it or not, change it, and give it to
+ * macsec_carry_out. Members that its kind does not use are 0. A skipped line is a MACSEC_COMMAND_NONE. The statuses are
+ * those of macsec_command_line for a line that is wrong, or MACSEC_E_MEMORY. Then all of `command` is 0, as for a
+ * skipped line: carry out nothing after another status than MACSEC_OK.
+ *
+ * A key line puts a key into `command`: overwrite it with macsec_clear_command. Proved, of a handle that holds an
+ * endpoint: a line that is parsed, and then carried out as it is, does what macsec_command_line does
+ * (crates/macsec_c/specs/RowLaws.antt). */
+static inline uint32_t macsec_parse_line(const uint8_t *text, size_t length, macsec_command *command) {
+    return macsec_parse_line_raw(macsec_octets(text, length), length, command);
+}
+
+uint32_t macsec_parse_end_raw(const uint8_t *text, size_t length, macsec_config *config);
+/* The configuration of the line `end A SUITE SCI MAX FORM`, for macsec_new. The first status that applies: what is
+ * wrong with a line of its kind; MACSEC_E_LINE_ENDS if its tag form does not fit its SCI, or if it is another line,
+ * also a skipped one. Or MACSEC_E_MEMORY. After every status but MACSEC_OK all of `config` is 0, which macsec_new
+ * refuses. */
+static inline uint32_t macsec_parse_end(const uint8_t *text, size_t length, macsec_config *config) {
+    return macsec_parse_end_raw(macsec_octets(text, length), length, config);
+}
+
+/* Carries out the command that a struct means. A MACSEC_COMMAND_NONE does nothing. Members that the kind does not use
+ * have no effect. Leave the reserved ones 0, as macsec_parse_line and macsec_clear_command do. MACSEC_E_NO_SUCH_COMMAND
+ * if there is no such kind, if the flag of a kind that uses it is neither 0 nor 1, or if the `key` of a
+ * MACSEC_COMMAND_KEY is not `sak.number`. The other statuses are those of the command's own call; for a key, those of
+ * macsec_install_key with `sak`. */
+uint32_t macsec_carry_out(macsec_endpoint *e, const macsec_command *command);
+
+/* Overwrites a command with zeros, and so the key in it. The caller's copies of it stay. */
+void macsec_clear_command(macsec_command *command);
+
 uint32_t macsec_answer_raw(macsec_endpoint *e, uint32_t number, const uint8_t *text, size_t text_length, uint8_t *out,
                            size_t out_length, size_t *written);
-/* The same with the text that `macsec run` prints, and `A counters` and `A numbers` too: carries out line `number` of a
- * script at end A, and writes its text to `out`, which has `room` octets. `written` is how many octets are written; no
- * zero octet is added. The text depends on the number and on the endpoint, and on nothing else.
+/* As macsec_command_line, with the text that `macsec run` prints, and `A counters` and `A numbers` too: does line
+ * `number` of a script at end A, and writes its text to `out`, which has `room` octets. `written` is how many octets
+ * are written; no zero octet is added. The text depends on the number and on the endpoint, and on nothing else.
  *
  *     a command               `3 done`, or `3 refused 5 NoKey` with the status of the refusal
  *     A counters, A numbers   a line for each counter, or for each association
@@ -722,8 +808,8 @@ static inline uint32_t macsec_reserve_configure(macsec_endpoint *e, const uint8_
  * MACSEC_E_NOT_FOUND if there is no such association, or if half of `amount` are still reserved for it. */
 uint32_t macsec_reserve_wanted(const macsec_endpoint *e, uint8_t an, uint64_t amount, macsec_record *out);
 /* The record to write next for a receive association of an endpoint with `ahead`: it reserves the numbers up to the
- * next one plus `amount`, where the next one is the association's own, or `pn` if that is higher: the packet number of a
- * frame that was dropped, or 0. MACSEC_E_NOT_FOUND if there is no such association, or if half of `amount` are still
+ * next one plus `amount`, where the next one is the association's own, or `pn` if that is higher: the packet number of
+ * a frame that was dropped, or 0. MACSEC_E_NOT_FOUND if there is no such association, or if half of `amount` are still
  * reserved for it. */
 uint32_t macsec_reserve_to_accept(const macsec_endpoint *e, const uint8_t sci[8], uint8_t an, uint64_t amount,
                                   uint64_t pn, macsec_record *out);
@@ -769,6 +855,7 @@ static inline uint32_t macsec_seal(const macsec_sak *key, const uint8_t sci[8], 
 
 static inline const char *macsec_status_name(uint32_t status) {
     switch (status) {
+        /* made: names-of-statuses of tools/families.json */
         case MACSEC_OK: return "OK";
         case MACSEC_E_KEY_LENGTH: return "KeyLength";
         case MACSEC_E_OFFSET: return "Offset";
@@ -817,12 +904,15 @@ static inline const char *macsec_status_name(uint32_t status) {
         case MACSEC_E_JOB: return "Job";
         case MACSEC_E_OTHER_KEY: return "OtherKey";
         case MACSEC_E_SPACE: return "Space";
+        case MACSEC_E_NO_SUCH_COMMAND: return "NoSuchCommand";
+        /* end */
         default: return "unknown";
     }
 }
 
 static inline const char *macsec_verdict_name(uint32_t verdict) {
     switch (verdict) {
+        /* made: names-of-verdicts of tools/families.json */
         case MACSEC_VERDICT_NONE: return "None";
         case MACSEC_VERDICT_UNTAGGED: return "Untagged";
         case MACSEC_VERDICT_NO_TAG: return "NoTag";
@@ -838,29 +928,34 @@ static inline const char *macsec_verdict_name(uint32_t verdict) {
         case MACSEC_VERDICT_OK: return "OK";
         case MACSEC_VERDICT_NO_RESERVATION: return "NoReservation";
         case MACSEC_VERDICT_EARLIER_RUN: return "EarlierRun";
+        /* end */
         default: return "unknown";
     }
 }
 
 static inline const char *macsec_fate_name(uint32_t fate) {
     switch (fate) {
+        /* made: names-of-fates of tools/families.json */
         case MACSEC_FATE_NONE: return "None";
         case MACSEC_FATE_PROTECTED: return "Protected";
         case MACSEC_FATE_PLAIN: return "Plain";
         case MACSEC_FATE_NO_SA: return "NoSA";
         case MACSEC_FATE_TOO_LONG: return "TooLong";
         case MACSEC_FATE_NO_RESERVATION: return "NoReservation";
+        /* end */
         default: return "unknown";
     }
 }
 
 static inline const char *macsec_suite_name(uint32_t suite) {
     switch (suite) {
+        /* made: names-of-suites of tools/families.json */
         case MACSEC_SUITE_DEFAULT: return "default";
         case MACSEC_SUITE_GCM_AES_128: return "gcm128";
         case MACSEC_SUITE_GCM_AES_256: return "gcm256";
         case MACSEC_SUITE_GCM_AES_XPN_128: return "xpn128";
         case MACSEC_SUITE_GCM_AES_XPN_256: return "xpn256";
+        /* end */
         default: return "unknown";
     }
 }

@@ -1,13 +1,17 @@
 -- The key schedule.
-use Rattle.std.proofs.Common.{◌≡◌, ◌≤◌, ◌<◌, ◌+◌, ◌-◌, ◌*◌, ℕ, zero, suc, ◌/◌, List, [], ◌∷◌, ◌++◌, take, drop, map, length, get_or}
-use Rattle.std.proofs.Common.{set, ◌⊎◌, inl, inr, arith, refl, ap, ◌∙◌, sym, add-one, add-zero, length-append, take-add}
-use Rattle.std.proofs.lemmas.List.{get_or-take, take-take, take-append-le, take_all, drop_more, take_more_set, append-nil}
-use Rattle.std.proofs.lemmas.List.FromFn.{map-range_with_len_more, length-map-range_with_len}
-use Rattle.std.proofs.lemmas.List.Folds.{concat-append}
+use Rattle.std.proofs.{
+  Common.{◌≡◌, ◌≤◌, ◌<◌, ◌+◌, ◌-◌, ◌*◌, ℕ, zero, suc, ◌/◌, List, [], ◌∷◌, ◌++◌, take, drop, map, length, get_or, set},
+  Common.{◌⊎◌, inl, inr, arith, refl, ap, ◌∙◌, sym, add-one, add-zero, length-append, take-add, get_or-take, take-take},
+  Common.{take_all, append-nil},
+  lemmas.List.{take-append-le, drop_more, take_more_set},
+  lemmas.List.{Folds.concat-append, FromFn.{map-range_with_len_more, length-map-range_with_len}},
+}
 use Rattle.std.specs.List.{concat, range_with_len}
-use Rattle.macsec_aes.specs.Schedule.{IsSchedule, key_of}
-use Rattle.macsec_aes.specs.Aes.{schedule_of, word, rounds_of, key_words, key_expansion, added_word, sum_of_words}
-use Rattle.macsec_aes.specs.Aes.{after_rounds, add_round_key, mix_columns, shift_rows, sub_bytes, round_key}
+use Rattle.macsec_aes.specs.{
+  Aes.{schedule_of, word, rounds_of, key_words, key_expansion, added_word, sum_of_words, after_rounds, add_round_key},
+  Aes.{mix_columns, shift_rows, sub_bytes, round_key},
+  Schedule.{IsSchedule, key_of},
+}
 
 -- ---- reading a schedule
 

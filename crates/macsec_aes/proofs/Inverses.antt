@@ -1,17 +1,19 @@
 -- Inverses of bytes, from a table. That its entries are inverses is computed over the bytes with one bit set.
-use Rattle.std.proofs.Common.{◌≡◌, ℕ, zero, suc, ◌+◌, ◌-◌, ◌%◌, ◌^◌, ◌<◌, true, false, inl, inr, Option, None, Some}
-use Rattle.std.proofs.Common.{List, [], ◌∷◌, map, length, get_or, unwrap_or, refl, sym, subst, ap, ◌∙◌, arith}
-use Rattle.std.specs.Prelude.{◌==◌, Bool, position}
-use Rattle.std.proofs.lemmas.Bool.{lt-ltb}
-use Rattle.std.proofs.lemmas.Bool.Decides.{eqb_tells}
-use Rattle.std.proofs.lemmas.List.FromFn.{get_or-range_with_len, get_or-map-range_with_len}
-use Rattle.std.proofs.lemmas.List.Quantifiers.{position-Some}
-use Rattle.std.proofs.lemmas.List.Sums.{position_or_len_is}
+use Rattle.std.proofs.{
+  Common.{◌≡◌, ℕ, zero, suc, ◌+◌, ◌-◌, ◌%◌, ◌^◌, ◌<◌, true, false, inl, inr, Option, None, Some, List, [], ◌∷◌, map},
+  Common.{length, get_or, unwrap_or, refl, sym, subst, ap, ◌∙◌, arith, ◌==◌, Bool, position, lt-ltb},
+  lemmas.Bool.Decides.eqb_tells,
+  lemmas.List.{
+    FromFn.{get_or-range_with_len, get_or-map-range_with_len},
+    Quantifiers.position-Some,
+    Sums.position_or_len_is,
+  },
+}
 use Rattle.std.specs.List.{range_with_len, position_or_len}
-use Rattle.macsec_aes.specs.Field.{sum_below, polynomial_product, remainder, byte_product, inverse}
-use Rattle.macsec_aes.specs.Laws.{InverseIsByte, OneInverse}
-use Rattle.macsec_aes.proofs.Products.{same_from_ones, byte_product_adds}
-use Rattle.macsec_aes.proofs.Tables.{same_below}
+use Rattle.macsec_aes.{
+  proofs.{Products.{same_from_ones, byte_product_adds}, Tables.same_below},
+  specs.{Field.{sum_below, polynomial_product, remainder, byte_product, inverse}, Laws.{InverseIsByte, OneInverse}},
+}
 
 pub inverse_is_byte : InverseIsByte
 unfolding inverse

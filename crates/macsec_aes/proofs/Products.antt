@@ -1,11 +1,10 @@
 -- The product of bytes is additive in its second factor.
-use Rattle.std.proofs.Common.{◌≡◌, ℕ, zero, suc, ◌+◌, ◌*◌, ◌/◌, ◌%◌, ◌^◌, ◌<◌, ◌⊎◌, inl, inr, bit_xor, refl, sym, ap, ◌∙◌, arith}
-use Rattle.std.specs.Int.{bit_at}
-use Rattle.std.specs.Int.Bits.{xor_zero_r, xor_zero_l, xor_assoc, xor_self}
-use Rattle.std.proofs.lemmas.Nat.{xor_comm, xor_block, pow_pos, div_below}
-use Rattle.std.proofs.lemmas.Nat.Bits.{bit_at_xor, bit_at-lt}
-use Rattle.std.proofs.Math.Nat.{mul_comm}
-use Rattle.std.proofs.lemmas.Grind.{pow_more}
+use Rattle.std.proofs.{
+  Common.{◌≡◌, ℕ, zero, suc, ◌+◌, ◌*◌, ◌/◌, ◌%◌, ◌^◌, ◌<◌, ◌⊎◌, inl, inr, bit_xor, refl, sym, ap, ◌∙◌, arith, pow_pos},
+  Math.Nat.mul_comm,
+  lemmas.{Grind.pow_more, Nat.{xor_comm, xor_block, div_below, Bits.{bit_at_xor, bit_at-lt}}},
+}
+use Rattle.std.specs.Int.{bit_at, Bits.{xor_zero_r, xor_zero_l, xor_assoc, xor_self}}
 use Rattle.macsec_aes.specs.Field.{sum_below, polynomial_product, remainder, byte_product, modulus}
 
 pub record IsAdditive (f : ℕ → ℕ) : Type 0 where

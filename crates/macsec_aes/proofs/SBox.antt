@@ -1,14 +1,13 @@
 -- The S-box table of the code is the S-box, by the table of inverses.
-use Rattle.std.proofs.Common.{◌≡◌, ℕ, ◌<◌, ◌≤◌, ◌+◌, ◌/◌, map, get_or, refl, sym, ap, ◌∙◌, inl, inr, arith, bit_xor}
-use Rattle.std.proofs.lemmas.Nat.{xor_lt}
-use Rattle.std.proofs.lemmas.Bool.Decides.{eqb_tells}
-use Rattle.std.specs.Int.Bits.{xor_zero_r, xor_zero_l, xor_assoc, xor_self}
-use Rattle.std.proofs.lemmas.List.FromFn.{fill_by_all}
-use Rattle.std.specs.List.{range_with_len}
-use Rattle.macsec_aes.specs.declared.TheConstants.{S_BOX}
-use Rattle.macsec_aes.specs.Field.{sum_below, affine_transformation, s_box}
-use Rattle.macsec_aes.proofs.Tables.{same_below}
-use Rattle.macsec_aes.proofs.Inverses.{entries, entry, inverse_is_entry}
+use Rattle.std.{
+  proofs.Common.{◌≡◌, ℕ, ◌<◌, ◌≤◌, ◌+◌, ◌/◌, map, get_or, refl, sym, ap, ◌∙◌, inl, inr, arith, bit_xor},
+  proofs.lemmas.{Bool.Decides.eqb_tells, List.FromFn.fill_by_all, Nat.xor_lt},
+  specs.{Int.Bits.{xor_zero_r, xor_zero_l, xor_assoc, xor_self}, List.range_with_len},
+}
+use Rattle.macsec_aes.{
+  proofs.{Inverses.{entries, entry, inverse_is_entry}, Tables.same_below},
+  specs.{Field.{sum_below, affine_transformation, s_box}, declared.TheConstants.S_BOX},
+}
 
 S_BOX-by_entry : (a : ℕ) → a < 256 → get_or S_BOX a 0 ≡ affine_transformation (entry a)
 unfolding affine_transformation sum_below entry entries

@@ -1,10 +1,13 @@
 -- The tables of the code, and the products with 02 and 03, computed over all bytes.
-use Rattle.std.proofs.Common.{sym, ◌*◌, ◌/◌, ◌%◌, ◌^◌, bit_xor, ◌≡◌, ℕ, ◌<◌, List, map, get_or, refl, ap, ◌∙◌, rules}
-use Rattle.std.proofs.lemmas.List.FromFn.{get_or-map-range_with_len}
-use Rattle.std.specs.Fn.{iterate}
-use Rattle.std.specs.List.{range_with_len}
-use Rattle.macsec_aes.specs.declared.TheConstants.{ROUND_CONSTANTS}
-use Rattle.macsec_aes.specs.Field.{polynomial_product, remainder, sum_below, byte_product}
+use Rattle.std.{
+  proofs.Common.{sym, ◌*◌, ◌/◌, ◌%◌, ◌^◌, bit_xor, ◌≡◌, ℕ, ◌<◌, List, map, get_or, refl, ap, ◌∙◌, rules},
+  proofs.lemmas.List.FromFn.get_or-map-range_with_len,
+  specs.{Fn.iterate, List.range_with_len},
+}
+use Rattle.macsec_aes.specs.{
+  Field.{polynomial_product, remainder, sum_below, byte_product},
+  declared.TheConstants.ROUND_CONSTANTS,
+}
 
 -- two functions that agree on a table agree below its length
 pub same_below : (f g : ℕ → ℕ) (n : ℕ) → map f (range_with_len 0 n) ≡ map g (range_with_len 0 n) → (a : ℕ) → a < n → f a ≡ g a

@@ -1,9 +1,6 @@
 -- The blocks in the halves of planes of 32 lanes.
-use Rattle.std.proofs.Common.{◌≡◌, ℕ, ◌+◌, ◌*◌, ◌<◌, List, slice_index, ap, ◌∙◌, arith, rules}
-use Rattle.std.proofs.lemmas.List.FromFn.{get_or-map-range_with_len}
-use Rattle.macsec_aes_lanes.specs.Lanes.{lane_of}
-use Rattle.macsec_aes_lanes.specs.Planes.{octet}
-use Rattle.macsec_aes_lanes.specs.Wide.{block_in_half, byte_in_half}
+use Rattle.macsec_aes_lanes.proofs.Names.{◌*◌, ◌+◌, ◌<◌, ◌∙◌, ◌≡◌, ap, arith, block_in_half, byte_in_half}
+use Rattle.macsec_aes_lanes.proofs.Names.{get_or-map-range_with_len, lane_of, List, octet, rules, slice_index, ℕ}
 
 pub half-lt : (h j : ℕ) → h < 2 → j < 16 → 16 * h + j < 32
 half-lt h j lh lj = omega arith

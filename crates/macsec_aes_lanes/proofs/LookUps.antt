@@ -1,15 +1,16 @@
 -- The look-ups of nibbles, computed for each byte.
-use Rattle.std.proofs.Common.{◌≡◌, ℕ, ◌/◌, ◌%◌, ◌<◌, List, [], ◌∷◌, map, bit_xor, refl, ap, ◌∙◌, arith, rules, slice_index}
-use Rattle.std.proofs.lemmas.List.FromFn.{get_or-map-range_with_len}
-use Rattle.std.specs.List.{range_with_len}
-use Rattle.macsec_aes.specs.Field.{sum_below, polynomial_product, remainder, byte_product, s_box}
-use Rattle.macsec_aes.proofs.SBox.{S_BOX_lem}
-use Rattle.macsec_aes_lanes.specs.AffineConstant.{plus_constant}
-use Rattle.macsec_aes_lanes.specs.Nibbles.{IsPlace, entry, first_sum, second_sum, left_part, right_part, represented}
-use Rattle.macsec_aes_lanes.specs.Tower.{linear}
-use Rattle.macsec_aes_lanes.specs.declared.nibbles.TheConstants.{FROM_LEFT, FROM_RIGHT, ONCE_LEFT, ONCE_RIGHT, TWICE_LEFT, TWICE_RIGHT, LAST_LEFT, LAST_RIGHT}
-use Rattle.macsec_aes_lanes.proofs.Below.{same_below}
-use Rattle.macsec_aes_lanes.proofs.Places.{place_from, place_test}
+use Rattle.macsec_aes_lanes.proofs.{
+  Names.{[], ◌%◌, ◌/◌, ◌<◌, ◌∙◌, ◌∷◌, ◌≡◌, ap, arith, bit_xor, byte_product, entry, get_or-map-range_with_len, IsPlace},
+  Names.{linear, List, map, plus_constant, polynomial_product, range_with_len, refl, remainder, represented, rules},
+  Names.{s_box, S_BOX_lem, slice_index, sum_below, ℕ},
+  Below.same_below,
+  Places.{place_from, place_test},
+}
+use Rattle.macsec_aes_lanes.specs.{
+  Nibbles.{first_sum, second_sum, left_part, right_part},
+  declared.nibbles.TheConstants.{FROM_LEFT, FROM_RIGHT, ONCE_LEFT, ONCE_RIGHT, TWICE_LEFT, TWICE_RIGHT, LAST_LEFT},
+  declared.nibbles.TheConstants.LAST_RIGHT,
+}
 
 -- ---- each look-up is at a nibble or at infinity
 

@@ -1,11 +1,10 @@
 -- The round keys for look-ups, by their index.
-use Rattle.std.proofs.Common.{◌≡◌, ℕ, ◌+◌, ◌<◌, ◌≢◌, List, [], length, slice_index, slice_index_or, slice_set, inl, inr, ◌∙◌, arith}
-use Rattle.std.proofs.lemmas.Bool.{cases_lt}
-use Rattle.std.proofs.lemmas.List.{get_or-set_other, get_or-set_same}
-use Rattle.macsec_aes_lanes.specs.AffineConstant.{kept_round_key}
-use Rattle.macsec_aes_lanes.specs.Nibbles.{represented, state_of}
-use Rattle.macsec_aes_lanes.proofs.NibbleRounds.{kept_is_block}
-use Rattle.macsec_aes_lanes.proofs.Octets.{same_blocks}
+use Rattle.macsec_aes_lanes.proofs.{
+  Names.{[], ◌+◌, ◌<◌, ◌∙◌, ◌≡◌, ◌≢◌, arith, cases_lt, get_or-set_other, get_or-set_same, inl, inr, kept_round_key},
+  Names.{length, List, represented, slice_index, slice_index_or, slice_set, state_of, ℕ},
+  NibbleRounds.kept_is_block,
+  Octets.same_blocks,
+}
 
 -- what represents a round key
 pub state_of_key : (ws : List (List ℕ)) (r : ℕ) (key made : List ℕ) → key ≡ kept_round_key ws r

@@ -1,17 +1,12 @@
 -- The bytes of two states through the rounds.
-use Rattle.std.proofs.Common.{◌≡◌, ℕ, zero, suc, ◌+◌, ◌*◌, ◌/◌, ◌%◌, ◌<◌, List, map, bit_xor, slice_index, slice_index_or, sym, ap, ap₂, ◌∙◌, arith, rules, []}
-use Rattle.std.specs.List.{range_with_len}
-use Rattle.std.specs.Int.Bits.{xor_assoc}
-use Rattle.std.proofs.lemmas.Nat.{xor_comm}
-use Rattle.std.proofs.lemmas.List.FromFn.{get_or-map-range_with_len}
-use Rattle.macsec_aes.specs.Aes.{add_round_key, round_key, shift_rows, sub_bytes}
-use Rattle.macsec_aes.specs.Field.{byte_product, s_box}
-use Rattle.macsec_aes.proofs.States.{place}
-use Rattle.macsec_aes.proofs.Tables.{triple_is}
-use Rattle.macsec_aes_lanes.specs.AffineConstant.{kept_round_key, plus_constant, with_constant}
-use Rattle.macsec_aes_lanes.specs.Nibbles.{block_in, byte_below, byte_shifted, represented, state_in}
-use Rattle.macsec_aes_lanes.proofs.ConstantKept.{byte_substituted, byte_with_constant, swapped}
-use Rattle.macsec_aes_lanes.proofs.Octets.{same_blocks}
+use Rattle.macsec_aes_lanes.proofs.{
+  Names.{[], ◌%◌, ◌*◌, ◌+◌, ◌/◌, ◌<◌, ◌∙◌, ◌≡◌, add_round_key, ap, ap₂, arith, bit_xor, block_in, byte_below},
+  Names.{byte_product, byte_shifted, get_or-map-range_with_len, kept_round_key, List, map, place, plus_constant},
+  Names.{range_with_len, represented, round_key, rules, s_box, shift_rows, slice_index, slice_index_or, state_in},
+  Names.{sub_bytes, suc, sym, triple_is, with_constant, xor_assoc, xor_comm, zero, ℕ},
+  ConstantKept.{byte_substituted, byte_with_constant, swapped},
+  Octets.same_blocks,
+}
 
 pub byte_at : (f : ℕ → ℕ) (m : ℕ) → m < 16 → slice_index (map f (range_with_len 0 16)) m ≡ f m
 byte_at f m lt = get_or-map-range_with_len f 0 16 m m 0 lt (search rules)

@@ -1,9 +1,9 @@
 -- What is looked up at a nibble, and at infinity.
-use Rattle.std.proofs.Common.{◌≡◌, ℕ, suc, ◌<◌, ◌≤◌, List, slice_index, get_or, inl, inr, refl, arith}
-use Rattle.std.proofs.Math.Dec.{T, ltb, leb}
-use Rattle.std.proofs.Math.Facts.{yes_leb}
-use Rattle.std.proofs.lemmas.Bool.{le-leb, lt-leb, lt-ltb, leb-true}
-use Rattle.macsec_aes_lanes.specs.Nibbles.{IsPlace, entry}
+use Rattle.{
+  std.proofs.{Common.{le-leb, lt-ltb, leb-true}, Math.{Dec.{ltb, leb}, Facts.yes_leb}, lemmas.Bool.lt-leb},
+  macsec_aes_lanes.proofs.Names.{◌<◌, ◌≡◌, ◌≤◌, arith, entry, get_or, inl, inr, IsPlace, List, refl, slice_index, suc},
+  macsec_aes_lanes.proofs.Names.{T, ℕ},
+}
 use mathlib.Core.Bool.{cond, Bool, true, false, ◌||◌}
 
 pub place_is : (j : ℕ) → IsPlace j → T (leb 128 j || ltb j 16)

@@ -1,12 +1,10 @@
 -- The representation of bytes is linear: a sum represents the sum.
-use Rattle.std.proofs.Common.{◌≡◌, ℕ, zero, suc, ◌+◌, ◌*◌, ◌%◌, ◌<◌, ◌⊎◌, inl, inr, List, [], ◌∷◌, bit_xor, slice_index, refl, arith}
-use Rattle.std.specs.Int.{bit_at}
-use Rattle.std.specs.Int.Bits.{xor_self, xor_zero_l, xor_zero_r}
-use Rattle.std.proofs.lemmas.Nat.Bits.{bit_at_xor, bit_at-lt}
-use Rattle.macsec_aes.specs.Field.{sum_below}
-use Rattle.macsec_aes_lanes.specs.Nibbles.{represented}
-use Rattle.macsec_aes_lanes.specs.Tower.{linear}
-use Rattle.macsec_aes_lanes.proofs.ConstantKept.{swapped}
+use Rattle.std.specs.Int.Bits.{xor_self, xor_zero_l}
+use Rattle.macsec_aes_lanes.proofs.{
+  Names.{[], ◌%◌, ◌*◌, ◌+◌, ◌<◌, ◌∷◌, ◌≡◌, ◌⊎◌, arith, bit_at, bit_at-lt, bit_at_xor, bit_xor, inl, inr, linear, List},
+  Names.{refl, represented, slice_index, suc, sum_below, xor_zero_r, zero, ℕ},
+  ConstantKept.swapped,
+}
 
 bit_cases : (b : ℕ) → b < 2 → (b ≡ 0) ⊎ (b ≡ 1)
 bit_cases b lt = grind arith

@@ -1,11 +1,14 @@
 -- The bits of words, which are eight lanes each.
-use Rattle.std.proofs.Common.{◌≡◌, ℕ, zero, suc, ◌+◌, ◌-◌, ◌*◌, ◌/◌, ◌%◌, ◌^◌, ◌<◌, List, [], ◌∷◌, length, slice_index, refl, ap, ◌∙◌, arith}
-use Rattle.std.specs.Int.{bit_at}
-use Rattle.std.specs.Simd.Lanes.{Each1, chunk, digits_l, number_l}
-use Rattle.std.proofs.lemmas.Nat.Bits.{bit_at_cat_low, bit_at_cat_high}
-use Rattle.std.proofs.lemmas.Simd.{Each1-chunk, get_or-chunk, get_or_narrower, get_or_wider, length-chunk}
-use Rattle.macsec_aes_lanes.proofs.Below.{below_eight}
-use Rattle.macsec_aes_lanes.proofs.Exchanges.{bit_of_rest, bit_right}
+use Rattle.std.{
+  proofs.lemmas.Simd.{Each1-chunk, get_or-chunk, get_or_narrower, get_or_wider, length-chunk},
+  specs.Simd.Lanes.{chunk, digits_l, number_l},
+}
+use Rattle.macsec_aes_lanes.proofs.{
+  Names.{[], ◌%◌, ◌*◌, ◌+◌, ◌-◌, ◌/◌, ◌<◌, ◌^◌, ◌∙◌, ◌∷◌, ◌≡◌, ap, arith, bit_at, bit_at_cat_high, bit_at_cat_low},
+  Names.{Each1, length, List, refl, slice_index, suc, zero, ℕ},
+  Below.below_eight,
+  Exchanges.{bit_of_rest, bit_right},
+}
 
 -- bit b of octet i
 bit_of_octets : (xs : List ℕ) (i b : ℕ) → Each1 (λ x. x < 256) xs → i < length xs → b < 8 → bit_at (number_l 256 xs) (8 * i + b) ≡ bit_at (slice_index xs i) b

@@ -1,11 +1,14 @@
 -- One word of each of eight planes is set.
-use Rattle.std.proofs.Common.{◌≡◌, ◌≢◌, ℕ, ◌<◌, List, [], ◌∷◌, length, set, slice_index, slice_index_or, ap, ◌∙◌, arith}
-use Rattle.std.specs.Int.{bit_at}
-use Rattle.std.proofs.lemmas.List.{get_or-set_other, get_or-set_same, length-set}
-use Rattle.macsec_aes_lanes.specs.Planes.{bit_of, number, octet}
-use Rattle.macsec_aes_lanes.specs.Words.{element_of}
-use Rattle.macsec_aes_lanes.proofs.Below.{below_eight}
-use Rattle.macsec_aes_lanes.proofs.Gates.{cons, no_more}
+use Rattle.std.proofs.Common.{set}
+use Rattle.macsec_aes_lanes.{
+  proofs.{
+    Names.{[], ◌<◌, ◌∙◌, ◌∷◌, ◌≡◌, ◌≢◌, ap, arith, bit_at, bit_of, get_or-set_other, get_or-set_same, length},
+    Names.{length-set, List, number, octet, slice_index, slice_index_or, ℕ},
+    Below.below_eight,
+    Gates.{cons, no_more},
+  },
+  specs.Words.element_of,
+}
 
 -- octets whose bits are the same
 pub same_bits : (v w : List (List ℕ)) (j k m n : ℕ) → ((i : ℕ) → i < 8 → bit_of v i j k ≡ bit_of w i m n) → octet v j k ≡ octet w m n

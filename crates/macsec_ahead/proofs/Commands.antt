@@ -1,16 +1,16 @@
 -- What a command leaves, by the answer of the keeping endpoint.
-use Rattle.std.proofs.Common.{◌≡◌, Bool, true, false, List, refl, ap, sym, ◌∙◌}
-use Rattle.std.specs.Prelude.{is_ok, if◌then◌else◌, Result, Ok, Err}
-use Rattle.macsec_suite.specs.declared.refusal.Refusal.{Refusal}
-use Rattle.macsec_commands.specs.declared.command.Command.{Command}
-use Rattle.macsec_rx.specs.declared.RxRow.{RxRow}
-use Rattle.macsec_secy.specs.Answers.{output_of_command}
-use Rattle.macsec_secy.specs.State.{State}
-use Rattle.macsec_secy.specs.Step.{operator_command}
-use Rattle.macsec_reserve.specs.Forgetting.{is_done}
-use Rattle.macsec_reserve.specs.Keeping.{Keeping, KeepingOutput, endpoint_output}
-use Rattle.macsec_ahead.specs.Ahead.{Ahead, AheadOutput, ahead_by, kept, passes}
-use Rattle.macsec_ahead.specs.Ends.{Ends, after_retiring, ends_among, with_ends}
+use Rattle.{
+  std.proofs.Common.{◌≡◌, Bool, true, false, List, refl, ap, sym, ◌∙◌, is_ok, if◌then◌else◌, Result, Ok, Err},
+  macsec_suite.specs.declared.refusal.Refusal.Refusal,
+  macsec_commands.specs.declared.command.Command.Command,
+  macsec_rx.specs.declared.RxRow.RxRow,
+  macsec_secy.specs.{Answers.output_of_command, State.State, Step.operator_command},
+  macsec_reserve.specs.{Forgetting.is_done, Keeping.{Keeping, KeepingOutput, endpoint_output}},
+  macsec_ahead.specs.{
+    Ahead.{Ahead, AheadOutput, ahead_by, kept, passes},
+    Ends.{Ends, after_retiring, ends_among, with_ends},
+  },
+}
 
 done_as : {A : Type 0} (r : Result A Refusal) → is_done (endpoint_output (output_of_command r)) ≡ is_ok r
 done_as (Ok x) = refl

@@ -1,6 +1,8 @@
 -- One more entry.
-use Rattle.std.proofs.Common.{◌≡◌, ℕ, ◌+◌, ◌<◌, List, [], ◌∷◌, ◌++◌, length, map, take, get_or, ap, sym, ◌∙◌, append_assoc}
-use Rattle.std.proofs.lemmas.List.{map-append, take_more}
+use Rattle.std.proofs.{
+  Common.{◌≡◌, ℕ, ◌+◌, ◌<◌, List, [], ◌∷◌, ◌++◌, length, map, take, get_or, ap, sym, ◌∙◌, append_assoc},
+  lemmas.List.{map-append, take_more},
+}
 
 pub one_more : {X Y : Type 0} (f : X → Y) (first before after : List Y) (xs : List X) (i : ℕ) (x : X) (y : Y) → i < length xs → x ≡ get_or xs i x → y ≡ f x →
     before ≡ first ++ map f (take i xs) → after ≡ before ++ y ∷ [] → after ≡ first ++ map f (take (i + 1) xs)

@@ -1,13 +1,18 @@
 -- The highest end among the first entries, and one more; the ends of one more SA.
-use Rattle.std.proofs.Common.{◌≡◌, ℕ, ◌+◌, ◌<◌, Bool, true, false, cond, List, [], ◌∷◌, ◌++◌, length, map, filter, take, drop, get_or, refl, ap, sym, ◌∙◌, arith}
-use Rattle.std.proofs.lemmas.List.{drop_more, take_more}
-use Rattle.std.specs.Prelude.{max, if◌then◌else◌}
-use Rattle.macsec_tag.specs.declared.identifiers.Sci.{Sci}
-use Rattle.macsec_ahead.specs.declared.ends.EndedKey.{EndedKey}
-use Rattle.macsec_ahead.specs.declared.ends.EndedSa.{EndedSa}
-use Rattle.macsec_rx.specs.declared.RxRow.{RxRow}
-use Rattle.macsec_secy.specs.State.{State}
-use Rattle.macsec_ahead.specs.Ends.{Ends, ended_of, ends_among, is_gone, is_of, is_under, last_end, last_under, with_ends}
+use Rattle.{
+  std.proofs.{
+    Common.{◌≡◌, ℕ, ◌+◌, ◌<◌, Bool, true, false, cond, List, [], ◌∷◌, ◌++◌, length, map, filter, take, drop, get_or},
+    Common.{refl, ap, sym, ◌∙◌, arith, max, if◌then◌else◌},
+    lemmas.List.{drop_more, take_more},
+  },
+  macsec_tag.specs.declared.identifiers.Sci.Sci,
+  macsec_rx.specs.declared.RxRow.RxRow,
+  macsec_secy.specs.State.State,
+  macsec_ahead.specs.{
+    Ends.{Ends, ended_of, ends_among, is_gone, is_of, is_under, last_end, last_under, with_ends},
+    declared.ends.{EndedKey.EndedKey, EndedSa.EndedSa},
+  },
+}
 
 pub last_end-append : (es fs : List EndedSa) (key : ℕ) (sci : Sci) (an : ℕ) → last_end (es ++ fs) key sci an ≡ max (last_end es key sci an) (last_end fs key sci an)
 last_end-append [] fs key sci an = omega arith

@@ -1,27 +1,32 @@
 -- Sending and receiving leave the limits of the receive SAs as they are.
-use Rattle.std.proofs.Common.{◌≡◌, ℕ, Bool, true, false, List, [], ◌∷◌, map, refl, ap, sym, ◌∙◌}
-use Rattle.std.specs.Prelude.{if◌then◌else◌, Option, Some, None}
-use Rattle.macsec_tag.specs.declared.identifiers.Sci.{Sci}
-use Rattle.macsec_rx.specs.declared.RxRow.{RxRow}
-use Rattle.macsec_rx.specs.declared.within.PnLimits.{PnLimits}
-use Rattle.macsec_rx.specs.declared.within.OutsidePn.{OutsidePn}
-use Rattle.macsec_rx.specs.Channels.{at_place, is_at, with_rx}
-use Rattle.macsec_rx.specs.Judge.{Judgement, accepted_number, row_accepting, rows_accepting, rows_after}
-use Rattle.macsec_secy.specs.declared.fault.FrameFault.{FrameFault}
-use Rattle.macsec_secy.specs.Limited.{limited_by, outside_frame}
-use Rattle.macsec_secy.specs.Reception.{judgement_of, state_after_receiving}
-use Rattle.macsec_secy.specs.State.{State}
-use Rattle.macsec_secy.specs.Step.{Output, client_frame, frame_fault, link_frame, received_output, sending_of, sent_output, state_after_sending, step, unless_fault}
-use Rattle.macsec_reserve.specs.declared.keeper.NamedKey.{NamedKey}
-use Rattle.macsec_reserve.specs.declared.reservation.Reservation.{Reservation}
-use Rattle.macsec_reserve.specs.Journal.{highest, receiving_name}
-use Rattle.macsec_reserve.specs.Keeping.{Keeping, endpoint_input, key_name, keeping_step, may_go}
-use Rattle.macsec_reserve.specs.Limited.{limited_keeping_step, with_limited}
-use Rattle.macsec_reserve.specs.Names.{named}
-use Rattle.macsec_reserve.specs.Replay.{row_name}
-use Rattle.macsec_reserve.proofs.KeptNames.{found_name, names_after_sending}
-use Rattle.macsec_reserve.proofs.Steps.{by_tests}
-use Rattle.macsec_ahead.specs.Limits.{limits_for, limits_with}
+use Rattle.{
+  std.proofs.Common.{◌≡◌, ℕ, Bool, true, false, List, [], ◌∷◌, map, refl, ap, sym, ◌∙◌, if◌then◌else◌, Option, Some},
+  std.proofs.Common.None,
+  macsec_tag.specs.declared.identifiers.Sci.Sci,
+  macsec_rx.specs.{
+    Channels.{at_place, is_at, with_rx},
+    Judge.{Judgement, accepted_number, row_accepting, rows_accepting, rows_after},
+    declared.{RxRow.RxRow, within.{OutsidePn.OutsidePn, PnLimits.PnLimits}},
+  },
+  macsec_secy.specs.{
+    Limited.{limited_by, outside_frame},
+    Reception.{judgement_of, state_after_receiving},
+    State.State,
+    Step.{Output, client_frame, frame_fault, link_frame, received_output, sending_of, sent_output, state_after_sending},
+    Step.{step, unless_fault},
+    declared.fault.FrameFault.FrameFault,
+  },
+  macsec_reserve.proofs.{KeptNames.{found_name, names_after_sending}, Steps.by_tests},
+  macsec_reserve.specs.{
+    Journal.{highest, receiving_name},
+    Keeping.{Keeping, endpoint_input, key_name, keeping_step, may_go},
+    Limited.{limited_keeping_step, with_limited},
+    Names.named,
+    Replay.row_name,
+    declared.{keeper.NamedKey.NamedKey, reservation.Reservation.Reservation},
+  },
+  macsec_ahead.specs.Limits.{limits_for, limits_with},
+}
 
 -- ---- receiving
 

@@ -1,33 +1,40 @@
 -- The limits of the receive SAs say which packet numbers pass.
-use Rattle.std.proofs.Common.{◌≡◌, ℕ, Bool, true, false, List, ◌∷◌, map, refl, ap, sym, ◌∙◌}
-use Rattle.std.specs.Prelude.{◌==◌, not, nat_le, if◌then◌else◌, option_map, Option, Some, None, Result, Ok, Err}
-use Rattle.macsec_rx.specs.declared.RxRow.{RxRow}
-use Rattle.macsec_rx.specs.declared.within.PnLimits.{PnLimits}
-use Rattle.macsec_rx.specs.declared.within.OutsidePn.{OutsidePn}
-use Rattle.macsec_rx.specs.declared.within.OutsidePn.TheVariants.{Above, Below}
-use Rattle.macsec_rx.specs.Channels.{rx_row}
-use Rattle.macsec_rx.specs.Judge.{Judgement}
-use Rattle.macsec_rx.specs.Within.{limits_of, outside, outside_by, outside_row, pn_of}
-use Rattle.macsec_rx.proofs.Limited.{limits_of-map}
-use Rattle.macsec_secy.specs.declared.answers.LimitedReceived.{LimitedReceived}
+use Rattle.{
+  std.proofs.Common.{◌≡◌, ℕ, Bool, true, false, List, ◌∷◌, map, refl, ap, sym, ◌∙◌, ◌==◌, not, nat_le, if◌then◌else◌},
+  std.proofs.Common.{option_map, Option, Some, None, Result, Ok, Err},
+  macsec_tag.specs.Table.reading,
+  macsec_rx.proofs.Limited.limits_of-map,
+  macsec_rx.specs.{
+    Channels.rx_row,
+    Judge.Judgement,
+    Within.{limits_of, outside, outside_by, outside_row, pn_of},
+    declared.{RxRow.RxRow, within.{OutsidePn.{OutsidePn, TheVariants.{Above, Below}}, PnLimits.PnLimits}},
+  },
+  macsec_secy.proofs.{DeliveredFrom.used_at_place, JudgedBy.{judged_by, judged_row}},
+  macsec_secy.specs.{
+    Limited.{LimitedOutput, dropped_outside, limited_by, outside_frame, outside_unless_fault, output_of_limited},
+    Limited.within,
+    Reception.judgement_of,
+    Sound.IsSound,
+    State.State,
+    Step.{frame_fault, link_frame, step},
+    declared.{answers.LimitedReceived.LimitedReceived, fault.FrameFault.FrameFault},
+  },
+  macsec_reserve.proofs.Steps.received_step,
+  macsec_reserve.specs.{
+    Journal.highest,
+    Keeping.{Keeping, KeepingOutput, endpoint_input, endpoint_output, with_step},
+    Limited.{limited_keeping_step, with_limited},
+    Replay.row_name,
+  },
+  macsec_ahead.specs.{
+    Ahead.{Ahead, AheadOutput, Standing, ahead_by, ahead_step, before_this_run, dropped_before_this_run},
+    Ahead.{dropped_not_reserved, kept, not_yet, passes, standing, standing_by, standing_of},
+    Answers.output_of_ahead,
+    Limits.{limits_for, limits_with},
+  },
+}
 use Rattle.macsec_secy.specs.declared.answers.LimitedReceived.TheVariants as by
-use Rattle.macsec_secy.specs.declared.fault.FrameFault.{FrameFault}
-use Rattle.macsec_secy.specs.Limited.{LimitedOutput, dropped_outside, limited_by, outside_frame, outside_unless_fault, output_of_limited, within}
-use Rattle.macsec_secy.specs.Reception.{judgement_of}
-use Rattle.macsec_secy.specs.Sound.{IsSound}
-use Rattle.macsec_secy.specs.State.{State}
-use Rattle.macsec_secy.specs.Step.{frame_fault, link_frame, step}
-use Rattle.macsec_secy.proofs.DeliveredFrom.{used_at_place}
-use Rattle.macsec_secy.proofs.JudgedBy.{judged_by, judged_row}
-use Rattle.macsec_tag.specs.Table.{reading}
-use Rattle.macsec_reserve.specs.Journal.{highest}
-use Rattle.macsec_reserve.specs.Keeping.{Keeping, KeepingOutput, endpoint_input, endpoint_output, with_step}
-use Rattle.macsec_reserve.specs.Limited.{limited_keeping_step, with_limited}
-use Rattle.macsec_reserve.specs.Replay.{row_name}
-use Rattle.macsec_reserve.proofs.Steps.{received_step}
-use Rattle.macsec_ahead.specs.Ahead.{Ahead, AheadOutput, Standing, ahead_by, ahead_step, before_this_run, dropped_before_this_run, dropped_not_reserved, kept, not_yet, passes, standing, standing_by, standing_of}
-use Rattle.macsec_ahead.specs.Answers.{output_of_ahead}
-use Rattle.macsec_ahead.specs.Limits.{limits_for, limits_with}
 
 abbrev standing_as : Option OutsidePn → Standing
 standing_as None = passes

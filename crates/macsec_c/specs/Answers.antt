@@ -14,6 +14,7 @@ use Rattle.macsec_ahead.specs.Ahead.{Ahead, ahead_step, alone_with, opened_with}
 use Rattle.macsec_c_calls.specs.Arguments.{Named}
 use Rattle.macsec_c_calls.specs.Commands.{status_of_ahead}
 use Rattle.macsec_c_calls.specs.Commands.{commanded as by_endpoint}
+use Rattle.macsec_c_calls.specs.Parsing.{row_commanded as row_by_endpoint}
 use Rattle.macsec_c_calls.specs.ReceivedParts.{ReceivedParts, unreceived}
 use Rattle.macsec_c_calls.specs.ReceivedParts.{parts_of_ahead as received_of}
 use Rattle.macsec_c_calls.specs.Reserving.{reported as reported_to}
@@ -33,6 +34,11 @@ held_after it = (it.0, Some it.1)
 abbrev pub commanded : Option Ahead → Named Command → ℕ × Option Ahead
 commanded None c = (empty_status, None)
 commanded (Some e) c = held_after (by_endpoint e c)
+
+-- the same for the command of a row; the row of no command changes nothing
+abbrev pub row_commanded : Option Ahead → Named (Option Command) → ℕ × Option Ahead
+row_commanded None c = (empty_status, None)
+row_commanded (Some e) c = held_after (row_by_endpoint e c)
 
 -- the status of a report that what some octets reserve is durable, and what the handle holds after it
 abbrev pub reported : Option Ahead → List Reservation → ℕ × Option Ahead

@@ -7,4 +7,4 @@ version_number a b c = a * 1000000 + b * 1000 + c
 
 -- this version
 abbrev pub version : ℕ
-version = version_number 1 0 0
+version = version_number 1 1 0

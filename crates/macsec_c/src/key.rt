@@ -19,9 +19,10 @@ pub struct Key {
 }
 
 impl Model for Key {
-    ghost use Rattle.macsec_c.specs.OwnedKeys.{owned};
+    ghost use Rattle.macsec_jobs.specs.contracts.job_key.JobKey.{the_row};
+    ghost use Rattle.macsec_c.specs.Owned.{owned};
 
-    ghost also_owns = { λ h. owned h.at h.state };
+    ghost also_owns = { λ h. owned the_row h.at h.state };
 }
 
 impl Key {

@@ -3,11 +3,13 @@
 //!
 //! Proved: each export creates or frees an endpoint, a key or a slot, does a job, or is one step of the machine of
 //! `macsec_ahead` or one reader of its state, for the arguments that C gave. Without a journal that is the machine of
-//! `macsec_secy`, except that it forgets the keys that it retires (`command_forgetting`). The contract gives the status, what
-//! is shown, and what the handle holds after the call (`specs/Answers.antt`, `specs/Found.antt`). A reader that finds
-//! nothing leaves its output unchanged. `macsec_configure_raw` creates the endpoint of a text's lines, as `parse_config`
-//! reads them, after the steps of all their commands, or none; `macsec_command_line_raw` is the step of a line's command
-//! (`specs/Texts.antt`); `macsec_answer_raw` gives the answer of `macsec_c_calls` to a line (`specs/Answering.antt`). A
+//! `macsec_secy`, except that it forgets the keys that it retires (`command_forgetting`). The contract gives the
+//! status, what is shown, and what the handle holds after the call (`specs/Answers.antt`, `specs/Found.antt`). A reader
+//! that finds nothing leaves its output unchanged. `macsec_configure_raw` creates the endpoint of a text's lines, as
+//! `parse_config` reads them, after the steps of all their commands, or none; `macsec_command_line_raw` is the step of
+//! a line's command (`specs/Texts.antt`). `macsec_parse_line_raw` gives the row of a line's command, which
+//! `macsec_carry_out` carries out as that call does (`specs/RowLaws.antt`, and `specs/Parsing.antt` of
+//! `macsec_c_calls`). `macsec_answer_raw` gives the answer of `macsec_c_calls` to a line (`specs/Answering.antt`). A
 //! handle without an endpoint is refused first, then numbers and lengths that name nothing, with separate statuses. A
 //! returned frame is in the endpoint or is the caller's, and the endpoint's state after the borrow is known. A handle
 //! owns its endpoint: `macsec_free_raw` leaves a handle without one, and nothing is used after it is freed, or freed
@@ -35,7 +37,9 @@ mod creating;
 mod endpoint;
 mod jobs;
 mod key;
+pub mod laws;
 mod loose;
+mod parsing;
 mod receiving;
 mod reserving;
 mod sealing;

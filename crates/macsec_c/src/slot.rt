@@ -19,9 +19,10 @@ pub struct Slot {
 }
 
 impl Model for Slot {
-    ghost use Rattle.macsec_c.specs.OwnedSlots.{owned};
+    ghost use Rattle.macsec_jobs.specs.contracts.slot.Slot.{the_row};
+    ghost use Rattle.macsec_c.specs.Owned.{owned};
 
-    ghost also_owns = { λ h. owned h.at h.state };
+    ghost also_owns = { λ h. owned the_row h.at h.state };
 }
 
 impl Slot {

@@ -4,7 +4,7 @@ ghost use Rattle.std.specs.Prelude.{◌≡◌};
 ghost use Rattle.macsec_c.specs.Version.{version};
 
 /// This version as a number.
-const VERSION: u32 = 1_000_000;
+const VERSION: u32 = 1_001_000;
 
 /// The version as a number: 1,000,000 times its first number, plus 1,000 times its second, plus its third.
 #[unsafe(no_mangle)]

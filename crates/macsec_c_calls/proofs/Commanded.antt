@@ -1,17 +1,24 @@
 -- The loop over the commands of a configuration, and the endpoint that is opened with a journal.
-use Rattle.std.proofs.Common.{◌≡◌, ℕ, ◌+◌, ◌<◌, List, ◌∷◌, drop, get_or, length, subst, sym, ap, ◌∙◌}
-use Rattle.std.proofs.lemmas.List.{drop_more}
-use Rattle.std.specs.Prelude.{Bool, Result, Ok, true, None}
-use Rattle.macsec_script_parser.specs.Kinds.{and_then}
-use Rattle.macsec_script_parser.specs.Parts.{ConfigParts, NumberedCommand}
-use Rattle.macsec_script_parser.specs.declared.faults.ScriptFault.{ScriptFault}
-use Rattle.macsec_script_parser.specs.Scripts.{config_of}
-use Rattle.macsec_commands.specs.declared.config.EndConfig.{EndConfig}
-use Rattle.macsec_commands.specs.Configs.{config_fault}
-use Rattle.macsec_reserve.specs.Journal.{is_journal}
-use Rattle.macsec_ahead.specs.Ahead.{Ahead, opened_with}
-use Rattle.macsec_c_calls.specs.declared.configuring.ConfigFault.{ConfigFault}
-use Rattle.macsec_c_calls.specs.Texts.{Creation, MakesConfigured, after_command, carried_out, created_beside, configured, created_if, endpoint_of, endpoint_of_parsed, unless_new_fault}
+use Rattle.{
+  std.proofs.{
+    Common.{◌≡◌, ℕ, ◌+◌, ◌<◌, List, ◌∷◌, drop, get_or, length, subst, sym, ap, ◌∙◌, Bool, Result, Ok, true, None},
+    lemmas.List.drop_more,
+  },
+  macsec_commands.specs.{Configs.config_fault, declared.config.EndConfig.EndConfig},
+  macsec_reserve.specs.Journal.is_journal,
+  macsec_ahead.specs.Ahead.{Ahead, opened_with},
+  macsec_script_parser.specs.{
+    Kinds.and_then,
+    Parts.{ConfigParts, NumberedCommand},
+    Scripts.config_of,
+    declared.faults.ScriptFault.ScriptFault,
+  },
+  macsec_c_calls.specs.{
+    Texts.{Creation, MakesConfigured, after_command, carried_out, created_beside, configured, created_if, endpoint_of},
+    Texts.{endpoint_of_parsed, unless_new_fault},
+    declared.configuring.ConfigFault.ConfigFault,
+  },
+}
 
 first_left : (lines : List NumberedCommand) (i : ℕ) (entry : NumberedCommand) → entry ≡ get_or lines i entry → i < length lines →
     drop i lines ≡ entry ∷ drop (i + 1) lines

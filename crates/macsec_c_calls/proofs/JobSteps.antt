@@ -1,22 +1,25 @@
 -- The calls for jobs answer as the steps do.
-use Rattle.std.proofs.Common.{◌≡◌, ℕ, List, Bool, true, false, refl, ap, sym, subst, ◌∙◌}
-use Rattle.std.specs.Prelude.{not, if◌then◌else◌, Result, Ok, Err, IfOk, OnErr, OnOk}
+use Rattle.{
+  std.proofs.Common.{◌≡◌, ℕ, List, Bool, true, false, refl, ap, sym, subst, ◌∙◌, not, if◌then◌else◌, Result, Ok, Err},
+  std.proofs.Common.{IfOk, OnErr, OnOk},
+  macsec_secy.specs.{Jobs.job_of_frame, Step.{client_frame, frame_fault}, declared.fault.FrameFault.FrameFault},
+  macsec_reserve.specs.Keeping.endpoint_input,
+  macsec_ahead.specs.Ahead.{Ahead, ahead_step, kept},
+  macsec_jobs.specs.{
+    Answers.{PlansWork, frame_fault_of, is_job, output_of_plan},
+    Slots.{SlotState, frame_planned, is_idle, is_opening, is_sealing},
+    declared.answers.SendPlan.SendPlan,
+  },
+  macsec_c_calls.specs.{
+    Jobs.{FinishesIf, IsFinished, IsPlanned, IsUnfinished, PlansIf, TakesIf, TakesUnless, planned_as, planned_for},
+    Jobs.{sent_by, taken_as, unplanned},
+    SentParts.{SentParts, parts_of_ahead as sent_of},
+    Statuses.{job_status, space_status},
+    declared.jobs.{Finished.Finished, Planned.Planned},
+  },
+}
 use Rattle.macsec_secy.specs.declared.answers.DropReason.TheVariants as reason
-use Rattle.macsec_secy.specs.declared.fault.FrameFault.{FrameFault}
-use Rattle.macsec_secy.specs.Jobs.{job_of_frame}
-use Rattle.macsec_secy.specs.Step.{client_frame, frame_fault}
-use Rattle.macsec_reserve.specs.Keeping.{endpoint_input}
-use Rattle.macsec_ahead.specs.Ahead.{Ahead, ahead_step, kept}
-use Rattle.macsec_jobs.specs.declared.answers.SendPlan.{SendPlan}
 use Rattle.macsec_jobs.specs.declared.answers.SendPlan.TheVariants as plan
-use Rattle.macsec_jobs.specs.Answers.{PlansWork, frame_fault_of, is_job, output_of_plan}
-use Rattle.macsec_jobs.specs.Slots.{SlotState, frame_planned, is_idle, is_opening, is_sealing}
-use Rattle.macsec_c_calls.specs.declared.jobs.Finished.{Finished}
-use Rattle.macsec_c_calls.specs.declared.jobs.Planned.{Planned}
-use Rattle.macsec_c_calls.specs.Jobs.{FinishesIf, IsFinished, IsPlanned, IsUnfinished, PlansIf, TakesIf, TakesUnless, planned_as, planned_for, sent_by, taken_as, unplanned}
-use Rattle.macsec_c_calls.specs.SentParts.{SentParts}
-use Rattle.macsec_c_calls.specs.SentParts.{parts_of_ahead as sent_of}
-use Rattle.macsec_c_calls.specs.Statuses.{job_status, space_status}
 
 -- ---- a client frame
 

@@ -1,26 +1,28 @@
 -- The answers are what a script prints, by the kind of line.
-use Rattle.std.proofs.Common.{◌≡◌, inl, inr, ℕ, List, Bool, true, false, refl, ap, subst, sym, ◌∙◌}
-use Rattle.std.specs.Prelude.{◌||◌, ◌&&◌, ◌⊎◌, not, if◌then◌else◌, Option, Some, None}
-use Rattle.macsec_aes.specs.Keys.{key_bytes}
-use Rattle.macsec_suite.specs.KeyRows.{InstalledKey, key_row, the_key}
-use Rattle.macsec_suite.specs.Refusals.{holds_of, is_repeated, is_retired}
-use Rattle.macsec_suite.specs.Replacing.{can_have}
-use Rattle.macsec_suite.specs.declared.key_row.NewKey.{NewKey}
-use Rattle.macsec_commands.specs.declared.command.Command.{Command}
-use Rattle.macsec_commands.specs.declared.command.Command.TheVariants.{Key, Retire}
-use Rattle.macsec_commands.specs.declared.event.End.TheVariants.{A}
+use Rattle.{
+  std.proofs.Common.{◌≡◌, inl, inr, ℕ, List, Bool, true, false, refl, ap, subst, sym, ◌∙◌, ◌||◌, ◌&&◌, ◌⊎◌, not},
+  std.proofs.Common.{if◌then◌else◌, Option, Some, None},
+  macsec_aes.specs.Keys.key_bytes,
+  macsec_suite.specs.{
+    KeyRows.{InstalledKey, key_row, the_key},
+    Refusals.{holds_of, is_repeated, is_retired},
+    Replacing.can_have,
+    declared.key_row.NewKey.NewKey,
+  },
+  macsec_commands.specs.declared.{command.Command.{Command, TheVariants.{Key, Retire}}, event.End.TheVariants.A},
+  macsec_secy.specs.{GivenUp.replacing, State.State, Step.{operator_command, step}},
+  macsec_reserve.specs.{
+    Forgetting.{can_forget, fingerprint, fingerprint_of, forgetting, forgetting_step, is_done, is_forgotten},
+    Forgetting.{key_of_fingerprint, then_forget},
+    Keeping.{Keeping, KeepingOutput, endpoint_input, is_below_floor, keeping_step, with_step},
+  },
+  macsec_ahead.specs.Ahead.{Ahead, ahead_by, begins_again, ended_after, passes},
+  macsec_script_parser.specs.declared.lines.Line.Line,
+  macsec_c_calls.specs.{Answers.{Answer, answer_of_line, commanded, commanded_as}, Laws.AnswersAsPrinted},
+}
 use Rattle.macsec_commands.specs.declared.event.Event.TheVariants as event
-use Rattle.macsec_secy.specs.GivenUp.{replacing}
-use Rattle.macsec_secy.specs.State.{State}
-use Rattle.macsec_secy.specs.Step.{operator_command, step}
-use Rattle.macsec_reserve.specs.Forgetting.{can_forget, fingerprint, fingerprint_of, forgetting, forgetting_step, is_done, is_forgotten, key_of_fingerprint, then_forget}
-use Rattle.macsec_reserve.specs.Keeping.{Keeping, KeepingOutput, endpoint_input, is_below_floor, keeping_step, with_step}
 use Rattle.macsec_script_parser.specs.declared.lines.Action.TheVariants as action
-use Rattle.macsec_script_parser.specs.declared.lines.Line.{Line}
 use Rattle.macsec_script_parser.specs.declared.lines.Line.TheVariants as line
-use Rattle.macsec_ahead.specs.Ahead.{Ahead, ahead_by, begins_again, ended_after, passes}
-use Rattle.macsec_c_calls.specs.Answers.{Answer, answer_of_line, commanded, commanded_as}
-use Rattle.macsec_c_calls.specs.Laws.{AnswersAsPrinted}
 
 or_true : (b : Bool) → b || true ≡ true
 or_true true = refl

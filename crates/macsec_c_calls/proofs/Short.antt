@@ -1,22 +1,25 @@
 -- The answer to a management command has at most 64 octets.
-use Rattle.std.proofs.Common.{◌≡◌, ℕ, ◌+◌, ◌<◌, ◌≤◌, ◌^◌, List, ◌++◌, length, refl, arith, length-append}
-use Rattle.std.proofs.lemmas.Bool.{leb-true}
-use Rattle.std.proofs.lemmas.Fmt.{length-decimal-le}
-use Rattle.std.specs.Fmt.{digits}
-use Rattle.std.specs.Prelude.{codes, decimal, nat_le, true}
-use Rattle.macsec_suite.specs.declared.refusal.Refusal.{Refusal}
-use Rattle.macsec_suite.specs.declared.refusal.Refusal.TheVariants.{KeyLength, Offset, KeyNumberUsed, KeyRepeated, NoKey, KeyRetired, KeyInUse, OwnSci, ScTaken}
-use Rattle.macsec_suite.specs.declared.refusal.Refusal.TheVariants.{ScFull, NoSc, AnTaken, NoSa, PnRange, PnLower, PnFloor, SsciOwn, Window, SciForm, Exhausted}
-use Rattle.macsec_commands.specs.declared.command.Command.{Command}
-use Rattle.macsec_commands.specs.declared.event.End.TheVariants.{A}
-use Rattle.macsec_secy.specs.Step.{Output, refused}
-use Rattle.macsec_reserve.specs.Keeping.{dropped_no_reservation, endpoint_output, noted}
-use Rattle.macsec_ahead.specs.Ahead.{Ahead, AheadOutput, command_forgetting, dropped_before_this_run, dropped_not_reserved, kept}
-use Rattle.macsec_script_parser.specs.Kinds.{tells}
-use Rattle.macsec_script_printer.specs.Refusals.{refusal_text}
-use Rattle.macsec_script_printer.specs.OneEnd.{command_text}
-use Rattle.macsec_c_calls.specs.Answers.{answer_of_line, commanded}
-use Rattle.macsec_c_calls.specs.Writing.{needed}
+use Rattle.{
+  std.proofs.{
+    Common.{◌≡◌, ℕ, ◌+◌, ◌<◌, ◌≤◌, ◌^◌, List, ◌++◌, length, refl, arith, length-append, leb-true, codes, decimal},
+    Common.{nat_le, true},
+    lemmas.Fmt.length-decimal-le,
+  },
+  std.specs.Fmt.digits,
+  macsec_suite.specs.declared.refusal.Refusal.{
+    Refusal,
+    TheVariants.{KeyLength, Offset, KeyNumberUsed, KeyRepeated, NoKey, KeyRetired, KeyInUse, OwnSci, ScTaken, ScFull},
+    TheVariants.{NoSc, AnTaken, NoSa, PnRange, PnLower, PnFloor, SsciOwn, Window, SciForm, Exhausted},
+  },
+  macsec_commands.specs.declared.{command.Command.Command, event.End.TheVariants.A},
+  macsec_secy.specs.Step.{Output, refused},
+  macsec_reserve.specs.Keeping.{dropped_no_reservation, endpoint_output, noted},
+  macsec_ahead.specs.Ahead.{Ahead, AheadOutput, command_forgetting, dropped_before_this_run, dropped_not_reserved},
+  macsec_ahead.specs.Ahead.kept,
+  macsec_script_parser.specs.Kinds.tells,
+  macsec_script_printer.specs.{OneEnd.command_text, Refusals.refusal_text},
+  macsec_c_calls.specs.{Answers.{answer_of_line, commanded}, Writing.needed},
+}
 
 -- the number and the name of a refusal
 is_short : (r : Refusal) → nat_le (length (refusal_text r)) 16 ≡ true

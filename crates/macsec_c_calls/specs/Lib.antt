@@ -4,8 +4,11 @@ pub mod Commands
 pub mod Configs
 pub mod Keys
 pub mod Laws
+pub mod Parsing
 pub mod ReceivedParts
 pub mod Reserving
+pub mod RowLaws
+pub mod Rows
 pub mod Sealing
 pub mod SentParts
 pub mod Shown

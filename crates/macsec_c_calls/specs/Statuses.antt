@@ -68,6 +68,7 @@ status_of_argument_fault argument.Mode = 36
 status_of_argument_fault argument.An = 37
 status_of_argument_fault argument.KeyNumber = 38
 status_of_argument_fault argument.KeyOctets = 39
+status_of_argument_fault argument.Command = 59
 
 abbrev pub status_of_new_fault : NewFault → ℕ
 status_of_new_fault Memory = 41

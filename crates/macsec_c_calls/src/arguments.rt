@@ -1,7 +1,8 @@
 //! Checks the arguments of a caller in C. An argument that names nothing is refused.
 
 ghost use Rattle.std.specs.Prelude.{◌≡◌};
-ghost use Rattle.macsec_c_calls.specs.Arguments.{an_of, form_of, key_number_of, key_of, key_suite_of, mode_of, suite_of};
+ghost use Rattle.macsec_c_calls.specs.Arguments.{an_of, form_of, key_number_of, key_of, key_suite_of};
+ghost use Rattle.macsec_c_calls.specs.Arguments.{mode_of, suite_of};
 ghost use Rattle.macsec_c_calls.specs.Statuses.{status_of_argument_fault};
 
 use macsec_secy::{An, Key, KeyNumber, Mode, Suite, TagForm};
@@ -21,6 +22,8 @@ pub enum ArgumentFault {
     KeyNumber = 38,
     /// No key has this number of octets.
     KeyOctets = 39,
+    /// The kind, the flag or the key number of a row means no command.
+    Command = 59,
 }
 
 impl ArgumentFault {

@@ -184,7 +184,7 @@ pub fn configured_beside(
 }
 
 /// The command of a line at end A, or `None` if the line is skipped.
-fn line_command(alloc: Global, text: &[u8]) -> Result<Option<Command>, LineFault>
+pub(crate) fn line_command(alloc: Global, text: &[u8]) -> Result<Option<Command>, LineFault>
     ensures { Reads (line_command text.now) result }
 {
     let Some(line) = parse_line(alloc, text)? else {

@@ -1,13 +1,28 @@
-//! The law of answers. It is about the definitions alone: the contract of an empty function.
+//! Laws of answers and of rows. They are about the definitions alone: the contracts of empty functions.
 
-ghost use Rattle.std.specs.Prelude.{ℕ};
+ghost use Rattle.std.specs.Prelude.{ℕ, List};
+ghost use Rattle.macsec_commands.specs.declared.command.Command.{Command};
 ghost use Rattle.macsec_ahead.specs.Ahead.{Ahead};
 ghost use Rattle.macsec_script_parser.specs.declared.lines.Line.{Line};
+ghost use Rattle.macsec_c_calls.specs.declared.rows.CommandRow.{CommandRow};
 ghost use Rattle.macsec_c_calls.specs.Laws.{AnswersAsPrinted};
+ghost use Rattle.macsec_c_calls.specs.RowLaws.{CommandsParsed, MeansCommand};
 
-/// The answer to a line about end A alone is what a script prints for it, and leaves the endpoint that is there after the
-/// script's line, except that a key which the line retires is forgotten. Premises: no packet number of the line is refused
-/// because of a journal, and the line installs no key that was forgotten. Every other line is in a wrong place.
+/// The answer to a line about end A alone is what a script prints for it, and leaves the endpoint that is there after
+/// the script's line, except that a key which the line retires is forgotten. Premises: no packet number of the line is
+/// refused because of a journal, and the line installs no key that was forgotten. Every other line is in a wrong place.
 pub fn answers_as_printed()
     ensures { (e : Ahead) (n : ℕ) (said : Line) → AnswersAsPrinted e n said }
+{}
+
+/// The row of a command means this command. Premises: its numbers are in their ranges, and its key has as many octets
+/// as its kind says. The types of the code ensure both.
+pub fn rows_mean_commands()
+    ensures { (c : Command) → MeansCommand c }
+{}
+
+/// A line that is parsed, and whose row is then carried out, is carried out as `command_line` does: with the same
+/// statuses, and with the same endpoint after it.
+pub fn parsed_lines_are_commanded()
+    ensures { (e : Ahead) (text : List ℕ) (status : ℕ) (row : CommandRow) → CommandsParsed e text status row }
 {}

@@ -12,6 +12,10 @@
 //! - `configured` and `configured_beside` create the endpoint of a text after the steps of all its commands, or give
 //!   the first fault or refusal, or run out of memory. `command_line` is the step of a line's command
 //!   (`specs/Texts.antt`).
+//! - `parse_command` gives the row of a line's command, or the status of its fault and the row of no command
+//!   (`specs/Parsing.antt`). `carry_out_row` is the step of the command that a row means (`specs/Rows.antt`). Laws
+//!   (`laws`): the row of a command means this command, and a line that is parsed and then carried out does what
+//!   `command_line` does. `parse_end` gives the configuration of an `end` line.
 //! - A plan, a job and the end of a reception do what `specs/Jobs.antt` says: with a slot in between, they take the steps
 //!   and give the answers of `macsec_send` and `macsec_receive`.
 //! - `seal` seals a frame for a test as `protect_in_place` would, whatever its SecTAG is (`specs/Sealing.antt`).
@@ -31,8 +35,10 @@ mod configuring;
 mod creating;
 mod jobs;
 pub mod laws;
+mod parsing;
 mod receiving;
 mod reserving;
+mod rows;
 mod sealing;
 mod sending;
 mod showing;
@@ -51,11 +57,13 @@ pub use jobs::{
     Finished, Planned, finish_frame, open_job, plan_to_receive, plan_to_send, seal_job, unfinished,
     unplanned,
 };
+pub use parsing::{carry_out_row, parse_command, parse_end};
 pub use receiving::{Received, received_of, unreceived};
 pub use reserving::{
     Record, note_durable, show_rx_floor, show_to_accept, show_to_save, show_tx_floor, show_wanted,
     write_compacted,
 };
+pub use rows::{CommandKind, CommandRow, command_of_row, config_row, no_config, no_row, row_of};
 pub use sealing::seal;
 pub use sending::{Sent, sent_of, unsent};
 pub use showing::{

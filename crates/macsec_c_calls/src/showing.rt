@@ -95,7 +95,7 @@ pub struct RxRowShown {
     pub reserved: [u64; 3],
 }
 
-fn number_of_mode(mode: Mode) -> u32
+pub(crate) fn number_of_mode(mode: Mode) -> u32
     ensures { result ≡ number_of_mode mode }
 {
     match mode {
@@ -105,7 +105,7 @@ fn number_of_mode(mode: Mode) -> u32
     }
 }
 
-fn number_of_form(form: TagForm) -> u32
+pub(crate) fn number_of_form(form: TagForm) -> u32
     ensures { result ≡ number_of_form form }
 {
     match form {

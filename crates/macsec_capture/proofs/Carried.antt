@@ -1,12 +1,15 @@
 -- The loop over the commands: what was printed so far, and what is still to come.
-use Rattle.std.proofs.Common.{◌≡◌, ℕ, ◌+◌, ◌<◌, List, ◌∷◌, ◌++◌, drop, get_or, length, sym, ap, ◌∙◌, append_assoc}
-use Rattle.std.proofs.lemmas.List.{drop_more}
-use Rattle.std.specs.Prelude.{Option}
-use Rattle.std.specs.Io.KnownBytes.{Appends}
-use Rattle.std.proofs.KnownBytes.{Appends-trans}
-use Rattle.macsec_secy.specs.State.{State}
-use Rattle.macsec_script_parser.specs.Parts.{NumberedCommand}
-use Rattle.macsec_capture.specs.Captured.{Part, commands_part, line_part}
+use Rattle.{
+  std.proofs.{
+    Common.{◌≡◌, ℕ, ◌+◌, ◌<◌, List, ◌∷◌, ◌++◌, drop, get_or, length, sym, ap, ◌∙◌, append_assoc, Option},
+    KnownBytes.Appends-trans,
+    lemmas.List.drop_more,
+  },
+  std.specs.Io.KnownBytes.Appends,
+  macsec_secy.specs.State.State,
+  macsec_script_parser.specs.Parts.NumberedCommand,
+  macsec_capture.specs.Captured.{Part, commands_part, line_part},
+}
 
 -- what was printed, followed by what is still to come, is the whole
 pub record IsOnTheWay (whole : Part) (old now : Option (List ℕ)) (s : State) (rest : List NumberedCommand) : Type 0 where

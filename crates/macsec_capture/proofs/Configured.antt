@@ -1,25 +1,30 @@
 -- A run from its configuration on: what it returns if the configuration was not read, and if it was.
-use Rattle.std.proofs.Common.{◌≡◌, ℕ, ◌<◌, ◌≤◌, List, length, inl, inr, refl, sym, ap, subst, ◌∙◌, arith}
-use Rattle.std.proofs.lemmas.Bool.Decides.{nat_tests}
-use Rattle.std.specs.Prelude.{Bool, true, false, ◌||◌, if◌then◌else◌, nat_lt, is_ok, IsOk, IfErr, Option, Some, None, Result, Ok, Err, IfSome}
-use Rattle.macsec_commands.specs.declared.config.EndConfig.{EndConfig}
-use Rattle.macsec_script_parser.specs.declared.faults.ScriptFault.{ScriptFault}
+use Rattle.{
+  std.proofs.{
+    Common.{◌≡◌, ℕ, ◌<◌, ◌≤◌, List, length, inl, inr, refl, sym, ap, subst, ◌∙◌, arith, Bool, true, false, ◌||◌},
+    Common.{if◌then◌else◌, nat_lt, is_ok, IsOk, IfErr, Option, Some, None, Result, Ok, Err, IfSome},
+    lemmas.Bool.Decides.nat_tests,
+  },
+  macsec_commands.specs.declared.config.EndConfig.EndConfig,
+  macsec_script_parser.specs.{
+    Kinds.and_then,
+    Parts.{ConfigParts, NumberedCommand},
+    Readings.{IsInputFault, IsReadFault, Parses},
+    Scripts.{config_of, config_of_lines},
+    Words.lines_of,
+    declared.faults.ScriptFault.ScriptFault,
+  },
+  macsec_pcap.specs.{Captures.CaptureFile, declared.fault.PcapFault.{PcapFault, TheVariants.Read}},
+  macsec_pcapng.specs.Captures.captures_of,
+  macsec_capture.proofs.Grown.Stays-same,
+  macsec_capture.specs.{
+    Captured.{captured, captured_at, captured_by, captured_over},
+    Runs.{CaptureGives, IsAfterConfig, IsLateFault, JudgesConfig, LeavesBoth, RunsOverSome, RunsSome, Stays, Written},
+    Runs.as_read,
+    declared.{Direction.Direction, fault.CaptureFault.{CaptureFault, TheVariants.{Script, Pcap}}},
+  },
+}
 use Rattle.macsec_script_parser.specs.declared.faults.ScriptFault.TheVariants as script
-use Rattle.macsec_script_parser.specs.Kinds.{and_then}
-use Rattle.macsec_script_parser.specs.Readings.{IsInputFault, IsReadFault, Parses}
-use Rattle.macsec_script_parser.specs.Words.{lines_of}
-use Rattle.macsec_script_parser.specs.Parts.{ConfigParts, NumberedCommand}
-use Rattle.macsec_script_parser.specs.Scripts.{config_of, config_of_lines}
-use Rattle.macsec_pcap.specs.declared.fault.PcapFault.{PcapFault}
-use Rattle.macsec_pcap.specs.declared.fault.PcapFault.TheVariants.{Read}
-use Rattle.macsec_pcap.specs.Captures.{CaptureFile}
-use Rattle.macsec_pcapng.specs.Captures.{captures_of}
-use Rattle.macsec_capture.specs.declared.Direction.{Direction}
-use Rattle.macsec_capture.specs.declared.fault.CaptureFault.{CaptureFault}
-use Rattle.macsec_capture.specs.declared.fault.CaptureFault.TheVariants.{Script, Pcap}
-use Rattle.macsec_capture.specs.Captured.{captured, captured_at, captured_by, captured_over}
-use Rattle.macsec_capture.specs.Runs.{CaptureGives, IsAfterConfig, IsLateFault, JudgesConfig, LeavesBoth, RunsOverSome, RunsSome, Stays, Written, as_read}
-use Rattle.macsec_capture.proofs.Grown.{Stays-same}
 
 -- ---- the configuration was not read
 

@@ -1,23 +1,24 @@
 -- An output that is cut between two stops: `AtNext` and `CutsOutput` of runs whose output fails.
-use Rattle.std.proofs.Common.{◌≡◌, ℕ, zero, suc, ◌+◌, ◌≤◌, ◌<◌, List, [], ◌∷◌, ◌++◌, length, map, take, drop, refl, sym, ap, subst, ◌∙◌, append_assoc, arith, take-append-drop}
-use Rattle.std.specs.Prelude.{Option, Some, Ok, option_map, slice_get}
-use Rattle.std.specs.List.{range_with_len}
-use Rattle.std.specs.Io.{StartsWith}
-use Rattle.std.specs.Io.KnownBytes.{Appends, Keeps}
-use Rattle.std.proofs.KnownBytes.{Appends-kept, Appends-trans, starts_with_rest}
-use Rattle.std.proofs.Transfers.{starts_with_of_append, starts_with_of_eq}
-use Rattle.std.proofs.lemmas.List.{take_all}
-use Rattle.std.proofs.lemmas.List.FromFn.{get_or-map-range_with_len, length-map-range_with_len}
-use Rattle.std.proofs.lemmas.Option.{slice_get-get_or, slice_get-map}
-use Rattle.macsec_secy.specs.State.{State}
-use Rattle.macsec_pcap.specs.Captures.{CaptureFile}
-use Rattle.macsec_pcap.specs.Records.{CaptureRecord}
-use Rattle.macsec_writes.specs.Fronts.{AppendsFront}
-use Rattle.macsec_pcap.specs.Written.{header_octets}
-use Rattle.macsec_capture.specs.declared.Direction.{Direction}
-use Rattle.macsec_capture.specs.Captured.{Part, Stop, first_stop, nothing, record_part, records_part, stop_behind, stops_of}
-use Rattle.macsec_capture.specs.Runs.{AppendsUpTo, AtNext, CutsOutput, Written, first_part}
-use Rattle.macsec_capture.proofs.Stops.{put_before}
+use Rattle.{
+  std.proofs.{
+    Common.{◌≡◌, ℕ, zero, suc, ◌+◌, ◌≤◌, ◌<◌, List, [], ◌∷◌, ◌++◌, length, map, take, drop, refl, sym, ap, subst, ◌∙◌},
+    Common.{append_assoc, arith, take-append-drop, Option, Some, Ok, option_map, slice_get, take_all},
+    KnownBytes.{Appends-kept, Appends-trans, starts_with_rest},
+    Transfers.{starts_with_of_append, starts_with_of_eq},
+    lemmas.List.FromFn.{get_or-map-range_with_len, length-map-range_with_len},
+    lemmas.Option.{slice_get-get_or, slice_get-map},
+  },
+  std.specs.{Io.{StartsWith, KnownBytes.{Appends, Keeps}}, List.range_with_len},
+  macsec_secy.specs.State.State,
+  macsec_writes.specs.Fronts.AppendsFront,
+  macsec_pcap.specs.{Captures.CaptureFile, Records.CaptureRecord, Written.header_octets},
+  macsec_capture.{
+    proofs.Stops.put_before,
+    specs.Captured.{Part, Stop, first_stop, nothing, record_part, records_part, stop_behind, stops_of},
+    specs.Runs.{AppendsUpTo, AtNext, CutsOutput, Written, first_part},
+    specs.declared.Direction.Direction,
+  },
+}
 
 -- ---- octets that are cut
 

@@ -1,19 +1,17 @@
 -- A run without a fault has written the output of its last stop.
-use Rattle.std.proofs.Common.{◌≡◌, ℕ, List, []}
-use Rattle.std.specs.Prelude.{Option, None, Result, Ok, Err}
-use Rattle.std.specs.Io.KnownBytes.{Appends}
-use Rattle.macsec_secy.specs.State.{start}
-use Rattle.macsec_script_parser.specs.Parts.{ConfigParts}
-use Rattle.macsec_script_parser.specs.Scripts.{config_of}
-use Rattle.macsec_script_parser.specs.declared.faults.ScriptFault.{ScriptFault}
+use Rattle.{
+  std.{proofs.Common.{◌≡◌, ℕ, List, [], Option, None, Result, Ok, Err}, specs.Io.KnownBytes.Appends},
+  macsec_secy.specs.State.start,
+  macsec_script_parser.specs.{Parts.ConfigParts, Scripts.config_of, declared.faults.ScriptFault.ScriptFault},
+  macsec_pcap.specs.{Captures.CaptureFile, declared.fault.PcapFault.PcapFault},
+  macsec_capture.{
+    proofs.Stops.at_last,
+    specs.Captured.{Captured, Part, captured_after, captured_by, captured_over, commands_part},
+    specs.Runs.{AtSome, CaptureGives, Grows, Written},
+    specs.declared.{Direction.Direction, fault.CaptureFault.TheVariants.Script},
+  },
+}
 use Rattle.macsec_script_parser.specs.declared.faults.ScriptFault.TheVariants as script
-use Rattle.macsec_pcap.specs.declared.fault.PcapFault.{PcapFault}
-use Rattle.macsec_pcap.specs.Captures.{CaptureFile}
-use Rattle.macsec_capture.specs.declared.Direction.{Direction}
-use Rattle.macsec_capture.specs.declared.fault.CaptureFault.TheVariants.{Script}
-use Rattle.macsec_capture.specs.Captured.{Captured, Part, captured_after, captured_by, captured_over, commands_part}
-use Rattle.macsec_capture.specs.Runs.{AtSome, CaptureGives, Grows, Written}
-use Rattle.macsec_capture.proofs.Stops.{at_last}
 
 -- the complete output is what some stop has
 abbrev IsAtOutput : Option (List ℕ) → Option (List ℕ) → Captured → Type 0

@@ -1,15 +1,17 @@
 -- What successive writes append to the output and to the text.
-use Rattle.std.proofs.Common.{ℕ, List, [], ◌∷◌, ◌++◌}
-use Rattle.std.specs.Io.KnownBytes.{Keeps}
-use Rattle.std.specs.Prelude.{None, Result, Ok, Err}
-use Rattle.std.proofs.KnownBytes.{Appends-kept, Appends-nil, Appends-trans, Keeps-refl, Keeps-trans}
-use Rattle.macsec_script_parser.specs.declared.faults.ScriptFault.TheVariants as script
+use Rattle.std.{
+  proofs.Common.{ℕ, List, [], ◌∷◌, ◌++◌, None, Result, Ok, Err},
+  proofs.KnownBytes.{Appends-kept, Appends-nil, Appends-trans, Keeps-refl, Keeps-trans},
+  specs.Io.KnownBytes.Keeps,
+}
 use Rattle.macsec_pcap.specs.declared.fault.PcapFault.TheVariants.{Read, Write, Memory}
-use Rattle.macsec_capture.specs.declared.fault.CaptureFault.{CaptureFault}
-use Rattle.macsec_capture.specs.declared.fault.CaptureFault.TheVariants.{Script, Pcap}
-use Rattle.macsec_capture.specs.Captured.{Captured, Stop}
-use Rattle.macsec_capture.specs.Runs.{AtFirst, AtSome, CaptureGives, Grows, Stays, Written, known}
-use Rattle.macsec_capture.proofs.Cuts.{cut_kept, next_kept}
+use Rattle.macsec_capture.{
+  proofs.Cuts.{cut_kept, next_kept},
+  specs.Captured.{Captured, Stop},
+  specs.Runs.{AtFirst, AtSome, CaptureGives, Grows, Stays, Written, known},
+  specs.declared.fault.CaptureFault.{CaptureFault, TheVariants.{Script, Pcap}},
+}
+use Rattle.macsec_script_parser.specs.declared.faults.ScriptFault.TheVariants as script
 
 pub Stays-same : (w : Written) → Stays w w
 Stays-same w = record { output = Keeps-refl w.output; text = Keeps-refl w.text }

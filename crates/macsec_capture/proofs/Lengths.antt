@@ -1,9 +1,12 @@
 -- No frame that is sent or delivered is too long for a record.
-use Rattle.std.proofs.Common.{◌≡◌, ◌≤◌, ℕ, List, length, arith, subst, sym}
-use Rattle.std.specs.Prelude.{Option, Some, None, IfSome}
-use Rattle.macsec_secy.specs.Frames.{HasFrameLengths}
-use Rattle.macsec_secy.specs.Step.{Output, done, refused, leaves, dropped_no_sa, dropped_too_long, received, fault}
-use Rattle.macsec_capture.specs.Captured.{frame_of_output}
+use Rattle.{
+  std.proofs.Common.{◌≡◌, ◌≤◌, ℕ, List, length, arith, subst, sym, Option, Some, None, IfSome},
+  macsec_secy.specs.{
+    Frames.HasFrameLengths,
+    Step.{Output, done, refused, leaves, dropped_no_sa, dropped_too_long, received, fault},
+  },
+  macsec_capture.specs.Captured.frame_of_output,
+}
 
 fits : (out : Output) → HasFrameLengths out → IfSome (frame_of_output out) (λ f. length f ≤ 262144)
 fits (leaves frame under) has = omega (arith, has.most)

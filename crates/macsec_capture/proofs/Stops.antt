@@ -1,16 +1,18 @@
 -- The list of a run's stops: each stop is in it, and after the commands each has their text.
-use Rattle.std.proofs.Common.{◌≡◌, ℕ, ◌+◌, ◌≤◌, ◌<◌, List, [], ◌∷◌, ◌++◌, length, map, take, refl, sym, ap, subst, ◌∙◌, append-nil, arith}
-use Rattle.std.specs.Prelude.{Contains, Result, Ok, Err}
+use Rattle.std.proofs.{
+  Common.{◌≡◌, ℕ, ◌+◌, ◌≤◌, ◌<◌, List, [], ◌∷◌, ◌++◌, length, map, take, refl, sym, ap, subst, ◌∙◌, append-nil, arith},
+  Common.{Contains, Result, Ok, Err, take_at},
+  lemmas.List.{get_or-map, length-map},
+  lemmas.List.{Elements.Contains-append_right, FromFn.{get_or-map-range_with_len, length-map-range_with_len}},
+  lemmas.Simd.map-map,
+}
 use Rattle.std.specs.List.{range_with_len}
-use Rattle.std.proofs.lemmas.List.{get_or-map, length-map, take_at}
-use Rattle.std.proofs.lemmas.List.Elements.{Contains-append_right}
-use Rattle.std.proofs.lemmas.List.FromFn.{get_or-map-range_with_len, length-map-range_with_len}
-use Rattle.std.proofs.lemmas.Simd.{map-map}
-use Rattle.macsec_pcap.specs.declared.fault.PcapFault.{PcapFault}
-use Rattle.macsec_pcap.specs.Captures.{CaptureFile}
-use Rattle.macsec_capture.specs.declared.Direction.{Direction}
-use Rattle.macsec_capture.specs.Captured.{Part, Stop, first_stop, nothing, records_part, stop_after, stop_behind, stops_of}
-use Rattle.macsec_capture.specs.Runs.{AtFirst, AtSome}
+use Rattle.macsec_pcap.specs.{Captures.CaptureFile, declared.fault.PcapFault.PcapFault}
+use Rattle.macsec_capture.specs.{
+  Captured.{Part, Stop, first_stop, nothing, records_part, stop_after, stop_behind, stops_of},
+  Runs.{AtFirst, AtSome},
+  declared.Direction.Direction,
+}
 
 -- ---- each stop is in the list
 

@@ -1,25 +1,32 @@
 -- The loop over the records: what the first k write, by induction on k, and how the loop ends.
-use Rattle.std.proofs.Common.{◌≡◌, ℕ, ◌+◌, ◌<◌, List, [], ◌∷◌, ◌++◌, length, take, inl, inr, refl, sym, ap, subst, ◌∙◌, append_assoc, append-nil, arith, length-append}
-use Rattle.std.specs.Prelude.{Option, Some, None, Ok, Err}
-use Rattle.std.proofs.lemmas.List.{take_at}
-use Rattle.std.specs.Io.KnownBytes.{Appends}
-use Rattle.std.proofs.KnownBytes.{Appends-trans}
-use Rattle.macsec_secy.specs.State.{State}
-use Rattle.macsec_pcap.specs.declared.fault.PcapFault.{PcapFault}
-use Rattle.macsec_pcap.specs.declared.fault.PcapFault.TheVariants.{Magic, Version, LinkType, CutHeader, CutRecord, RecordLength, Read, Write, Memory}
-use Rattle.macsec_pcap.specs.declared.fault.PcapFault.TheVariants.{RecordCount, BlockLength, NoInterface, InterfaceCount, Time}
-use Rattle.macsec_pcap.specs.Records.{CaptureRecord}
-use Rattle.macsec_pcap.specs.Captures.{Capture}
-use Rattle.macsec_pcap.specs.Answers.{UnlessRead}
-use Rattle.macsec_writes.specs.Fronts.{AppendsFront}
-use Rattle.macsec_pcap.specs.Reading.{Ahead, over, failed, holds, untold, Answers, IsAhead, ahead_after, first_of}
-use Rattle.macsec_capture.specs.declared.Direction.{Direction}
-use Rattle.macsec_capture.specs.declared.fault.CaptureFault.{CaptureFault}
-use Rattle.macsec_capture.specs.declared.fault.CaptureFault.TheVariants.{Script, Pcap}
-use Rattle.macsec_capture.specs.Captured.{Part, and_after, nothing, record_part, records_part}
-use Rattle.macsec_capture.specs.Runs.{Adds, CutsOutput, EndsHeld, FailsIn, Grows, IsHeldBy, IsLateFault, RunsHeld, RunsRecords, Written, first_part, part_stop}
-use Rattle.macsec_capture.proofs.Cuts.{up_to_front}
-use Rattle.macsec_capture.proofs.Grown.{Grows-more, Grows-nothing}
+use Rattle.{
+  std.proofs.{
+    Common.{◌≡◌, ℕ, ◌+◌, ◌<◌, List, [], ◌∷◌, ◌++◌, length, take, inl, inr, refl, sym, ap, subst, ◌∙◌, append_assoc},
+    Common.{append-nil, arith, length-append, Option, Some, None, Ok, Err, take_at},
+    KnownBytes.Appends-trans,
+  },
+  std.specs.Io.KnownBytes.Appends,
+  macsec_secy.specs.State.State,
+  macsec_writes.specs.Fronts.AppendsFront,
+  macsec_pcap.specs.{
+    Answers.UnlessRead,
+    Captures.Capture,
+    Reading.{Ahead, over, failed, holds, untold, Answers, IsAhead, ahead_after, first_of},
+    Records.CaptureRecord,
+    declared.fault.PcapFault.{
+      PcapFault,
+      TheVariants.{Magic, Version, LinkType, CutHeader, CutRecord, RecordLength, Read, Write, Memory, RecordCount},
+      TheVariants.{BlockLength, NoInterface, InterfaceCount, Time},
+    },
+  },
+  macsec_capture.proofs.{Cuts.up_to_front, Grown.{Grows-more, Grows-nothing}},
+  macsec_capture.specs.{
+    Captured.{Part, and_after, nothing, record_part, records_part},
+    Runs.{Adds, CutsOutput, EndsHeld, FailsIn, Grows, IsHeldBy, IsLateFault, RunsHeld, RunsRecords, Written},
+    Runs.{first_part, part_stop},
+    declared.{Direction.Direction, fault.CaptureFault.{CaptureFault, TheVariants.{Script, Pcap}}},
+  },
+}
 
 -- ---- what records write, and one more after them
 

@@ -1,35 +1,41 @@
 -- A run over a whole file, composed of its parts: header, records, flush and counters.
-use Rattle.std.proofs.Common.{◌≡◌, ℕ, List, [], ◌++◌, length, map, inl, inr, refl, sym, ap, subst, ◌∙◌, append-nil, arith}
-use Rattle.std.specs.Prelude.{Option, Some, None, Result, Ok, Err, IfErr, IfSome, option_map}
-use Rattle.std.specs.Io.{StartsWith}
-use Rattle.std.specs.Io.KnownBytes.{Appends, Keeps}
-use Rattle.std.proofs.KnownBytes.{Appends-nil, Appends-trans, Keeps-refl}
-use Rattle.macsec_secy.specs.State.{State, start}
-use Rattle.macsec_script_parser.specs.Parts.{ConfigParts}
-use Rattle.macsec_script_parser.specs.declared.faults.ScriptFault.{ScriptFault}
+use Rattle.{
+  std.proofs.{
+    Common.{◌≡◌, ℕ, List, [], ◌++◌, length, map, inl, inr, refl, sym, ap, subst, ◌∙◌, append-nil, arith, Option, Some},
+    Common.{None, Result, Ok, Err, IfErr, IfSome, option_map},
+    KnownBytes.{Appends-nil, Appends-trans, Keeps-refl},
+  },
+  std.specs.Io.{StartsWith, KnownBytes.{Appends, Keeps}},
+  macsec_secy.specs.State.{State, start},
+  macsec_script_parser.specs.{Parts.ConfigParts, declared.faults.ScriptFault.ScriptFault},
+  macsec_script_printer.specs.{Counters.counters_text, declared.counters.Label.TheVariants.End},
+  macsec_writes.specs.Fronts.AppendsFront,
+  macsec_pcap.specs.{
+    Captures.CaptureFile,
+    Reading.{Ahead, holds, Opens, Reading, opened},
+    Written.header_octets,
+    declared.fault.PcapFault.{
+      PcapFault,
+      TheVariants.{Magic, Version, LinkType, CutHeader, CutRecord, RecordLength, Read, Write, Memory, RecordCount},
+      TheVariants.{BlockLength, NoInterface, InterfaceCount, Time},
+    },
+    declared.form.Resolution.{Resolution, TheVariants.Micro},
+  },
+  macsec_pcapng.specs.{Captures.captures_of, Laws.{FileIsOfFormat, IsOfFormat}},
+  macsec_capture.proofs.{
+    Cuts.{at_flush, at_header, at_record, cut_put, next_put, up_to_behind},
+    Grown.{Grows-kept, Grows-more, Grows-nothing, Kept, fault_kept},
+    Stops.{at_first, at_last, first_put, put_before, some_at_first, some_behind, some_put, stops_put},
+  },
+  macsec_capture.specs.{
+    Captured.{Captured, Part, Stop, captured_after, captured_at, commands_part, last_lines, nothing, records_part},
+    Captured.stops_of,
+    Runs.{Adds, AtFirst, AtSome, CaptureGives, CutsOutput, Grows, InLast, IsLateFault, RunsHeld, RunsRecords},
+    Runs.{TakesFile, Written, as_read, as_read_fault, behind_header, first_part, flushed_end, known},
+    declared.{Direction.Direction, fault.CaptureFault.{CaptureFault, TheVariants.{Script, Pcap}}},
+  },
+}
 use Rattle.macsec_script_parser.specs.declared.faults.ScriptFault.TheVariants as script
-use Rattle.macsec_script_printer.specs.declared.counters.Label.TheVariants.{End}
-use Rattle.macsec_script_printer.specs.Counters.{counters_text}
-use Rattle.macsec_pcap.specs.declared.fault.PcapFault.{PcapFault}
-use Rattle.macsec_pcap.specs.declared.fault.PcapFault.TheVariants.{Magic, Version, LinkType, CutHeader, CutRecord, RecordLength, Read, Write, Memory}
-use Rattle.macsec_pcap.specs.declared.fault.PcapFault.TheVariants.{RecordCount, BlockLength, NoInterface, InterfaceCount, Time}
-use Rattle.macsec_pcap.specs.declared.form.Resolution.{Resolution}
-use Rattle.macsec_pcap.specs.declared.form.Resolution.TheVariants.{Micro}
-use Rattle.macsec_pcap.specs.Captures.{CaptureFile}
-use Rattle.macsec_pcap.specs.Reading.{Ahead, holds, Opens, Reading, opened}
-use Rattle.macsec_writes.specs.Fronts.{AppendsFront}
-use Rattle.macsec_pcap.specs.Written.{header_octets}
-use Rattle.macsec_pcapng.specs.Captures.{captures_of}
-use Rattle.macsec_pcapng.specs.Laws.{FileIsOfFormat, IsOfFormat}
-use Rattle.macsec_capture.specs.declared.Direction.{Direction}
-use Rattle.macsec_capture.specs.declared.fault.CaptureFault.{CaptureFault}
-use Rattle.macsec_capture.specs.declared.fault.CaptureFault.TheVariants.{Script, Pcap}
-use Rattle.macsec_capture.specs.Captured.{Captured, Part, Stop, captured_after, captured_at, commands_part, last_lines, nothing, records_part, stops_of}
-use Rattle.macsec_capture.specs.Runs.{Adds, AtFirst, AtSome, CaptureGives, CutsOutput, Grows, InLast, IsLateFault, RunsHeld, RunsRecords, TakesFile}
-use Rattle.macsec_capture.specs.Runs.{Written, as_read, as_read_fault, behind_header, first_part, flushed_end, known}
-use Rattle.macsec_capture.proofs.Cuts.{at_flush, at_header, at_record, cut_put, next_put, up_to_behind}
-use Rattle.macsec_capture.proofs.Grown.{Grows-kept, Grows-more, Grows-nothing, Kept, fault_kept}
-use Rattle.macsec_capture.proofs.Stops.{at_first, at_last, first_put, put_before, some_at_first, some_behind, some_put, stops_put}
 
 -- a run over a file, without commands before it
 abbrev pub of_file : Direction → State → CaptureFile → Captured

@@ -1,8 +1,10 @@
 -- Worked command lines, and what they ask for.
-use Rattle.std.specs.Prelude.{◌≡◌, [], ◌∷◌, codes, Some, None, refl}
-use Rattle.clap.proofs.OnLiterals.{clap_on_literals}
-use Rattle.macsec_capture.specs.declared.Direction.TheVariants.{Protect, Validate}
-use Rattle.macsec_cli_runs.specs.Words.{asked, running, capturing}
+use Rattle.{
+  std.proofs.Common.{◌≡◌, [], ◌∷◌, codes, Some, None, refl},
+  clap.proofs.OnLiterals.clap_on_literals,
+  macsec_capture.specs.declared.Direction.TheVariants.{Protect, Validate},
+  macsec_cli_runs.specs.Words.{asked, running, capturing},
+}
 
 standard_input : asked (codes "macsec" ∷ codes "run" ∷ codes "-" ∷ []) ≡ Some (running (codes "-"))
 unfolding clap_on_literals

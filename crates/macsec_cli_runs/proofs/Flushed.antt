@@ -1,21 +1,21 @@
 -- The contract of a run still holds after the text is flushed.
-use Rattle.std.proofs.Common.{◌≡◌, ℕ, List, Option, Some, None, Result, Ok, Err, inl, inr, refl, subst, sym}
-use Rattle.std.specs.Prelude.{IfErr, IfSome}
-use Rattle.std.specs.Io.KnownBytes.{Keeps}
-use Rattle.std.proofs.KnownBytes.{Keeps-refl}
+use Rattle.std.{
+  proofs.Common.{◌≡◌, ℕ, List, Option, Some, None, Result, Ok, Err, inl, inr, refl, subst, sym, IfErr, IfSome},
+  proofs.KnownBytes.Keeps-refl,
+  specs.Io.KnownBytes.Keeps,
+}
+use Rattle.macsec_pcap.specs.{Captures.CaptureFile, declared.fault.PcapFault.PcapFault}
+use Rattle.macsec_capture.{
+  proofs.{Ended.written_whole, Grown.{Grows-kept, Kept, Stays-kept, fault_kept, forgotten}},
+  specs.Captured.{captured, captured_over},
+  specs.Runs.{CaptureGives, IsUnread, JudgesConfig, LeavesBoth, RunsSome, Written, as_read},
+  specs.declared.{Direction.Direction, fault.CaptureFault.{CaptureFault, TheVariants.{Script, Pcap}}},
+}
+use Rattle.macsec_cli_runs.specs.{
+  Captures.{CaptureFailsAs, LeavesLines, Reports, RunsFiles, capture_end, reported},
+  declared.{captures.CapturePaths.CapturePaths, failures.Failure.Failure},
+}
 use Rattle.macsec_script_parser.specs.declared.faults.ScriptFault.TheVariants as script
-use Rattle.macsec_pcap.specs.declared.fault.PcapFault.{PcapFault}
-use Rattle.macsec_pcap.specs.Captures.{CaptureFile}
-use Rattle.macsec_capture.specs.declared.Direction.{Direction}
-use Rattle.macsec_capture.specs.declared.fault.CaptureFault.{CaptureFault}
-use Rattle.macsec_capture.specs.declared.fault.CaptureFault.TheVariants.{Script, Pcap}
-use Rattle.macsec_capture.specs.Captured.{captured, captured_over}
-use Rattle.macsec_capture.specs.Runs.{CaptureGives, IsUnread, JudgesConfig, LeavesBoth, RunsSome, Written, as_read}
-use Rattle.macsec_capture.proofs.Ended.{written_whole}
-use Rattle.macsec_capture.proofs.Grown.{Grows-kept, Kept, Stays-kept, fault_kept, forgotten}
-use Rattle.macsec_cli_runs.specs.declared.captures.CapturePaths.{CapturePaths}
-use Rattle.macsec_cli_runs.specs.declared.failures.Failure.{Failure}
-use Rattle.macsec_cli_runs.specs.Captures.{CaptureFailsAs, LeavesLines, Reports, RunsFiles, capture_end, reported}
 
 abbrev known : Option (List ℕ) → Option (List ℕ) → Written
 known octets lines = record { output = octets; text = lines }

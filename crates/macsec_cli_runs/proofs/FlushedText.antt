@@ -1,14 +1,16 @@
 -- The contract of a script's run still holds after its text is flushed, and of some text if the reader's is not known.
-use Rattle.std.proofs.Common.{◌≡◌, ◌≤◌, inl, inr, ℕ, List, [], append-nil, length, sym, subst}
-use Rattle.std.specs.Prelude.{IfErr, MatchResult, OnOk, Option, Result, Ok, Err}
-use Rattle.std.specs.Io.KnownBytes.{Keeps}
-use Rattle.std.proofs.KnownBytes.{Appends-kept, Keeps-trans}
-use Rattle.std.proofs.Transfers.{starts_with_of_append}
-use Rattle.macsec_script_parser.specs.declared.faults.ScriptFault.{ScriptFault}
-use Rattle.macsec_script_parser.specs.declared.faults.ScriptFault.TheVariants.{Memory, Read, Write}
-use Rattle.macsec_script.specs.Promised.{IsPromised, IsPromisedBefore, IsPromisedUpTo}
-use Rattle.macsec_script.specs.Runs.{LeavesText, RunGives}
-use Rattle.macsec_cli_runs.specs.SomeText.{IsPromisedThen, RunsSomeText}
+use Rattle.{
+  std.proofs.{
+    Common.{◌≡◌, ◌≤◌, inl, inr, ℕ, List, [], append-nil, length, sym, subst, IfErr, MatchResult, OnOk, Option, Result},
+    Common.{Ok, Err},
+    KnownBytes.{Appends-kept, Keeps-trans},
+    Transfers.starts_with_of_append,
+  },
+  std.specs.Io.KnownBytes.Keeps,
+  macsec_script_parser.specs.declared.faults.ScriptFault.{ScriptFault, TheVariants.{Memory, Read, Write}},
+  macsec_script.specs.{Promised.{IsPromised, IsPromisedBefore, IsPromisedUpTo}, Runs.{LeavesText, RunGives}},
+  macsec_cli_runs.specs.SomeText.{IsPromisedThen, RunsSomeText},
+}
 
 abbrev Done : Type 0
 Done = Result (Unit {0}) ScriptFault

@@ -1,13 +1,15 @@
 -- What clap matches is what the arguments ask for.
-use Rattle.std.proofs.Common.{◌≡◌, ◌∙◌, ◌⊎◌, inl, inr, List, [], ◌∷◌, true, ap, refl, subst, sym, Option, Err}
-use Rattle.clap.specs.Words.{App, HasKind, HasMatchesOf, IsAmong, Kinds, Text, fault_of, is_simple, is_simple_and_free}
-use Rattle.clap.specs.Words.{kind_of, subcommand_of, subcommand_rows_of}
-use Rattle.clap.specs.declared.error.Error.{Error}
-use Rattle.clap.specs.declared.error.kind.ErrorKind.{ErrorKind}
-use Rattle.clap.specs.declared.error.kind.ErrorKind.TheVariants.{OutOfMemory}
-use Rattle.clap.specs.declared.parser.matches.ArgMatches.{ArgMatches}
-use Rattle.clap.proofs.OnLiterals.{clap_on_literals}
-use Rattle.macsec_cli_runs.specs.Words.{Asked, Asks, asked, asked_in, kind_failure, macsec_app, without_fault}
+use Rattle.{
+  std.proofs.Common.{◌≡◌, ◌∙◌, ◌⊎◌, inl, inr, List, [], ◌∷◌, true, ap, refl, subst, sym, Option, Err},
+  clap.proofs.OnLiterals.clap_on_literals,
+  clap.specs.{
+    Words.{App, HasKind, HasMatchesOf, IsAmong, Kinds, Text, fault_of, is_simple, is_simple_and_free, kind_of},
+    Words.{subcommand_of, subcommand_rows_of},
+    declared.error.{Error.Error, kind.ErrorKind.{ErrorKind, TheVariants.OutOfMemory}},
+    declared.parser.matches.ArgMatches.ArgMatches,
+  },
+  macsec_cli_runs.specs.Words.{Asked, Asks, asked, asked_in, kind_failure, macsec_app, without_fault},
+}
 
 pub is_free : is_simple_and_free macsec_app ≡ true
 unfolding clap_on_literals

@@ -1,2 +1,3 @@
+mod Names
 pub mod Link
 pub mod Restarts

@@ -1,4 +1,3 @@
-mod Names
 pub mod Ivs
 pub mod Examples
 pub mod AcceptedExample

@@ -1,4 +1,3 @@
-mod Names
 pub mod Tables
 pub mod Journals
 pub mod Goes

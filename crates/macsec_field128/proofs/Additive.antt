@@ -1,12 +1,13 @@
 -- Additive functions of blocks.
-use Rattle.std.proofs.Common.{◌≡◌, ℕ, zero, suc, ◌+◌, ◌*◌, ◌/◌, ◌%◌, ◌^◌, ◌<◌, ◌⊎◌, inl, inr, bit_xor, ◌≢◌, refl, sym, ap, ap₂, ◌∙◌, arith}
-use Rattle.std.specs.Fn.{iterate}
-use Rattle.std.specs.Int.Bits.{xor_zero_r, xor_zero_l, xor_assoc, xor_self}
-use Rattle.std.proofs.lemmas.Nat.{xor_comm, xor_block, xor_shr, pow_pos, div_below}
-use Rattle.std.proofs.lemmas.Nat.Bits.{bit_at_lowest, bit_at_xor}
-use Rattle.std.proofs.lemmas.Bool.{cases_lt}
-use Rattle.std.proofs.lemmas.Grind.{pow_more}
-use Rattle.std.proofs.Math.Nat.{mul_comm}
+use Rattle.std.proofs.{
+  Common.{◌≡◌, ℕ, zero, suc, ◌+◌, ◌*◌, ◌/◌, ◌%◌, ◌^◌, ◌<◌, ◌⊎◌, inl, inr, bit_xor, ◌≢◌, refl, sym, ap, ap₂, ◌∙◌, arith},
+  Common.pow_pos,
+  Math.Nat.mul_comm,
+  lemmas.Bool.cases_lt,
+  lemmas.Grind.pow_more,
+  lemmas.Nat.{xor_comm, xor_block, xor_shr, div_below, Bits.{bit_at_lowest, bit_at_xor}},
+}
+use Rattle.std.specs.{Fn.iterate, Int.Bits.{xor_zero_r, xor_zero_l, xor_assoc, xor_self}}
 use Rattle.macsec_field128.specs.Field.{sum_below, times_x, reduction}
 
 pub record IsAdditive (f : ℕ → ℕ) : Type 0 where

@@ -1,18 +1,20 @@
 -- The product of blocks is the residue of their carryless product.
-use Rattle.std.proofs.Common.{◌≡◌, ℕ, zero, suc, ◌+◌, ◌-◌, ◌*◌, ◌/◌, ◌%◌, ◌^◌, ◌<◌, inl, inr, map, bit_or, bit_xor, refl, sym, ap, ap₂, ◌∙◌, arith}
-use Rattle.std.specs.Fn.{iterate}
-use Rattle.std.specs.Int.{bit_at}
-use Rattle.std.specs.List.{range_with_len}
-use Rattle.std.proofs.Math.Nat.{mul_comm, mul_assoc}
-use Rattle.std.proofs.lemmas.Nat.{or_shifted, pow-add, pow_pos, xor_block, xor_mod, xor_shr}
-use Rattle.std.proofs.lemmas.Nat.Bits.{bit_at_xor, bit_at-lt, bit_at-pow_same, bit_at-pow_other}
-use Rattle.std.proofs.lemmas.Bool.{cases_lt}
-use Rattle.macsec_field128.specs.Field.{block_product, sum_below, times_x}
-use Rattle.macsec_field128.specs.Carryless.{carryless, residue, CarrylessAddsInFirst, CarrylessAddsInSecond, CarrylessOfOne}
-use Rattle.macsec_field128.specs.Carryless.{CarrylessMovesWithFirst, CarrylessMovesWithSecond, ProductIsResidue, ResidueAdds}
-use Rattle.macsec_field128.proofs.Additive.{IsAdditive, additive_bit, additive_sum, bit_times_sum, iterate_adds, no_term, one_term}
-use Rattle.macsec_field128.proofs.Additive.{one_times, zero_times, same_from_ones, same_sums, sum_of_bits_times, sum_of_sums}
-use Rattle.macsec_field128.proofs.ProductLaws.{adds_in_first, product_with_one, same_below, sum_adds, times_x_of_one}
+use Rattle.std.proofs.{
+  Common.{◌≡◌, ℕ, zero, suc, ◌+◌, ◌-◌, ◌*◌, ◌/◌, ◌%◌, ◌^◌, ◌<◌, inl, inr, map, bit_or, bit_xor, refl, sym, ap, ap₂},
+  Common.{◌∙◌, arith, pow-add, pow_pos},
+  Math.Nat.{mul_comm, mul_assoc},
+  lemmas.Bool.cases_lt,
+  lemmas.Nat.{or_shifted, xor_block, xor_mod, xor_shr, Bits.{bit_at_xor, bit_at-lt, bit_at-pow_same, bit_at-pow_other}},
+}
+use Rattle.std.specs.{Fn.iterate, Int.bit_at, List.range_with_len}
+use Rattle.macsec_field128.{
+  proofs.Additive.{IsAdditive, additive_bit, additive_sum, bit_times_sum, iterate_adds, no_term, one_term, one_times},
+  proofs.Additive.{zero_times, same_from_ones, same_sums, sum_of_bits_times, sum_of_sums},
+  proofs.ProductLaws.{adds_in_first, product_with_one, same_below, sum_adds, times_x_of_one},
+  specs.Carryless.{carryless, residue, CarrylessAddsInFirst, CarrylessAddsInSecond, CarrylessOfOne},
+  specs.Carryless.{CarrylessMovesWithFirst, CarrylessMovesWithSecond, ProductIsResidue, ResidueAdds},
+  specs.Field.{block_product, sum_below, times_x},
+}
 
 -- ---- additive functions
 

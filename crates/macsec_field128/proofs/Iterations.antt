@@ -1,6 +1,5 @@
 -- Applying a function several times.
-use Rattle.std.proofs.Common.{◌≡◌, ℕ, zero, suc, ◌+◌, refl, add-one}
-use Rattle.std.specs.Fn.{iterate}
+use Rattle.std.{proofs.Common.{◌≡◌, ℕ, zero, suc, ◌+◌, refl, add-one}, specs.Fn.iterate}
 
 iterate-suc : {A : Type 0} (h : A → A) (n : ℕ) (x : A) → iterate h (suc n) x ≡ h (iterate h n x)
 iterate-suc h zero x = refl

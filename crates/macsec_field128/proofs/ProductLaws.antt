@@ -1,18 +1,19 @@
 -- The product of blocks distributes over sums in both factors and is associative.
-use Rattle.std.proofs.Common.{◌≡◌, ℕ, zero, suc, ◌+◌, ◌-◌, ◌*◌, ◌/◌, ◌%◌, ◌^◌, ◌<◌, List, map, bit_xor, refl, sym, ap, ap₂, ◌∙◌, arith, rules, get_or, inl, inr}
-use Rattle.std.specs.Fn.{iterate}
-use Rattle.std.specs.Int.{bit_at}
-use Rattle.std.specs.List.{range_with_len}
-use Rattle.std.specs.Int.Bits.{xor_zero_r}
-use Rattle.std.proofs.Math.Nat.{pow-suc}
-use Rattle.std.proofs.lemmas.Nat.{xor_lt}
-use Rattle.std.proofs.lemmas.Nat.Bits.{bit_at_xor, bit_at-lt, bit_at-pow_same, bit_at-pow_other}
-use Rattle.std.proofs.lemmas.List.FromFn.{get_or-map-range_with_len}
-use Rattle.macsec_field128.specs.Field.{bit_of, block_product, reduction, sum_below, times_x}
-use Rattle.macsec_field128.specs.Laws.{AddsInFirst, AddsInSecond, Associates, ProductIsBlock}
-use Rattle.macsec_field128.proofs.Iterations.{iterate_more}
-use Rattle.macsec_field128.proofs.Additive.{IsAdditive, additive_bit, additive_sum, bit_cases, bit_times_sum, iterate_adds, one_term, one_times}
-use Rattle.macsec_field128.proofs.Additive.{zero_times, same_from_ones, same_sums, sum_of_bits_times, sum_of_sums, times_x_adds, xor_swap}
+use Rattle.std.proofs.{
+  Common.{◌≡◌, ℕ, zero, suc, ◌+◌, ◌-◌, ◌*◌, ◌/◌, ◌%◌, ◌^◌, ◌<◌, List, map, bit_xor, refl, sym, ap, ap₂, ◌∙◌, arith},
+  Common.{rules, get_or, inl, inr},
+  Math.Nat.pow-suc,
+  lemmas.List.FromFn.get_or-map-range_with_len,
+  lemmas.Nat.{xor_lt, Bits.{bit_at_xor, bit_at-lt, bit_at-pow_same, bit_at-pow_other}},
+}
+use Rattle.std.specs.{Fn.iterate, Int.{bit_at, Bits.xor_zero_r}, List.range_with_len}
+use Rattle.macsec_field128.{
+  proofs.Additive.{IsAdditive, additive_bit, additive_sum, bit_cases, bit_times_sum, iterate_adds, one_term, one_times},
+  proofs.Additive.{zero_times, same_from_ones, same_sums, sum_of_bits_times, sum_of_sums, times_x_adds, xor_swap},
+  proofs.Iterations.iterate_more,
+  specs.Field.{bit_of, block_product, reduction, sum_below, times_x},
+  specs.Laws.{AddsInFirst, AddsInSecond, Associates, ProductIsBlock},
+}
 
 -- two functions that agree on a table agree below its length
 pub same_below : (f g : ℕ → ℕ) (n : ℕ) → map f (range_with_len 0 n) ≡ map g (range_with_len 0 n) → (a : ℕ) → a < n → f a ≡ g a

@@ -1,6 +1,5 @@
 -- Sums of blocks.
-use Rattle.std.proofs.Common.{◌≡◌, ℕ, ◌+◌, bit_xor, refl, add-one}
-use Rattle.macsec_field128.specs.Field.{sum_below}
+use Rattle.{std.proofs.Common.{◌≡◌, ℕ, ◌+◌, bit_xor, refl, add-one}, macsec_field128.specs.Field.sum_below}
 
 pub sum_below_none : (f : ℕ → ℕ) → sum_below 0 f ≡ 0
 unfolding sum_below

@@ -1,19 +1,22 @@
 -- Key streams, and the texts that they are added to.
-use Rattle.std.proofs.Common.{◌≡◌, ℕ, suc, ◌+◌, ◌-◌, ◌*◌, ◌/◌, ◌%◌, ◌<◌, ◌≤◌, List, [], ◌∷◌, length, get_or, take, drop, bit_xor}
-use Rattle.std.proofs.Common.{map, replicate, refl, sym, ap, ap₂, ◌∙◌, arith, inl, inr, length-drop, length-append, ◌++◌}
-use Rattle.std.proofs.lemmas.List.{length-map, length-replicate, length-take-le, get_or_append_left, get_or-append_right, get_or-map, get_or-take, get_or-drop}
-use Rattle.std.proofs.lemmas.List.FromFn.{length-map-range_with_len, get_or-map-range_with_len}
-use Rattle.std.proofs.lemmas.Bool.{cases_lt}
-use Rattle.std.proofs.lemmas.Simd.{get_or-replicate}
-use Rattle.std.specs.Fn.{iterate}
-use Rattle.std.specs.List.{flat_map}
-use Rattle.std.proofs.lemmas.Grind.{same_number_lists}
-use Rattle.std.specs.Int.Bits.{xor_assoc, xor_self, xor_zero_l, xor_zero_r}
+use Rattle.std.proofs.{
+  Common.{◌≡◌, ℕ, suc, ◌+◌, ◌-◌, ◌*◌, ◌/◌, ◌%◌, ◌<◌, ◌≤◌, List, [], ◌∷◌, length, get_or, take, drop, bit_xor, map},
+  Common.{replicate, refl, sym, ap, ap₂, ◌∙◌, arith, inl, inr, length-drop, length-append, ◌++◌, length-take-le},
+  Common.{get_or-take, get_or-drop},
+  lemmas.{
+    Bool.cases_lt,
+    Grind.same_number_lists,
+    List.{length-map, length-replicate, get_or_append_left, get_or-append_right, get_or-map},
+    List.{FromFn.{length-map-range_with_len, get_or-map-range_with_len}},
+    Simd.get_or-replicate,
+  },
+}
+use Rattle.std.specs.{Fn.iterate, Int.Bits.{xor_assoc, xor_self, xor_zero_l, xor_zero_r}, List.flat_map}
 use Rattle.macsec_aes.specs.Aes.{aes, add_round_key}
-use Rattle.macsec_gcm.specs.Gcm.{gctr, inc32}
-use Rattle.macsec_gcm.specs.Octets.{sum_with_stream}
-use Rattle.macsec_gcm.specs.Streams.{IsSumBelow, key_stream}
-use Rattle.macsec_gcm.proofs.Iterations.{iterate_add}
+use Rattle.macsec_gcm.{
+  proofs.Iterations.iterate_add,
+  specs.{Gcm.{gctr, inc32}, Octets.sum_with_stream, Streams.{IsSumBelow, key_stream}},
+}
 
 -- the key stream from the n-th counter block after icb on
 pub key_stream-later : (key icb : List ℕ) (n k : ℕ) → key_stream key (iterate inc32 n icb) k ≡ key_stream key icb (16 * n + k)

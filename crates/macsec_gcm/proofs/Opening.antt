@@ -1,10 +1,12 @@
 -- Opening is the inverse of sealing.
-use Rattle.std.proofs.Common.{◌≡◌, ◌↔◌, ℕ, List, [], ◌∷◌, length, Bool, true, false, cond, Some, None, eq-eqb, refl, sym, ap, ◌∙◌}
-use Rattle.std.specs.Cmp.Lexicographic.{same_text}
-use Rattle.macsec_gcm.specs.Gcm.{authentication_tag, inc32, open_of, pre_counter_block, seal_of}
-use Rattle.macsec_gcm.specs.Octets.{same_octets}
-use Rattle.macsec_gcm.specs.Pieces.{decrypted}
-use Rattle.macsec_gcm.proofs.KeyStreams.{gctr-gctr, length-gctr}
+use Rattle.std.{
+  proofs.Common.{◌≡◌, ◌↔◌, ℕ, List, [], ◌∷◌, length, Bool, true, false, cond, Some, None, eq-eqb, refl, sym, ap, ◌∙◌},
+  specs.Cmp.Lexicographic.same_text,
+}
+use Rattle.macsec_gcm.{
+  proofs.KeyStreams.{gctr-gctr, length-gctr},
+  specs.{Gcm.{authentication_tag, inc32, open_of, pre_counter_block, seal_of}, Octets.same_octets, Pieces.decrypted},
+}
 
 -- the tag of a ciphertext
 abbrev pub tag_of : List ℕ → List ℕ → List ℕ → List ℕ → List ℕ

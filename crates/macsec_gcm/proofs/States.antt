@@ -1,20 +1,23 @@
 -- The states of sealing and opening in pieces, step by step.
-use Rattle.std.proofs.Common.{◌≡◌, ℕ, zero, suc, ◌+◌, ◌-◌, ◌*◌, ◌/◌, ◌%◌, ◌<◌, ◌≤◌, List, [], ◌++◌, length, get_or, take}
-use Rattle.std.proofs.Common.{drop, refl, sym, ap, ◌∙◌, arith, inl, inr, length-append, length-drop, append_assoc}
-use Rattle.std.proofs.lemmas.List.{append-nil, drop-append-le, drop_all, get_or_append_left, get_or-append_right, length-take-le, nil_from_length, take-append-drop, take-append-le}
-use Rattle.std.proofs.lemmas.Bool.{cases_lt}
-use Rattle.std.specs.Fn.{iterate}
+use Rattle.{
+  std.proofs.{
+    Common.{◌≡◌, ℕ, zero, suc, ◌+◌, ◌-◌, ◌*◌, ◌/◌, ◌%◌, ◌<◌, ◌≤◌, List, [], ◌++◌, length, get_or, take, drop, refl},
+    Common.{sym, ap, ◌∙◌, arith, inl, inr, length-append, length-drop, append_assoc, append-nil, length-take-le},
+    Common.take-append-drop,
+    lemmas.Bool.cases_lt,
+    lemmas.List.{drop-append-le, drop_all, get_or_append_left, get_or-append_right, nil_from_length, take-append-le},
+  },
+  std.specs.Fn.iterate,
+  macsec_ghash.specs.{Ghash.{blocks_of, pad}, Running.HasRun},
+  macsec_gcm.proofs.{Iterations.iterate_add, KeyStreams.key_stream-later},
+  macsec_gcm.specs.{
+    Gcm.{hash_subkey, inc32},
+    Pieces.{HasAuthenticated, IsHashing, IsStreamAt},
+    Streams.key_stream,
+    declared.{authenticator.Authenticator.Authenticator, hash.PaddedHash.PaddedHash, key_stream.KeyStream.KeyStream},
+  },
+}
 use borrow.Rule.Slice.PartMut.{put_mid}
-use Rattle.macsec_ghash.specs.Ghash.{blocks_of, pad}
-use Rattle.macsec_gcm.specs.Gcm.{hash_subkey, inc32}
-use Rattle.macsec_ghash.specs.Running.{HasRun}
-use Rattle.macsec_gcm.specs.Pieces.{HasAuthenticated, IsHashing, IsStreamAt}
-use Rattle.macsec_gcm.specs.Streams.{key_stream}
-use Rattle.macsec_gcm.specs.declared.authenticator.Authenticator.{Authenticator}
-use Rattle.macsec_gcm.specs.declared.hash.PaddedHash.{PaddedHash}
-use Rattle.macsec_gcm.specs.declared.key_stream.KeyStream.{KeyStream}
-use Rattle.macsec_gcm.proofs.Iterations.{iterate_add}
-use Rattle.macsec_gcm.proofs.KeyStreams.{key_stream-later}
 
 -- ---- key streams
 

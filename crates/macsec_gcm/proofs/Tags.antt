@@ -1,11 +1,13 @@
 -- Two blocks of octets are the same if the sum of their numbers is 0.
-use Rattle.std.proofs.Common.{◌≡◌, ℕ, zero, suc, ◌+◌, ◌*◌, ◌^◌, ◌<◌, Bool, true, false, List, inl, inr, length, slice_index, bit_xor, refl, sym, ap, ◌∙◌, arith}
-use Rattle.std.specs.Prelude.{◌==◌}
-use Rattle.std.specs.Int.{w128, from_be_bytes}
-use Rattle.std.specs.Int.Bits.{xor_assoc, xor_self, xor_zero_l, xor_zero_r}
-use Rattle.std.specs.Cmp.Lexicographic.{other_text, same_text}
-use Rattle.std.proofs.lemmas.Bool.{cases_lt, ne_eqb}
-use Rattle.std.proofs.lemmas.List.{ext_get_or}
+use Rattle.std.proofs.{
+  Common.{◌≡◌, ℕ, zero, suc, ◌+◌, ◌*◌, ◌^◌, ◌<◌, Bool, true, false, List, inl, inr, length, slice_index, bit_xor, refl},
+  Common.{sym, ap, ◌∙◌, arith, ◌==◌, ne_eqb, ext_get_or},
+  lemmas.Bool.cases_lt,
+}
+use Rattle.std.specs.{
+  Cmp.Lexicographic.{other_text, same_text},
+  Int.{w128, from_be_bytes, Bits.{xor_assoc, xor_self, xor_zero_l, xor_zero_r}},
+}
 use Rattle.macsec_gcm.specs.Octets.{same_octets}
 
 -- n octets as a number, most significant first

@@ -1,13 +1,16 @@
 -- The sums of a text and a stream, by vectors.
-use Rattle.std.proofs.Common.{◌≡◌, ℕ, ◌+◌, ◌-◌, ◌≤◌, ◌++◌, List, drop, take, length, length-append, length-drop, get_or, slice_index, bit_xor, ap, ap₂, ◌∙◌, sym, inl, inr, arith}
-use Rattle.std.proofs.lemmas.Bool.{cases_lt}
-use Rattle.std.proofs.lemmas.List.{get_or_append_left, get_or-append_right, get_or-drop, get_or-take, length-take-le, take_all}
-use Rattle.std.proofs.lemmas.List.FromFn.{fill_by_all}
+use Rattle.std.proofs.{
+  Common.{◌≡◌, ℕ, ◌+◌, ◌-◌, ◌≤◌, ◌++◌, List, drop, take, length, length-append, length-drop, get_or, slice_index},
+  Common.{bit_xor, ap, ap₂, ◌∙◌, sym, inl, inr, arith, get_or-drop, get_or-take, length-take-le, take_all},
+  lemmas.Bool.cases_lt,
+  lemmas.List.{get_or_append_left, get_or-append_right, FromFn.fill_by_all},
+  lemmas.Simd.{get_or-chunk, get_or-put_chunk_above, get_or-put_chunk_at, get_or-zip2, length-chunk, length-zip2},
+}
 use Rattle.std.specs.Simd.Lanes.{chunk, put_chunk, zip2}
-use Rattle.std.proofs.lemmas.Simd.{get_or-chunk, get_or-put_chunk_above, get_or-put_chunk_at, get_or-zip2, length-chunk, length-zip2}
-use Rattle.macsec_gcm.specs.Octets.{sum_with_stream}
-use Rattle.macsec_gcm.specs.Streams.{IsSumBelow}
-use Rattle.macsec_gcm.proofs.KeyStreams.{get_or-sum_with_stream, length-sum_with_stream}
+use Rattle.macsec_gcm.{
+  proofs.KeyStreams.{get_or-sum_with_stream, length-sum_with_stream},
+  specs.{Octets.sum_with_stream, Streams.IsSumBelow},
+}
 
 pub sum_of_vector : (n : ℕ) (text stream : List ℕ) → n ≤ length text → n ≤ length stream
     → IsSumBelow (slice_index stream) text (put_chunk 0 text (zip2 bit_xor (chunk 0 n text) (chunk 0 n stream))) n

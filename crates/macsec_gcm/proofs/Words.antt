@@ -1,7 +1,9 @@
 -- Two words of 64 bits as one block.
-use Rattle.std.proofs.Common.{◌≡◌, ℕ, ◌+◌, ◌*◌, ◌^◌, ◌<◌, List, [], ◌∷◌, ◌++◌, get_or, ap, ap₂, ◌∙◌, arith}
-use Rattle.std.proofs.lemmas.Nat.{from_be_bytes-to_be_bytes_8}
-use Rattle.std.specs.Int.{w64, w128, from_be_bytes, to_be_bytes}
+use Rattle.std.{
+  proofs.Common.{◌≡◌, ℕ, ◌+◌, ◌*◌, ◌^◌, ◌<◌, List, [], ◌∷◌, ◌++◌, get_or, ap, ap₂, ◌∙◌, arith},
+  proofs.lemmas.Nat.from_be_bytes-to_be_bytes_8,
+  specs.Int.{w64, w128, from_be_bytes, to_be_bytes},
+}
 use Rattle.macsec_ghash.specs.Ghash.{block_of, blocks_of, pad}
 
 -- sixteen octets as a number, and eight and eight of them

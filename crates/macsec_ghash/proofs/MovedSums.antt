@@ -1,12 +1,16 @@
 -- Sums of numbers, each shifted left by eight bits more than the next, and numbers as their octets.
-use Rattle.std.proofs.Common.{◌≡◌, ℕ, zero, suc, ◌+◌, ◌-◌, ◌*◌, ◌/◌, ◌%◌, ◌^◌, ◌<◌, ◌≤◌, List, bit_xor, refl, sym, ap, ap₂, ◌∙◌, arith, subst}
-use Rattle.std.proofs.Math.Nat.{pow-le-pow_right, pow-suc}
-use Rattle.std.specs.Int.Bits.{xor_assoc, xor_zero_l, xor_zero_r}
-use Rattle.std.specs.Int.{byte_at}
-use Rattle.std.proofs.lemmas.Nat.{pow-add, pow_pos, shl_below, shr_below, shr_le, shr_split, shr-shr, xor_block, xor_lt, xor_mod, xor_shr}
-use Rattle.macsec_field128.specs.Field.{sum_below}
-use Rattle.macsec_ghash.specs.Tables.{IsMoved, moved_sum, number_from, number_in}
-use Rattle.macsec_ghash.proofs.Sums.{KeepsSums, moves_keep, parts, xor_swap}
+use Rattle.{
+  std.proofs.{
+    Common.{◌≡◌, ℕ, zero, suc, ◌+◌, ◌-◌, ◌*◌, ◌/◌, ◌%◌, ◌^◌, ◌<◌, ◌≤◌, List, bit_xor, refl, sym, ap, ap₂, ◌∙◌, arith},
+    Common.{subst, pow-add, pow_pos, shr-shr},
+    Math.Nat.{pow-le-pow_right, pow-suc},
+    lemmas.Nat.{shl_below, shr_below, shr_le, shr_split, xor_block, xor_lt, xor_mod, xor_shr},
+  },
+  std.specs.Int.{byte_at, Bits.{xor_assoc, xor_zero_l, xor_zero_r}},
+  macsec_field128.specs.Field.sum_below,
+  macsec_ghash.proofs.Sums.{KeepsSums, moves_keep, parts, xor_swap},
+  macsec_ghash.specs.Tables.{IsMoved, moved_sum, number_from, number_in},
+}
 
 pub same_moved : (n : ℕ) (f g : ℕ → ℕ) → ((i : ℕ) → i < n → f i ≡ g i) → moved_sum n f ≡ moved_sum n g
 unfolding moved_sum

@@ -1,15 +1,23 @@
 -- Carryless products as products of nibbles, octet by octet.
-use Rattle.std.proofs.Common.{◌≡◌, ℕ, zero, suc, ◌+◌, ◌-◌, ◌*◌, ◌/◌, ◌%◌, ◌^◌, ◌<◌, ◌≤◌, List, slice_index, bit_xor, sym, ap, ap₂, ◌∙◌, arith, subst}
-use Rattle.std.proofs.Math.Nat.{pow-le-pow_right}
-use Rattle.std.specs.Int.{bit_at, byte_at}
-use Rattle.std.specs.Int.Bits.{xor_self}
-use Rattle.std.proofs.lemmas.Nat.{pow_pos, shl_below, xor_block, xor_lt}
-use Rattle.std.proofs.lemmas.Nat.Bits.{bit_at-lt, bit_at_above}
-use Rattle.macsec_field128.specs.Field.{block_product, sum_below}
-use Rattle.macsec_field128.specs.Carryless.{carryless, residue, CarrylessLaws, ProductIsResidue, ResidueAdds}
-use Rattle.macsec_ghash.specs.Tables.{AreTables, moved_sum, sum_by_octets}
-use Rattle.macsec_ghash.proofs.Sums.{KeepsSums, moves_keep, parts, same_sums, sum_lt, sum_of_first, sum_of_sums, sum_under}
-use Rattle.macsec_ghash.proofs.MovedSums.{moved_lt, moved_of_sum, moved_of_sums, moved_turned, moved_under, octet_lt, octets_joined, octets_keep, same_moved}
+use Rattle.std.proofs.{
+  Common.{◌≡◌, ℕ, zero, suc, ◌+◌, ◌-◌, ◌*◌, ◌/◌, ◌%◌, ◌^◌, ◌<◌, ◌≤◌, List, slice_index, bit_xor, sym, ap, ap₂, ◌∙◌},
+  Common.{arith, subst, pow_pos},
+  Math.Nat.pow-le-pow_right,
+  lemmas.Nat.{shl_below, xor_block, xor_lt, Bits.{bit_at-lt, bit_at_above}},
+}
+use Rattle.std.specs.Int.{bit_at, byte_at, Bits.xor_self}
+use Rattle.macsec_field128.specs.{
+  Carryless.{carryless, residue, CarrylessLaws, ProductIsResidue, ResidueAdds},
+  Field.{block_product, sum_below},
+}
+use Rattle.macsec_ghash.{
+  proofs.{
+    MovedSums.{moved_lt, moved_of_sum, moved_of_sums, moved_turned, moved_under, octet_lt, octets_joined, octets_keep},
+    MovedSums.same_moved,
+    Sums.{KeepsSums, moves_keep, parts, same_sums, sum_lt, sum_of_first, sum_of_sums, sum_under},
+  },
+  specs.Tables.{AreTables, moved_sum, sum_by_octets},
+}
 
 -- ---- the product with a nibble
 

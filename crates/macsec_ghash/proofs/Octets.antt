@@ -1,10 +1,10 @@
 -- A number of 128 bits and its octets, as a list and as a sum.
-use Rattle.std.proofs.Common.{◌≡◌, ℕ, zero, suc, ◌+◌, ◌*◌, ◌/◌, ◌%◌, ◌^◌, ◌<◌, List, slice_index, refl, sym, ap, ◌∙◌, arith}
-use Rattle.std.specs.Int.{w128, from_be_bytes}
-use Rattle.std.specs.Simd.Lanes.{digits_l}
-use Rattle.std.proofs.lemmas.Nat.{shr-shr}
-use Rattle.macsec_ghash.specs.Tables.{moved_sum}
-use Rattle.macsec_ghash.proofs.Sums.{parts}
+use Rattle.std.{
+  proofs.Common.{◌≡◌, ℕ, zero, suc, ◌+◌, ◌*◌, ◌/◌, ◌%◌, ◌^◌, ◌<◌, List, slice_index, refl, sym, ap, ◌∙◌, arith},
+  proofs.Common.shr-shr,
+  specs.{Int.{w128, from_be_bytes}, Simd.Lanes.digits_l},
+}
+use Rattle.macsec_ghash.{proofs.Sums.parts, specs.Tables.moved_sum}
 
 -- digit i of a number with 256 digits
 pub digit_is : (n i x : ℕ) → i < n → slice_index (digits_l 256 n x) i ≡ x / 2 ^ (8 * i) % 2 ^ 8

@@ -1,16 +1,20 @@
 -- An octet of the carryless product of a nibble and a number.
-use Rattle.std.proofs.Common.{◌≡◌, ℕ, zero, suc, ◌+◌, ◌-◌, ◌*◌, ◌/◌, ◌%◌, ◌^◌, ◌<◌, List, [], ◌∷◌, slice_index, bit_xor, refl, sym, ap, ◌∙◌, arith}
-use Rattle.std.specs.Int.{bit_at, byte_at}
-use Rattle.std.specs.Int.Bits.{xor_zero_r, xor_zero_l}
-use Rattle.std.proofs.lemmas.Nat.{shr-shr}
-use Rattle.std.proofs.lemmas.Nat.Bits.{bit_at-lt}
-use Rattle.macsec_field128.specs.Carryless.{carryless}
-use Rattle.macsec_field128.specs.Field.{sum_below}
-use Rattle.macsec_ghash.specs.Tables.{octet_of_product}
-use Rattle.macsec_ghash.proofs.Below.{below_sixteen}
-use Rattle.macsec_ghash.proofs.MovedSums.{octet_is, octets_keep}
-use Rattle.macsec_ghash.proofs.NibbleProducts.{nibble_product}
-use Rattle.macsec_ghash.proofs.Sums.{same_sums, sum_under}
+use Rattle.{
+  std.proofs.{
+    Common.{◌≡◌, ℕ, zero, suc, ◌+◌, ◌-◌, ◌*◌, ◌/◌, ◌%◌, ◌^◌, ◌<◌, List, [], ◌∷◌, slice_index, bit_xor, refl, sym, ap},
+    Common.{◌∙◌, arith, shr-shr},
+    lemmas.Nat.Bits.bit_at-lt,
+  },
+  std.specs.Int.{bit_at, byte_at, Bits.{xor_zero_r, xor_zero_l}},
+  macsec_field128.specs.{Carryless.carryless, Field.sum_below},
+  macsec_ghash.proofs.{
+    Below.below_sixteen,
+    MovedSums.{octet_is, octets_keep},
+    NibbleProducts.nibble_product,
+    Sums.{same_sums, sum_under},
+  },
+  macsec_ghash.specs.Tables.octet_of_product,
+}
 
 -- a left shift, as a right shift of the number followed by an octet of zeros
 from_the_right : (p b : ℕ) → b < 4 → p * 2 ^ b ≡ p * 2 ^ 8 / 2 ^ (8 - b)

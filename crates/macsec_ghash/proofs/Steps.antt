@@ -1,10 +1,10 @@
 -- Several steps of the hash at once.
-use Rattle.std.proofs.Common.{◌≡◌, ℕ, zero, suc, ◌^◌, ◌<◌, List, [], ◌∷◌, length, fold, bit_xor, sym, ap, ◌∙◌}
-use Rattle.std.specs.Int.Bits.{xor_assoc, xor_zero_r}
-use Rattle.macsec_field128.specs.Field.{block_product}
-use Rattle.macsec_field128.specs.Laws.{AddsInFirst, Associates, ProductIsBlock}
-use Rattle.macsec_ghash.specs.Ghash.{hash_next}
-use Rattle.macsec_ghash.specs.Powers.{power, weighted}
+use Rattle.{
+  std.proofs.Common.{◌≡◌, ℕ, zero, suc, ◌^◌, ◌<◌, List, [], ◌∷◌, length, fold, bit_xor, sym, ap, ◌∙◌},
+  std.specs.Int.Bits.{xor_assoc, xor_zero_r},
+  macsec_field128.specs.{Field.block_product, Laws.{AddsInFirst, Associates, ProductIsBlock}},
+  macsec_ghash.specs.{Ghash.hash_next, Powers.{power, weighted}},
+}
 
 pub power_is_block : ProductIsBlock → (h : ℕ) → h < 2 ^ 128 → (n : ℕ) → power h n < 2 ^ 128
 unfolding power

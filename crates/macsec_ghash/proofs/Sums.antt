@@ -1,9 +1,12 @@
 -- Sums of blocks and of words, as numbers without carries.
-use Rattle.std.proofs.Common.{◌≡◌, ℕ, zero, suc, ◌+◌, ◌*◌, ◌^◌, ◌<◌, ◌≤◌, inl, inr, bit_xor, refl, sym, ap, ap₂, ◌∙◌, arith}
-use Rattle.std.specs.Int.Bits.{xor_zero_r, xor_zero_l, xor_assoc}
-use Rattle.std.proofs.lemmas.Nat.{pow_pos, xor_block, xor_comm, xor_lt}
-use Rattle.std.proofs.lemmas.Bool.{cases_lt}
-use Rattle.macsec_field128.specs.Field.{sum_below}
+use Rattle.{
+  std.proofs.{
+    Common.{◌≡◌, ℕ, zero, suc, ◌+◌, ◌*◌, ◌^◌, ◌<◌, ◌≤◌, inl, inr, bit_xor, refl, sym, ap, ap₂, ◌∙◌, arith, pow_pos},
+    lemmas.{Bool.cases_lt, Nat.{xor_block, xor_comm, xor_lt}},
+  },
+  std.specs.Int.Bits.{xor_zero_r, xor_zero_l, xor_assoc},
+  macsec_field128.specs.Field.sum_below,
+}
 
 pub xor_swap : (a b c d : ℕ) → bit_xor (bit_xor a b) (bit_xor c d) ≡ bit_xor (bit_xor a c) (bit_xor b d)
 xor_swap a b c d =

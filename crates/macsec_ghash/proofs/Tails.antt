@@ -1,16 +1,16 @@
 -- Sums of products with the powers of a key, from the eighth power down.
-use Rattle.std.proofs.Common.{◌≡◌, ℕ, zero, suc, ◌-◌, ◌^◌, ◌<◌, ◌≤◌, List, drop, set, take, [], ◌∷◌, ◌++◌, length, slice_index, replicate, bit_xor, refl, sym, ap, ap₂, ◌∙◌, arith}
-use borrow.Rule.Slice.PartMut.{put_mid}
+use Rattle.std.proofs.{
+  Common.{◌≡◌, ℕ, zero, suc, ◌-◌, ◌^◌, ◌<◌, ◌≤◌, List, drop, set, take, [], ◌∷◌, ◌++◌, length, slice_index, replicate},
+  Common.{bit_xor, refl, sym, ap, ap₂, ◌∙◌, arith, append-nil, length-drop},
+  lemmas.{Grind.fold-append, List.{get_or_at, length-replicate, nil_from_length, set_at, take-replicate}, Nat.xor_comm},
+}
 use Rattle.std.specs.Int.Bits.{xor_zero_l, xor_self}
-use Rattle.std.proofs.lemmas.Nat.{xor_comm}
-use Rattle.std.proofs.lemmas.List.{append-nil, get_or_at, length-drop, length-replicate, nil_from_length, set_at, take-replicate}
-use Rattle.std.proofs.lemmas.Grind.{fold-append}
-use Rattle.macsec_field128.specs.Field.{block_product, sum_below}
-use Rattle.macsec_field128.specs.Laws.{AddsInFirst, Associates, ProductIsBlock}
-use Rattle.macsec_ghash.specs.Ghash.{hash_after, hash_next}
-use Rattle.macsec_ghash.specs.Powers.{power, weighted}
-use Rattle.macsec_ghash.proofs.Steps.{by_powers}
-use Rattle.macsec_ghash.proofs.Sums.{same_sums, sum_first, sum_none}
+use Rattle.macsec_field128.specs.{Field.{block_product, sum_below}, Laws.{AddsInFirst, Associates, ProductIsBlock}}
+use Rattle.macsec_ghash.{
+  proofs.{Steps.by_powers, Sums.{same_sums, sum_first, sum_none}},
+  specs.{Ghash.{hash_after, hash_next}, Powers.{power, weighted}},
+}
+use borrow.Rule.Slice.PartMut.{put_mid}
 
 -- the product of block j of n and its power
 term : ℕ → List ℕ → ℕ → ℕ → ℕ

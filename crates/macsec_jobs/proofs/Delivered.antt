@@ -1,24 +1,29 @@
 -- What is delivered is no longer than the longest frame.
-use Rattle.std.proofs.Common.{◌≡◌, ℕ, ◌≤◌, List, false, ap, sym, subst, ◌∙◌, arith}
-use Rattle.std.specs.Prelude.{Option, Some, None, IfSome, Ok, length, option_map}
-use Rattle.std.specs.Borrow.{Bor}
-use Rattle.macsec_tag.specs.Limits.{max_frame_len}
-use Rattle.macsec_tag.specs.declared.identifiers.Sci.{Sci}
-use Rattle.macsec_rx.specs.declared.Verdict.{Verdict}
-use Rattle.macsec_rx.specs.Judge.{Judgement}
+use Rattle.{
+  std.proofs.Common.{◌≡◌, ℕ, ◌≤◌, List, false, ap, sym, subst, ◌∙◌, arith, Option, Some, None, IfSome, Ok, length},
+  std.proofs.Common.option_map,
+  std.specs.Borrow.Bor,
+  macsec_tag.specs.{Limits.max_frame_len, declared.identifiers.Sci.Sci},
+  macsec_rx.specs.{Judge.Judgement, declared.Verdict.Verdict},
+  macsec_secy.specs.{
+    Answers.output_of_received,
+    Frames.{HasFrameLengths, HasReceivedLengths},
+    Reception.{judgement_of, state_after_receiving},
+    Sound.IsSound,
+    State.State,
+    Step.{Input, Output, frame_fault, link_frame, received, received_output, step, unless_fault},
+    declared.{answers.Received.Received, fault.FrameFault.FrameFault},
+  },
+  macsec_reserve.{
+    proofs.Steps.received_step,
+    specs.Keeping.{Keeping, KeepingOutput, endpoint_input, endpoint_output, keeping_step},
+  },
+  macsec_ahead.specs.{
+    Ahead.{Ahead, Standing, ahead_by, ahead_step, before_this_run, kept, not_yet, passes, standing},
+    Answers.output_of_ahead,
+  },
+}
 use Rattle.macsec_secy.specs.declared.answers.LimitedReceived.TheVariants as by
-use Rattle.macsec_secy.specs.declared.answers.Received.{Received}
-use Rattle.macsec_secy.specs.declared.fault.FrameFault.{FrameFault}
-use Rattle.macsec_secy.specs.Answers.{output_of_received}
-use Rattle.macsec_secy.specs.Frames.{HasFrameLengths, HasReceivedLengths}
-use Rattle.macsec_secy.specs.Sound.{IsSound}
-use Rattle.macsec_secy.specs.State.{State}
-use Rattle.macsec_secy.specs.Reception.{judgement_of, state_after_receiving}
-use Rattle.macsec_secy.specs.Step.{Input, Output, frame_fault, link_frame, received, received_output, step, unless_fault}
-use Rattle.macsec_reserve.specs.Keeping.{Keeping, KeepingOutput, endpoint_input, endpoint_output, keeping_step}
-use Rattle.macsec_reserve.proofs.Steps.{received_step}
-use Rattle.macsec_ahead.specs.Ahead.{Ahead, Standing, ahead_by, ahead_step, before_this_run, kept, not_yet, passes, standing}
-use Rattle.macsec_ahead.specs.Answers.{output_of_ahead}
 
 -- the law `lengths_of_frames`
 abbrev pub Lengths : Type 0

@@ -1,16 +1,15 @@
 -- What a job needs and gives.
-use Rattle.std.proofs.Common.{◌≡◌, ℕ, List, subst, ◌∙◌}
-use Rattle.std.specs.Prelude.{Option, Some, None, IfSome}
-use Rattle.macsec_suite.specs.Keys.{PreparedKey}
-use Rattle.macsec_rx.specs.declared.OpenJob.{OpenJob}
-use Rattle.macsec_rx.specs.declared.OpenedFrame.{OpenedFrame}
-use Rattle.macsec_rx.specs.Opened.{IsOpenedBy}
-use Rattle.macsec_secy.specs.Jobs.{IsOfJob}
-use Rattle.macsec_jobs.specs.declared.planned_key.PlannedKey.{PlannedKey}
-use Rattle.macsec_jobs.specs.declared.work.Work.{Work}
-use Rattle.macsec_jobs.specs.declared.work.Work.TheVariants.{Open}
-use Rattle.macsec_jobs.specs.PlannedKeys.{key_of}
-use Rattle.macsec_jobs.specs.Slots.{IsOpenedFrom, IsWork}
+use Rattle.{
+  std.proofs.Common.{◌≡◌, ℕ, List, subst, ◌∙◌, Option, Some, None, IfSome},
+  macsec_suite.specs.Keys.PreparedKey,
+  macsec_rx.specs.{Opened.IsOpenedBy, declared.{OpenJob.OpenJob, OpenedFrame.OpenedFrame}},
+  macsec_secy.specs.Jobs.IsOfJob,
+  macsec_jobs.specs.{
+    PlannedKeys.key_of,
+    Slots.{IsOpenedFrom, IsWork},
+    declared.{planned_key.PlannedKey.PlannedKey, work.Work.{Work, TheVariants.Open}},
+  },
+}
 
 -- the job of a slot is for its key
 pub openable : (work : Work) (job : OpenJob) (key : PlannedKey) (frame out : List ℕ) → work ≡ Open job → IsWork work key frame out → job.key ≡ key.number

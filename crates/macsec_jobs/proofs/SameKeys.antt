@@ -1,15 +1,19 @@
 -- Keys that compare as the same are the same when they are prepared.
-use Rattle.std.proofs.Common.{◌≡◌, ℕ, List, Bool, true, false, [], ◌∷◌, refl, ap, sym, subst, ◌∙◌, ◌&&◌}
-use Rattle.std.specs.Prelude.{◌==◌, if◌then◌else◌, Some}
-use Rattle.std.specs.Cmp.Lexicographic.{same_text}
-use Rattle.std.proofs.lemmas.Bool.{eqb-true}
-use Rattle.macsec_gcm.specs.Octets.{same_octets}
-use Rattle.macsec_suite.specs.declared.suite.Suite.{Suite}
-use Rattle.macsec_suite.specs.declared.suite.Suite.TheVariants.{Gcm128, Gcm256, Xpn128, Xpn256}
-use Rattle.macsec_suite.specs.Keys.{PreparedKey}
-use Rattle.macsec_suite.specs.KeyRows.{InstalledKey, key_row}
-use Rattle.macsec_jobs.specs.declared.planned_key.PlannedKey.{PlannedKey}
-use Rattle.macsec_jobs.specs.PlannedKeys.{key_of, number_of_suite, same_key, same_prepared}
+use Rattle.{
+  std.proofs.Common.{◌≡◌, ℕ, List, Bool, true, false, [], ◌∷◌, refl, ap, sym, subst, ◌∙◌, ◌&&◌, ◌==◌, if◌then◌else◌},
+  std.proofs.Common.{Some, eqb-true},
+  std.specs.Cmp.Lexicographic.same_text,
+  macsec_gcm.specs.Octets.same_octets,
+  macsec_suite.specs.{
+    KeyRows.{InstalledKey, key_row},
+    Keys.PreparedKey,
+    declared.suite.Suite.{Suite, TheVariants.{Gcm128, Gcm256, Xpn128, Xpn256}},
+  },
+  macsec_jobs.specs.{
+    PlannedKeys.{key_of, number_of_suite, same_key, same_prepared},
+    declared.planned_key.PlannedKey.PlannedKey,
+  },
+}
 
 both : (a b : Bool) → a && b ≡ true → (a ≡ true) × (b ≡ true)
 both true b h = (refl, h)

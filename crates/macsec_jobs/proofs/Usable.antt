@@ -1,18 +1,16 @@
 -- What `finish_receive` uses was opened with the key that the endpoint has.
-use Rattle.std.proofs.Common.{◌≡◌, ℕ, List, Bool, true, false, refl, ap, sym, subst, ◌∙◌}
-use Rattle.std.specs.Prelude.{Option, Some, None}
-use Rattle.macsec_suite.specs.Keys.{PreparedKey}
-use Rattle.macsec_suite.specs.KeyRows.{InstalledKey, key_row, prepared_key}
-use Rattle.macsec_suite.specs.Refusals.{holds_of}
-use Rattle.macsec_rx.specs.declared.OpenedFrame.{OpenedFrame}
-use Rattle.macsec_rx.specs.Opened.{IsOpenedBy}
-use Rattle.macsec_secy.specs.Jobs.{OpensFrame}
-use Rattle.macsec_jobs.specs.declared.planned_key.PlannedKey.{PlannedKey}
-use Rattle.macsec_jobs.specs.declared.work.Work.{Work}
-use Rattle.macsec_jobs.specs.declared.work.Work.TheVariants.{Nothing, Seal, Open, Finish}
-use Rattle.macsec_jobs.specs.PlannedKeys.{is_installed, key_of, same_prepared}
-use Rattle.macsec_jobs.specs.Slots.{IsOpenedFrom, IsWork, opened_if, usable}
-use Rattle.macsec_jobs.proofs.SameKeys.{one_prepared}
+use Rattle.{
+  std.proofs.Common.{◌≡◌, ℕ, List, Bool, true, false, refl, ap, sym, subst, ◌∙◌, Option, Some, None},
+  macsec_suite.specs.{KeyRows.{InstalledKey, key_row, prepared_key}, Keys.PreparedKey, Refusals.holds_of},
+  macsec_rx.specs.{Opened.IsOpenedBy, declared.OpenedFrame.OpenedFrame},
+  macsec_secy.specs.Jobs.OpensFrame,
+  macsec_jobs.proofs.SameKeys.one_prepared,
+  macsec_jobs.specs.{
+    PlannedKeys.{is_installed, key_of, same_prepared},
+    Slots.{IsOpenedFrom, IsWork, opened_if, usable},
+    declared.{planned_key.PlannedKey.PlannedKey, work.Work.{Work, TheVariants.{Nothing, Seal, Open, Finish}}},
+  },
+}
 
 -- the row of the key's number has the key with which the frame was opened
 opens_with : (o : OpenedFrame) (key : PlannedKey) (keys : List InstalledKey) (frame out : List ℕ) → IsOpenedFrom o key frame out →

@@ -1,8 +1,15 @@
 -- The laws of an endpoint, as the law functions state them, and what follows for two keys with equal IVs.
-use Rattle.macsec_link.proofs.Names.{◌≡◌, ◌≢◌, ℕ, Bool, true, false, List, refl, Contains, All-contains, Sci, Suite, EqualIvs, HaveSameSender}
-use Rattle.macsec_link.proofs.Names.{IvParts, InstalledKey, IsKeyRow, is_xpn, TxRow, RxRow, DeliversFrom, KeysAreApart, KeysStay, RxRowStays}
-use Rattle.macsec_link.proofs.Names.{RxRowsAreApart, Protects, State, Input, step}
-use Rattle.macsec_secy.specs.Sound.{IsSound}
+use Rattle.{
+  macsec_suite.specs.{IvLaws.{EqualIvs, HaveSameSender}, KeyRows.IsKeyRow},
+  macsec_secy.specs.{
+    Delivers.DeliversFrom,
+    Kept.{KeysAreApart, RxRowStays, RxRowsAreApart},
+    Protects.Protects,
+    Sound.IsSound,
+  },
+  macsec_link.proofs.Names.{◌≡◌, ◌≢◌, All-contains, Bool, Contains, false, Input, InstalledKey, is_xpn, IvParts},
+  macsec_link.proofs.Names.{KeysStay, List, refl, RxRow, Sci, State, step, Suite, true, TxRow, ℕ},
+}
 
 pub record EndpointLaws : Type 0 where
   pub equal_ivs : (suite : Suite) (p q : IvParts) → EqualIvs suite p q

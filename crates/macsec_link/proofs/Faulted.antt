@@ -1,16 +1,18 @@
 -- The first fault of an event, which leaves the world unchanged, and the first fault of two configurations. Neither is
 -- out of memory.
-use Rattle.macsec_link.proofs.Names.{◌≡◌, Bool, true, false, List, [], ◌∷◌, ap, refl, subst, sym, Option, Some, None, Result, Err, MatchBool}
-use Rattle.macsec_link.proofs.Names.{if◌then◌else◌, Event, Send, SendUncontrolled, Deliver, Alter, Pad, Inject, Outcome, WorldFault, Memory, NoFrame}
-use Rattle.macsec_link.proofs.Names.{LinkFull, AlterRange, Short, Long, Make, EndConfig}
-use Rattle.macsec_suite.specs.FirstThatHolds.{first_that_holds}
-use Rattle.macsec_commands.specs.declared.event.Event.TheVariants.{Command}
-use Rattle.macsec_commands.specs.declared.fault.NewFault.{NewFault}
-use Rattle.macsec_commands.specs.Configs.{config_fault}
-use Rattle.macsec_link.specs.Answers.{Happens, RefusesMaking, RunsOutOfMemory, Steps, is_memory, make_fault, make_fault_of}
-use Rattle.macsec_link.specs.Faults.{FaultLine, fault_of, faults}
-use Rattle.macsec_link.specs.Step.{happening_unless_fault}
-use Rattle.macsec_link.specs.World.{WorldState}
+use Rattle.{
+  std.proofs.Common.MatchBool,
+  macsec_suite.specs.FirstThatHolds.first_that_holds,
+  macsec_commands.specs.{Configs.config_fault, declared.fault.NewFault.NewFault},
+  macsec_link_events.specs.declared.WorldFault.TheVariants.{Memory, AlterRange, Make},
+  macsec_link.{
+    proofs.Names.{[], ◌∷◌, ◌≡◌, Alter, ap, Bool, Command, Deliver, EndConfig, Err, Event, false, fault_of},
+    proofs.Names.{happening_unless_fault, Happens, if◌then◌else◌, Inject, is_memory, LinkFull, List, Long, NoFrame},
+    proofs.Names.{None, Option, Outcome, Pad, refl, Result, RunsOutOfMemory, Send, SendUncontrolled, Short, Some},
+    proofs.Names.{Steps, subst, sym, true, WorldFault, WorldState},
+    specs.{Answers.{RefusesMaking, make_fault, make_fault_of}, Faults.{FaultLine, faults}},
+  },
+}
 
 abbrev AreNotMemory : List FaultLine → Type 0
 AreNotMemory [] = Unit {0}

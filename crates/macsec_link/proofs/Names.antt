@@ -1,55 +1,79 @@
 -- The names of the crates below that proofs share.
-pub use Rattle.std.proofs.Common.{◌≡◌, ◌⊎◌, inl, inr, ℕ, ◌-◌, ◌≤◌, Bool, true, false, List, [], ◌++◌, length, refl, arith, ap, sym, subst, ◌∙◌}
-pub use Rattle.std.proofs.Common.{append-nil, length-append, ◌≢◌, zero, suc, ◌+◌, ◌<◌, cond, ◌∷◌, map, Contains, All, AllPairs, take, get_or, filter}
-pub use Rattle.std.proofs.Common.{◌*◌, ◌^◌, rules}
-pub use Rattle.std.specs.Prelude.{nat_lt, replicate, slice_get, if◌then◌else◌, Option, Some, None, Ok, not, position, IfSome, slice_set, Result, Err}
-pub use Rattle.std.specs.Prelude.{MatchBool, ◌==◌, ◌&&◌, unwrap_or, nat_le, option_copied, MatchOption, option_map, vec_capacity, vec_len}
-pub use Rattle.macsec_tag.specs.declared.identifiers.Sci.{Sci}
-pub use Rattle.macsec_tag.specs.Frame.{HasLengths, MpduParts, in_a_row, IsTagged}
-pub use Rattle.macsec_suite.specs.KeyRows.{the_key, InstalledKey, IsKeyRow, key_row, no_key, row_noting}
-pub use Rattle.macsec_tx.specs.declared.TxRow.{TxRow}
-pub use Rattle.macsec_tag.specs.Limits.{max_frame_len, min_frame_len}
-pub use Rattle.macsec_tx.specs.Transmit.{parts_sent, Sending, no_sa, not_protected, octets_added, plain, protected, protected_frame, row_on}
-pub use Rattle.macsec_tx.specs.Transmit.{sending_by, tag_sent, too_long, sending}
-pub use Rattle.macsec_rx.specs.declared.RxRow.{RxRow}
-pub use Rattle.macsec_commands.specs.declared.config.EndConfig.{EndConfig}
-pub use Rattle.macsec_secy.specs.Reception.{judgement_of, state_after_receiving}
-pub use Rattle.macsec_secy.specs.State.{State, tx_options}
-pub use Rattle.macsec_secy.specs.Step.{Input, Output, link_frame, received, received_output, step, unless_fault, operator_command, done, refused}
-pub use Rattle.macsec_secy.specs.Step.{leaves, dropped_no_sa, dropped_too_long, fault, client_frame, uncontrolled_frame, frame_fault, sending_of}
-pub use Rattle.macsec_secy.specs.Step.{sent_output, state_after_sending, command_output}
-pub use Rattle.macsec_commands.specs.declared.event.End.{End}
-pub use Rattle.macsec_commands.specs.declared.event.Event.{Event}
-pub use Rattle.macsec_commands.specs.declared.event.Event.TheVariants.{Deliver, Send, SendUncontrolled, Alter, Pad, Inject}
-pub use Rattle.macsec_link_events.specs.declared.Outcome.TheVariants.{Heard, Made}
-pub use Rattle.macsec_link_events.specs.declared.WorldFault.{WorldFault}
-pub use Rattle.macsec_link_logs.specs.Ends.{end_after, EndState, new_end}
-pub use Rattle.std.specs.List.{prefix_len}
-pub use Rattle.std.proofs.lemmas.Bool.{ltb-false, ltb-true, and_parts, eq-eqb, eqb-true, le-leb, leb-true, cases_lt, eqb-false, ne_eqb}
-pub use Rattle.std.proofs.lemmas.List.{length-map, take_all, take-append-le, map-append, take_more}
-pub use Rattle.std.proofs.lemmas.Option.{slice_get-map, slice_get_within, slice_get-get_or, unwrap_or-slice_get, get_or_from_slice_get}
-pub use Rattle.macsec_rx.specs.Channels.{same_sci, rx_row}
-pub use Rattle.macsec_commands.specs.declared.command.Command.TheVariants.{Protect, Validate, Replay, Tag, Key, Retire, TxSa, TxOn, TxOff, TxDel}
-pub use Rattle.macsec_commands.specs.declared.command.Command.TheVariants.{RxSc, RxScDel, RxSa, RxOn, RxOff, RxLow, RxDel}
-pub use Rattle.macsec_link_logs.specs.Logs.{DeliveryLog, delivered_after, is_live_at, log_closing, log_delivering, logs_after_command, with_first}
-pub use Rattle.macsec_link_logs.specs.Logs.{sent_under, SentLogs, log_sending, logs_sending, association_of_log, association_of_row, live_logs}
-pub use Rattle.std.proofs.lemmas.List.Elements.{All-contains, All-nil, All-push, All-weaker, All-cons, filter_passes, Contains-append_left}
-pub use Rattle.std.proofs.lemmas.List.Elements.{filter-append, All-head, All-tail}
-pub use Rattle.macsec_tag.specs.Laws.{AreOctets, ReadsByGrammar}
-pub use Rattle.macsec_suite.specs.Suites.{is_xpn, iv_of, last_of}
-pub use Rattle.macsec_secy.specs.Delivers.{IsDeliveredFrom, IsOfOtherSender, IsOpened, DeliversFrom}
-pub use Rattle.macsec_suite.specs.CipherUses.{CipherUse, plaintext_of_use}
-pub use Rattle.macsec_commands.specs.declared.event.End.TheVariants.{A, B}
-pub use Rattle.macsec_suite.specs.declared.suite.Suite.{Suite}
-pub use Rattle.macsec_suite.specs.IvLaws.{EqualIvs, HaveSameSender, IvParts, iv_of_parts}
-pub use Rattle.macsec_secy.specs.Kept.{KeysAreApart, KeysStay, RxRowStays, RxRowsAreApart, KeyStaysIn, IsLaterKey, IsAbove, deletes}
-pub use Rattle.macsec_secy.specs.Protects.{Protects, OpensAs}
-pub use Rattle.macsec_link_events.specs.declared.Outcome.{Outcome}
-pub use Rattle.macsec_link_events.specs.declared.WorldFault.TheVariants.{Memory, NoFrame, LinkFull, AlterRange, Short, Long, Make}
-pub use Rattle.std.proofs.lemmas.List.Kept.{AllPairs-filter, AllPairs-cons}
-pub use Rattle.std.specs.Global.{Vec}
-pub use Rattle.macsec_link_logs.specs.Kept.{frames_kept}
-pub use Rattle.macsec_rx.specs.Judge.{Judgement, place_of, rows_after}
-pub use Rattle.macsec_link_logs.specs.Sound.{IsSoundEnd}
-pub use Rattle.macsec_tx.specs.declared.TxOptions.{TxOptions}
-pub use Rattle.std.proofs.lemmas.Grind.{common_steps}
+pub use Rattle.std.proofs.{
+  Common.{[], ◌&&◌, ◌++◌, ◌+◌, ◌-◌, ◌<◌, ◌==◌, ◌∙◌, ◌∷◌, ◌≡◌, ◌≢◌, ◌≤◌, ◌⊎◌, All, AllPairs, ap, append-nil, arith},
+  Common.{Bool, cond, Contains, eq-eqb, eqb-true, Err, false, filter, get_or, IfSome, if◌then◌else◌, inl, inr, length},
+  Common.{length-append, List, ltb-false, ltb-true, map, nat_le, nat_lt, None, not, Ok, Option, option_copied},
+  Common.{option_map, position, refl, replicate, Result, rules, slice_get, slice_set, Some, subst, suc, sym, take},
+  Common.{take_all, true, unwrap_or, zero, ℕ},
+  lemmas.Bool.{and_parts, eqb-false},
+  lemmas.Grind.common_steps,
+  lemmas.List.{
+    length-map,
+    map-append,
+    Elements.{All-cons, All-contains, All-head, All-nil, All-push, All-tail, All-weaker, filter-append, filter_passes},
+    Kept.{AllPairs-cons, AllPairs-filter},
+  },
+  lemmas.Option.{slice_get-get_or, slice_get-map, slice_get_within, unwrap_or-slice_get},
+}
+pub use Rattle.std.specs.{Global.Vec, List.prefix_len}
+pub use Rattle.macsec_tag.specs.{
+  Frame.{in_a_row, MpduParts},
+  Laws.AreOctets,
+  Limits.max_frame_len,
+  declared.identifiers.Sci.Sci,
+}
+pub use Rattle.macsec_suite.specs.{
+  CipherUses.CipherUse,
+  IvLaws.{iv_of_parts, IvParts},
+  KeyRows.{InstalledKey, key_row, no_key, row_noting, the_key},
+  Suites.{is_xpn, iv_of, last_of},
+  declared.suite.Suite.Suite,
+}
+pub use Rattle.macsec_commands.specs.declared.{
+  command.Command.TheVariants.{Key, Protect, Replay, Retire, RxDel, RxLow, RxOff, RxOn, RxSa, RxSc, RxScDel, Tag},
+  command.Command.TheVariants.{TxDel, TxOff, TxOn, TxSa, Validate},
+  config.EndConfig.EndConfig,
+  event.End.{End, TheVariants.{A, B}},
+  event.Event.{Event, TheVariants.{Alter, Command, Deliver, Inject, Pad, Send, SendUncontrolled}},
+}
+pub use Rattle.macsec_tx.specs.{
+  Transmit.{no_sa, not_protected, octets_added, parts_sent, plain, protected, protected_frame, row_on, Sending},
+  Transmit.{sending_by, tag_sent, too_long},
+  declared.{TxOptions.TxOptions, TxRow.TxRow},
+}
+pub use Rattle.macsec_rx.specs.{Channels.{rx_row, same_sci}, Judge.{Judgement, place_of}, declared.RxRow.RxRow}
+pub use Rattle.macsec_secy.specs.{
+  Delivers.IsOfOtherSender,
+  Kept.{IsAbove, KeysStay, KeyStaysIn},
+  Reception.{judgement_of, state_after_receiving},
+  State.{State, tx_options},
+  Step.{client_frame, done, dropped_no_sa, dropped_too_long, fault, frame_fault, Input, leaves, link_frame},
+  Step.{operator_command, Output, received, received_output, refused, sending_of, step, uncontrolled_frame},
+  Step.unless_fault,
+}
+pub use Rattle.macsec_link_events.specs.declared.{
+  Outcome.{Outcome, TheVariants.Heard},
+  WorldFault.{WorldFault, TheVariants.{LinkFull, Long, NoFrame, Short}},
+}
+pub use Rattle.macsec_link_logs.specs.{
+  Ends.{end_after, EndState},
+  Kept.frames_kept,
+  Logs.{delivered_after, DeliveryLog, is_live_at, log_closing, log_delivering, logs_after_command, sent_under},
+  Logs.with_first,
+  Sound.IsSoundEnd,
+}
+pub use Rattle.macsec_link.specs.{
+  Answers.{events_kept, Happens, is_memory, RunsOutOfMemory, RunsTo, Steps},
+  Beginnings.{AreSound, AtEachMoment, StaysSound},
+  Faults.{fault_of, is_long, is_missing, is_short},
+  Keys.{AgreeOnKeys, DifferInSsci},
+  Origin.{ComesFromOther, ComesInOrder, HasStrictOrder, IsStrict, IsSubsequence},
+  Sound.IsSound,
+  Step.{at_end, happening, happening_unless_fault, padded_frame, reaction, world_after, world_at, world_step},
+  Trace.{added_unless_fault, frames_of, is_mark_of, is_sent_under, Mark, mark_in, marks_by, marks_of, new_marks},
+  Trace.{new_seals, new_trace, same_end, seals_by, sends_under, Sent, Trace, trace_after, trace_of, trace_step},
+  Trace.{use_sealed_by, use_to_open_by},
+  UniqueIvs.{IsUseFor, SealsEachFrame},
+  Window.{IsWithinWindow, KeepsWindow, MarksEachFrame},
+  World.{end_of, frame_at, new_world, other_end, with_end, with_frame, WorldState},
+}

@@ -1,21 +1,18 @@
 -- The laws for a list of events over sound worlds: what the trace keeps, and the promises that follow from it.
-use Rattle.macsec_link.proofs.Names.{◌≡◌, List, [], ◌∷◌, take, refl, ap, sym, subst, ◌∙◌, EndConfig, A, B, Event}
-use Rattle.macsec_link.specs.World.{new_world}
-use Rattle.macsec_link.specs.Sound.{IsSound}
-use Rattle.macsec_link.specs.Beginnings.{AreSound, AtEachMoment}
-use Rattle.macsec_link.specs.Keys.{AgreeOnKeys, DifferInSsci}
-use Rattle.macsec_link.specs.Trace.{Trace, new_trace, trace_after, trace_of, trace_step}
-use Rattle.macsec_link.specs.UniqueIvs.{RepeatsNoIv, SealsEachFrame}
-use Rattle.macsec_link.specs.Window.{KeepsWindow, MarksEachFrame}
-use Rattle.macsec_link.specs.Origin.{ComesFromOther, ComesInOrder}
-use Rattle.macsec_link.proofs.EndpointLaws.{EndpointLaws}
-use Rattle.macsec_link.proofs.Deliveries.{Grammar}
-use Rattle.macsec_link.proofs.FreshIvs.{RepeatsNone, ends_stay}
+use Rattle.macsec_link.proofs.{
+  Names.{[], ◌∙◌, ◌∷◌, ◌≡◌, A, AgreeOnKeys, ap, AreSound, AtEachMoment, B, ComesFromOther, ComesInOrder, DifferInSsci},
+  Names.{EndConfig, Event, IsSound, KeepsWindow, List, MarksEachFrame, new_trace, new_world, refl, SealsEachFrame},
+  Names.{subst, sym, take, Trace, trace_after, trace_of, trace_step},
+  Deliveries.Grammar,
+  EndpointLaws.EndpointLaws,
+  FreshIvs.{RepeatsNone, ends_stay},
+  GenuineRuns.{GoesSound, comes_from_other, comes_in_order, marks_each_frame, seals_each_frame, stays_sound},
+  Moments.{sound_up_to, world_of_trace},
+  WindowMarks.{KeepWindow, window_kept},
+}
+use Rattle.macsec_link.specs.UniqueIvs.{RepeatsNoIv}
 use Rattle.macsec_link.proofs.FreshIvs as ivs
-use Rattle.macsec_link.proofs.GenuineRuns.{GoesSound, comes_from_other, comes_in_order, marks_each_frame, seals_each_frame, stays_sound}
-use Rattle.macsec_link.proofs.WindowMarks.{KeepWindow, window_kept}
 use Rattle.macsec_link.proofs.WindowMarks as window
-use Rattle.macsec_link.proofs.Moments.{sound_up_to, world_of_trace}
 
 -- ---- what holds of a trace
 

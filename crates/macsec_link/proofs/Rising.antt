@@ -1,7 +1,9 @@
 -- The items of two lists, pair by pair, no two pairs at the same moment: the moments rise.
-use Rattle.macsec_link.proofs.Names.{◌≡◌, ℕ, zero, suc, ◌<◌, ◌≤◌, List, [], ◌∷◌, ◌++◌, length, refl, ap, subst, arith, All, AllPairs, slice_get, Some}
-use Rattle.macsec_link.proofs.Names.{All-nil, All-push, All-weaker}
-use Rattle.macsec_link.proofs.Pairs.{no_pairs, pairs-push}
+use Rattle.macsec_link.proofs.{
+  Names.{[], ◌++◌, ◌<◌, ◌∷◌, ◌≡◌, ◌≤◌, All, All-nil, All-push, All-weaker, AllPairs, ap, arith, length, List, refl},
+  Names.{slice_get, Some, subst, suc, zero, ℕ},
+  Pairs.{no_pairs, pairs-push},
+}
 
 -- three lists have the same length, and R holds of the items at each index
 abbrev pub EachOf : {X Y : Type 0} → (ℕ → X → Y → Type 0) → List ℕ → List X → List Y → Type 0

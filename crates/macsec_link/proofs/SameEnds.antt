@@ -1,7 +1,5 @@
 -- Whether two ends are the same.
-use Rattle.macsec_link.proofs.Names.{◌≡◌, ◌⊎◌, inl, inr, Bool, true, false, refl, End, A, B}
-use Rattle.macsec_link.specs.World.{other_end}
-use Rattle.macsec_link.specs.Trace.{same_end}
+use Rattle.macsec_link.proofs.Names.{◌≡◌, ◌⊎◌, A, B, Bool, End, false, inl, inr, other_end, refl, same_end, true}
 
 pub same_itself : (e : End) → same_end e e ≡ true
 same_itself A = refl

@@ -1,12 +1,11 @@
 -- No two protected frames are sent at the same moment: the moments rise.
-use Rattle.macsec_link.proofs.Names.{◌≡◌, ℕ, suc, List, [], ◌++◌, arith, append-nil, refl, subst, sym, Option, Some, None, TxRow, sending_of, End}
-use Rattle.macsec_link.proofs.Names.{Event, Send, SendUncontrolled, Deliver, Alter, Pad, Inject, WorldFault}
-use Rattle.macsec_commands.specs.declared.event.Event.TheVariants.{Command}
-use Rattle.macsec_link.specs.World.{WorldState, end_of}
-use Rattle.macsec_link.specs.Faults.{fault_of}
-use Rattle.macsec_link.specs.Trace.{Sent, added_unless_fault}
-use Rattle.macsec_link.proofs.Rising.{ComeAt, come_before, none_come, one_comes}
-use Rattle.macsec_link.proofs.Sends.{new_sends, sent_at, sent_by_row}
+use Rattle.macsec_link.proofs.{
+  Names.{[], ◌++◌, ◌≡◌, added_unless_fault, Alter, append-nil, arith, Command, Deliver, End, end_of, Event, fault_of},
+  Names.{Inject, List, None, Option, Pad, refl, Send, sending_of, SendUncontrolled, Sent, Some, subst, suc, sym, TxRow},
+  Names.{WorldFault, WorldState, ℕ},
+  Rising.{ComeAt, come_before, none_come, one_comes},
+  Sends.{new_sends, sent_at, sent_by_row},
+}
 
 -- S holds of what this event sends protected at this moment, in this world
 abbrev pub SentBy : (ℕ → Sent → Type 0) → ℕ → WorldState → Event → Type 0

@@ -1,8 +1,11 @@
 -- The SA of a live log exists and has the log's key.
-use Rattle.macsec_link.proofs.Names.{◌≡◌, ◌∙◌, ℕ, true, List, ap, subst, sym, slice_get, Some, Sci, RxRow, rx_row, EndState, DeliveryLog}
-use Rattle.macsec_link.proofs.Names.{association_of_log, association_of_row, live_logs, IsSoundEnd}
-use Rattle.macsec_link.proofs.EndpointLaws.{EndpointLaws}
-use Rattle.macsec_link.proofs.Members.{IsMember, contained, found_member, from_map, left_member, member_of_map}
+use Rattle.macsec_link_logs.specs.Logs.{association_of_log, association_of_row, live_logs}
+use Rattle.macsec_link.proofs.{
+  Names.{◌∙◌, ◌≡◌, ap, DeliveryLog, EndState, IsSoundEnd, List, rx_row, RxRow, Sci, slice_get, Some, subst, sym, true},
+  Names.ℕ,
+  EndpointLaws.EndpointLaws,
+  Members.{IsMember, contained, found_member, from_map, left_member, member_of_map},
+}
 
 pub record IsKeyed (rows : List RxRow) (sci : Sci) (an key : ℕ) : Type 0 where
   pub row : RxRow

@@ -1,19 +1,18 @@
 -- What an SA seals for a client frame is the use of the cipher by the link frame that is made. The frame stays on the
 -- link, and the key in the end's table.
-use Rattle.macsec_link.proofs.Names.{◌≡◌, ℕ, zero, suc, ◌≤◌, List, [], ◌∷◌, length, take, refl, arith, sym, subst, ◌∙◌, Contains, slice_get, Some}
-use Rattle.macsec_link.proofs.Names.{None, in_a_row, InstalledKey, row_noting, the_key, TxRow, EndConfig, IsLaterKey, KeyStaysIn, State, sending_of}
-use Rattle.macsec_link.proofs.Names.{End, Event, Send}
-use Rattle.macsec_link.specs.World.{WorldState, new_world, end_of}
-use Rattle.macsec_link.specs.Faults.{fault_of}
-use Rattle.macsec_link.specs.Sound.{IsSound}
-use Rattle.macsec_link.specs.Beginnings.{AreSound, StaysSound}
-use Rattle.macsec_link.specs.Step.{world_after, world_at, world_step}
-use Rattle.macsec_link.specs.UniqueIvs.{IsUseFor, parts_made}
-use Rattle.macsec_link.proofs.EndpointLaws.{EndpointLaws}
-use Rattle.macsec_link.proofs.FreshIvs.{ends_stay}
-use Rattle.macsec_link.proofs.Seals.{fits, sound_end, state_after}
-use Rattle.macsec_link.proofs.SentStands.{makes_frame, stands_on_link, stays_on_link}
-use Rattle.macsec_link.proofs.Sends.{sent_at}
+use Rattle.macsec_secy.specs.Kept.{IsLaterKey}
+use Rattle.macsec_link.proofs.{
+  Names.{[], ◌∙◌, ◌∷◌, ◌≡◌, ◌≤◌, AreSound, arith, Contains, End, end_of, EndConfig, Event, fault_of, in_a_row},
+  Names.{InstalledKey, IsSound, IsUseFor, KeyStaysIn, length, List, new_world, None, refl, row_noting, Send},
+  Names.{sending_of, slice_get, Some, State, StaysSound, subst, suc, sym, take, the_key, TxRow, world_after, world_at},
+  Names.{world_step, WorldState, zero, ℕ},
+  EndpointLaws.EndpointLaws,
+  FreshIvs.ends_stay,
+  Seals.{fits, sound_end, state_after},
+  Sends.sent_at,
+  SentStands.{makes_frame, stands_on_link, stays_on_link},
+}
+use Rattle.macsec_link.specs.UniqueIvs.{parts_made}
 
 -- ---- what holds after event k, and is kept by each step, holds at the end
 

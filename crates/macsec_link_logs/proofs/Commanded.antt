@@ -1,12 +1,11 @@
 -- An end after a management command that it carried out or refused.
-use Rattle.std.proofs.Common.{◌≡◌, ◌∙◌, List, ap, subst}
-use Rattle.macsec_suite.specs.declared.refusal.Refusal.{Refusal}
-use Rattle.macsec_commands.specs.declared.command.Command.{Command}
-use Rattle.macsec_secy.specs.State.{State}
-use Rattle.macsec_secy.specs.Step.{Output, done, operator_command, refused, step}
-use Rattle.macsec_link_logs.specs.Answers.{EndHappens}
-use Rattle.macsec_link_logs.specs.Logs.{DeliveryLog, delivered_after, logs_after_command}
-use Rattle.macsec_link_logs.specs.Ends.{EndState}
+use Rattle.{
+  std.proofs.Common.{◌≡◌, ◌∙◌, List, ap, subst},
+  macsec_suite.specs.declared.refusal.Refusal.Refusal,
+  macsec_commands.specs.declared.command.Command.Command,
+  macsec_secy.specs.{State.State, Step.{Output, done, operator_command, refused, step}},
+  macsec_link_logs.specs.{Answers.EndHappens, Ends.EndState, Logs.{DeliveryLog, delivered_after, logs_after_command}},
+}
 
 module _ (old : EndState) (c : Command) (after : State) (after_is : after ≡ (step old.state (operator_command c)).1) where
   -- the end afterwards, with these logs of deliveries

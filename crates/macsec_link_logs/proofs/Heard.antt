@@ -1,17 +1,17 @@
 -- An end after it received a frame.
-use Rattle.std.proofs.Common.{◌≡◌, ◌∙◌, ℕ, ◌≤◌, List, ap, length, subst, sym}
-use Rattle.std.specs.Prelude.{option_map, Option, Some, None}
-use Rattle.macsec_tag.specs.declared.identifiers.Sci.{Sci}
-use Rattle.macsec_rx.specs.declared.Verdict.{Verdict}
-use Rattle.macsec_rx.specs.Judge.{place_of}
-use Rattle.macsec_secy.specs.State.{State}
-use Rattle.macsec_secy.specs.Sound.{IsSound}
-use Rattle.macsec_secy.specs.Frames.{HasFrameLengths, HasReceivedLengths}
-use Rattle.macsec_secy.specs.Reception.{judgement_of, state_after_receiving}
-use Rattle.macsec_secy.specs.Step.{Input, Output, frame_fault, link_frame, received, received_output, step, unless_fault}
-use Rattle.macsec_link_logs.specs.Answers.{EndHappens}
-use Rattle.macsec_link_logs.specs.Logs.{DeliveryLog, delivered_after}
-use Rattle.macsec_link_logs.specs.Ends.{EndState}
+use Rattle.{
+  std.proofs.Common.{◌≡◌, ◌∙◌, ℕ, ◌≤◌, List, ap, length, subst, sym, option_map, Option, Some, None},
+  macsec_tag.specs.declared.identifiers.Sci.Sci,
+  macsec_rx.specs.{Judge.place_of, declared.Verdict.Verdict},
+  macsec_secy.specs.{
+    Frames.{HasFrameLengths, HasReceivedLengths},
+    Reception.{judgement_of, state_after_receiving},
+    Sound.IsSound,
+    State.State,
+    Step.{Input, Output, frame_fault, link_frame, received, received_output, step, unless_fault},
+  },
+  macsec_link_logs.specs.{Answers.EndHappens, Ends.EndState, Logs.{DeliveryLog, delivered_after}},
+}
 
 -- the frame itself is shown, and the delivered frame is no longer
 pub record IsHeard (frame shown lent : List ℕ) : Type 0 where

@@ -1,13 +1,16 @@
 -- The table of the indices of live logs: changes of the logs at its indices, and the table after them.
-use Rattle.std.proofs.Common.{◌≡◌, ◌∙◌, ℕ, zero, suc, ◌<◌, ◌≤◌, All, Bool, true, false, cond, List, [], ◌∷◌, ◌+◌, ◌++◌}
-use Rattle.std.proofs.Common.{ap, arith, drop, filter, get_or, length, map, refl, set, subst, sym, take}
-use Rattle.std.specs.Prelude.{find, if◌then◌else◌, option_map, Option, Some, None}
-use Rattle.std.proofs.Math.Seq.{map-set_same}
-use Rattle.std.proofs.lemmas.List.{drop_more, length-map, map-append}
-use Rattle.std.proofs.lemmas.List.Elements.{All-cons, All-map, All-more, All-nil}
+use Rattle.std.proofs.{
+  Common.{◌≡◌, ◌∙◌, ℕ, zero, suc, ◌<◌, ◌≤◌, All, Bool, true, false, cond, List, [], ◌∷◌, ◌+◌, ◌++◌, ap, arith, drop},
+  Common.{filter, get_or, length, map, refl, set, subst, sym, take, find, if◌then◌else◌, option_map, Option, Some},
+  Common.None,
+  Math.Seq.map-set_same,
+  lemmas.List.{drop_more, length-map, map-append, Elements.{All-cons, All-map, All-more, All-nil}},
+}
 use Rattle.macsec_tag.specs.declared.identifiers.Sci.{Sci}
-use Rattle.macsec_link_logs.specs.Logs.{DeliveryLog, is_live_at, log_closing, log_delivering, logs_delivering, with_first}
-use Rattle.macsec_link_logs.specs.Places.{HasPlaceAt, KeptLog, live_places, log_of, logs_of, passes_at}
+use Rattle.macsec_link_logs.specs.{
+  Logs.{DeliveryLog, is_live_at, log_closing, log_delivering, logs_delivering, with_first},
+  Places.{HasPlaceAt, KeptLog, live_places, log_of, logs_of, passes_at},
+}
 
 abbrev Change : Type 0
 Change = DeliveryLog → DeliveryLog

@@ -1,30 +1,38 @@
 -- The live logs of an end belong to its receive SAs, whatever the input.
-use Rattle.std.proofs.Common.{◌≡◌, ℕ, Bool, true, false, cond, List, [], ◌∷◌, ◌++◌, map, filter, refl, ap, sym, subst, ◌∙◌}
-use Rattle.std.specs.Prelude.{◌==◌, ◌&&◌, not, if◌then◌else◌, option_map, Option, Some, None}
-use Rattle.std.proofs.lemmas.List.{map-append}
-use Rattle.std.proofs.lemmas.List.Elements.{filter-append}
+use Rattle.std.proofs.{
+  Common.{◌≡◌, ℕ, Bool, true, false, cond, List, [], ◌∷◌, ◌++◌, map, filter, refl, ap, sym, subst, ◌∙◌, ◌==◌, ◌&&◌},
+  Common.{not, if◌then◌else◌, option_map, Option, Some, None},
+  lemmas.List.{map-append, Elements.filter-append},
+}
 use Rattle.macsec_tag.specs.declared.identifiers.Sci.{Sci}
 use Rattle.macsec_suite.specs.declared.refusal.Refusal.{Refusal}
-use Rattle.macsec_rx.specs.declared.RxRow.{RxRow}
-use Rattle.macsec_rx.specs.declared.Verdict.{Verdict}
-use Rattle.macsec_rx.specs.Channels.{at_place, is_at, same_sci}
-use Rattle.macsec_rx.specs.Commands.{row_narrowed, row_raised, row_switched}
-use Rattle.macsec_rx.specs.Judge.{accepted_number, place_of, row_accepting, rows_accepting, rows_after}
-use Rattle.macsec_commands.specs.declared.command.Command.{Command}
-use Rattle.macsec_commands.specs.declared.command.Command.TheVariants.{Protect, Validate, Replay, Tag, Key, Retire, TxSa, TxOn, TxOff}
-use Rattle.macsec_commands.specs.declared.command.Command.TheVariants.{TxDel, RxSc, RxScDel, RxSa, RxOn, RxOff, RxLow, RxDel}
-use Rattle.macsec_secy.specs.declared.fault.FrameFault.{FrameFault}
-use Rattle.macsec_secy.specs.State.{State}
+use Rattle.macsec_commands.specs.declared.command.Command.{
+  Command,
+  TheVariants.{Protect, Validate, Replay, Tag, Key, Retire, TxSa, TxOn, TxOff, TxDel, RxSc, RxScDel, RxSa, RxOn, RxOff},
+  TheVariants.{RxLow, RxDel},
+}
+use Rattle.macsec_rx.specs.{
+  Channels.{at_place, is_at, same_sci},
+  Commands.{row_narrowed, row_raised, row_switched},
+  Judge.{accepted_number, place_of, row_accepting, rows_accepting, rows_after},
+  declared.{RxRow.RxRow, Verdict.Verdict},
+}
+use Rattle.macsec_secy.specs.{
+  Commands.{effect, refusal, unless_refused},
+  Reception.{judgement_of, state_after_receiving},
+  State.State,
+  Step.{Input, operator_command, client_frame, link_frame, uncontrolled_frame, Output, command_output, leaves},
+  Step.{received, frame_fault, received_output, sending_of, sent_output, state_after_sending, step, unless_fault},
+  declared.fault.FrameFault.FrameFault,
+}
+use Rattle.macsec_link_logs.specs.{
+  Answers.EndHappens,
+  Ends.{EndState, end_after},
+  Logs.{AreLogged, DeliveryLog, association_of_log, association_of_row, delivered_after, is_live_at, live_logs},
+  Logs.{log_closing, log_delivering, logs_after_command, with_first},
+  Sound.IsSoundEnd,
+}
 use Rattle.macsec_secy.specs.Sound as endpoint
-use Rattle.macsec_secy.specs.Commands.{effect, refusal, unless_refused}
-use Rattle.macsec_secy.specs.Reception.{judgement_of, state_after_receiving}
-use Rattle.macsec_secy.specs.Step.{Input, operator_command, client_frame, link_frame, uncontrolled_frame, Output, command_output, leaves, received}
-use Rattle.macsec_secy.specs.Step.{frame_fault, received_output, sending_of, sent_output, state_after_sending, step, unless_fault}
-use Rattle.macsec_link_logs.specs.Answers.{EndHappens}
-use Rattle.macsec_link_logs.specs.Logs.{AreLogged, DeliveryLog, association_of_log, association_of_row, delivered_after, is_live_at}
-use Rattle.macsec_link_logs.specs.Logs.{live_logs, log_closing, log_delivering, logs_after_command, with_first}
-use Rattle.macsec_link_logs.specs.Sound.{IsSoundEnd}
-use Rattle.macsec_link_logs.specs.Ends.{EndState, end_after}
 
 abbrev Association : Type 0
 Association = Sci × ℕ × ℕ

@@ -1,17 +1,22 @@
 -- The logs of what is sent, with their capacity, and an end after it sent.
-use Rattle.std.proofs.Common.{◌≡◌, ◌∙◌, ℕ, zero, suc, ◌<◌, true, false, List, [], ◌∷◌, ◌++◌, ap, arith, get_or, length, map, refl, set, subst, sym}
-use Rattle.std.specs.Prelude.{◌==◌, Option, Some, None, Result, Ok, Err, OnErr, OnOk}
-use Rattle.std.proofs.Math.Seq.{map-set_same}
-use Rattle.std.proofs.lemmas.Bool.{eqb-false, eqb-true, ne_eqb}
-use Rattle.macsec_secy.specs.State.{State}
-use Rattle.macsec_secy.specs.Step.{Output, client_frame, dropped_no_sa, dropped_too_long, leaves, step}
-use Rattle.macsec_link_logs.specs.Kept.{AreOfKeys, HasNone, IsFound, IsPlace, KeptSentLog, sent_log_of}
-use Rattle.macsec_secy.specs.declared.answers.DropReason.{DropReason}
-use Rattle.macsec_secy.specs.declared.answers.DropReason.TheVariants.{NoSa, TooLong}
-use Rattle.macsec_secy.specs.Answers.{drop_output}
-use Rattle.macsec_link_logs.specs.Answers.{EndHappens}
-use Rattle.macsec_link_logs.specs.Ends.{EndState}
-use Rattle.macsec_link_logs.specs.Logs.{SentLogs, log_sending, logs_sending, sent_after, sent_under}
+use Rattle.std.proofs.{
+  Common.{◌≡◌, ◌∙◌, ℕ, zero, suc, ◌<◌, true, false, List, [], ◌∷◌, ◌++◌, ap, arith, get_or, length, map, refl, set},
+  Common.{subst, sym, ◌==◌, Option, Some, None, Result, Ok, Err, OnErr, OnOk, eqb-true, ne_eqb},
+  Math.Seq.map-set_same,
+  lemmas.Bool.eqb-false,
+}
+use Rattle.macsec_secy.specs.{
+  Answers.drop_output,
+  State.State,
+  Step.{Output, client_frame, dropped_no_sa, dropped_too_long, leaves, step},
+  declared.answers.DropReason.{DropReason, TheVariants.{NoSa, TooLong}},
+}
+use Rattle.macsec_link_logs.specs.{
+  Answers.EndHappens,
+  Ends.EndState,
+  Kept.{AreOfKeys, HasNone, IsFound, IsPlace, KeptSentLog, sent_log_of},
+  Logs.{SentLogs, log_sending, logs_sending, sent_after, sent_under},
+}
 
 -- ---- the log of a key
 

@@ -1,19 +1,26 @@
 -- Capacity in the logs of what is sent: a protected frame is sent under the key of the enabled transmit SA, and capacity
 -- is reserved for it.
-use Rattle.std.proofs.Common.{◌≡◌, ◌∙◌, ℕ, zero, suc, ◌+◌, ◌<◌, ◌≤◌, Bool, true, false, List, [], ◌∷◌, ap, arith, get_or, length, refl, set, subst, sym}
-use Rattle.std.specs.Prelude.{◌==◌, if◌then◌else◌, nat_lt, Option, Some, None, IfSome}
-use Rattle.std.proofs.lemmas.Bool.{eq-eqb, eqb-true}
-use Rattle.macsec_suite.specs.KeyRows.{InstalledKey, the_key}
-use Rattle.macsec_suite.specs.Suites.{last_of}
-use Rattle.macsec_tx.specs.declared.TxOptions.{TxOptions}
-use Rattle.macsec_tx.specs.declared.TxRow.{TxRow}
-use Rattle.macsec_tx.specs.Rows.{AreTxRows}
-use Rattle.macsec_tx.specs.Transmit.{Leaving, plain, protected, no_sa, too_long, Sending, not_protected, octets_added, protected_frame, row_on, sending_by, tag_sent, tx_row}
-use Rattle.macsec_secy.specs.Sound.{IsSound}
-use Rattle.macsec_secy.specs.State.{State, tx_options}
-use Rattle.macsec_secy.specs.Step.{Output, client_frame, frame_fault, leaves, sending_of, sent_output, state_after_sending, step, unless_fault}
-use Rattle.macsec_link_logs.specs.Kept.{HasNone, HasPlace, HavePlaces, IsPlace, KeptSentLog, KeptSentLogs, sent_log_of, spare_under}
-use Rattle.macsec_link_logs.specs.Logs.{SentLog}
+use Rattle.{
+  std.proofs.Common.{◌≡◌, ◌∙◌, ℕ, zero, suc, ◌+◌, ◌<◌, ◌≤◌, Bool, true, false, List, [], ◌∷◌, ap, arith, get_or},
+  std.proofs.Common.{length, refl, set, subst, sym, ◌==◌, if◌then◌else◌, nat_lt, Option, Some, None, IfSome, eq-eqb},
+  std.proofs.Common.eqb-true,
+  macsec_suite.specs.{KeyRows.{InstalledKey, the_key}, Suites.last_of},
+  macsec_tx.specs.{
+    Rows.AreTxRows,
+    Transmit.{Leaving, plain, protected, no_sa, too_long, Sending, not_protected, octets_added, protected_frame},
+    Transmit.{row_on, sending_by, tag_sent, tx_row},
+    declared.{TxOptions.TxOptions, TxRow.TxRow},
+  },
+  macsec_secy.specs.{
+    Sound.IsSound,
+    State.{State, tx_options},
+    Step.{Output, client_frame, frame_fault, leaves, sending_of, sent_output, state_after_sending, step, unless_fault},
+  },
+  macsec_link_logs.specs.{
+    Kept.{HasNone, HasPlace, HavePlaces, IsPlace, KeptSentLog, KeptSentLogs, sent_log_of, spare_under},
+    Logs.SentLog,
+  },
+}
 
 -- ---- capacity for one more frame
 

@@ -1,19 +1,23 @@
 -- What is ahead of a reader before and after its calls.
-use Rattle.std.proofs.Common.{◌≡◌, ℕ, zero, suc, ◌-◌, ◌≤◌, List, [], drop, refl, sym, ap, subst, ◌∙◌, arith}
-use Rattle.std.specs.Prelude.{Option, Some, None, IfSome, Result, Ok, Err}
-use Rattle.macsec_pcap.specs.declared.fault.PcapFault.{PcapFault}
-use Rattle.macsec_pcap.specs.declared.fault.PcapFault.TheVariants.{Magic, Version, LinkType, CutHeader, CutRecord, RecordLength, Read, Write}
-use Rattle.macsec_pcap.specs.declared.fault.PcapFault.TheVariants.{Memory, RecordCount, BlockLength, NoInterface, InterfaceCount, Time}
-use Rattle.macsec_pcap.specs.declared.form.Form.{Form}
-use Rattle.macsec_pcap.specs.declared.form.Order.{Order}
-use Rattle.macsec_pcap.specs.declared.reader.Course.{Course}
-use Rattle.macsec_pcap.specs.declared.reader.Course.TheVariants.{Going, Ended, Failed}
-use Rattle.macsec_pcap.specs.declared.records.Head.{Head}
-use Rattle.macsec_pcap.specs.Limits.{max_records}
-use Rattle.macsec_pcap.specs.Records.{CaptureRecord}
-use Rattle.macsec_pcap.specs.Captures.{Capture, begun_by, file_in, file_of, followed_by, record_within, records_of}
-use Rattle.macsec_pcap.specs.Answers.{ReadsHeader, TakesRecord, UnlessRead, record_in}
-use Rattle.macsec_pcap.specs.Reading.{holds, Answers, IsAfter, IsAhead, Opens, Reading, ahead_after, ahead_of, first_of, past_first, told}
+use Rattle.std.proofs.Common.{◌≡◌, ℕ, zero, suc, ◌-◌, ◌≤◌, List, [], drop, refl, sym, ap, subst, ◌∙◌, arith, Option}
+use Rattle.std.proofs.Common.{Some, None, IfSome, Result, Ok, Err}
+use Rattle.macsec_pcap.specs.{
+  Answers.{ReadsHeader, TakesRecord, UnlessRead, record_in},
+  Captures.{Capture, begun_by, file_in, file_of, followed_by, record_within, records_of},
+  Limits.max_records,
+  Reading.{holds, Answers, IsAfter, IsAhead, Opens, Reading, ahead_after, ahead_of, first_of, past_first, told},
+  Records.CaptureRecord,
+  declared.{
+    fault.PcapFault.{
+      PcapFault,
+      TheVariants.{Magic, Version, LinkType, CutHeader, CutRecord, RecordLength, Read, Write, Memory, RecordCount},
+      TheVariants.{BlockLength, NoInterface, InterfaceCount, Time},
+    },
+    form.{Form.Form, Order.Order},
+    reader.Course.{Course, TheVariants.{Going, Ended, Failed}},
+    records.Head.Head,
+  },
+}
 
 -- the contents of octets, given what is at their beginning
 records_of-begun : (order : Order) (places : ℕ) (octets : List ℕ) →

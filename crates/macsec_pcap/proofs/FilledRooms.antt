@@ -1,11 +1,15 @@
 -- Buffers that are filled from a reader by several reads.
-use Rattle.std.proofs.Common.{◌≡◌, ℕ, ◌+◌, ◌≤◌, List, [], ◌++◌, length, take, drop, refl, sym, ap, subst, ◌∙◌, arith, length-append, append-nil}
-use Rattle.std.specs.Prelude.{Option, Some, None}
-use Rattle.std.proofs.lemmas.List.{length-take-le, take-append-le, take_at, drop_at}
-use Rattle.std.proofs.Math.Seq.{take-append-add}
-use Rattle.std.specs.Io.KnownBytes.{Consumes}
-use Rattle.std.proofs.KnownBytes.{Consumes-trans}
-use Rattle.macsec_pcap.specs.Filled.{IsFilled}
+use Rattle.{
+  std.proofs.{
+    Common.{◌≡◌, ℕ, ◌+◌, ◌≤◌, List, [], ◌++◌, length, take, drop, refl, sym, ap, subst, ◌∙◌, arith, length-append},
+    Common.{append-nil, Option, Some, None, length-take-le, take_at, drop_at},
+    KnownBytes.Consumes-trans,
+    Math.Seq.take-append-add,
+    lemmas.List.take-append-le,
+  },
+  std.specs.Io.KnownBytes.Consumes,
+  macsec_pcap.specs.Filled.IsFilled,
+}
 
 -- the front of a buffer after a read to the octets after its first n
 take-read : (room read rest : List ℕ) (n count : ℕ) → n ≤ length room → count ≤ length read → take (n + count) (take n room ++ (read ++ rest)) ≡ take n room ++ take count read

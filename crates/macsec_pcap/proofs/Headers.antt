@@ -1,17 +1,18 @@
 -- The header depends on the first 24 octets only.
-use Rattle.std.proofs.Common.{◌≡◌, ℕ, ◌≤◌, List, ◌++◌, length, take, drop, refl, sym, ap, ◌∙◌, arith, length-append, take-append-drop}
-use Rattle.std.specs.Prelude.{Option, Some, None, IfSome, Result, Ok, Err, false, nat_lt}
-use Rattle.std.proofs.lemmas.Bool.{le-ltb}
-use Rattle.macsec_pcap.specs.declared.fault.PcapFault.{PcapFault}
-use Rattle.macsec_pcap.specs.declared.fault.PcapFault.TheVariants.{Magic, Version, LinkType, CutHeader, CutRecord, RecordLength, Read, Write}
-use Rattle.macsec_pcap.specs.declared.fault.PcapFault.TheVariants.{Memory, RecordCount, BlockLength, NoInterface, InterfaceCount, Time}
-use Rattle.macsec_pcap.specs.declared.form.Form.{Form}
-use Rattle.macsec_pcap.specs.declared.form.Order.TheVariants.{Big, Little}
-use Rattle.macsec_pcap.specs.Filled.{IsFilled}
-use Rattle.macsec_pcap.specs.Header.{form_of, header_in, header_of}
-use Rattle.macsec_pcap.specs.Answers.{ReadsHeader, UnlessRead}
-use Rattle.macsec_pcap.proofs.FilledRooms.{filled_whole}
-use Rattle.macsec_pcap.proofs.NumbersAt.{number-append, number-drop-append}
+use Rattle.std.proofs.Common.{◌≡◌, ℕ, ◌≤◌, List, ◌++◌, length, take, drop, refl, sym, ap, ◌∙◌, arith, length-append}
+use Rattle.std.proofs.Common.{take-append-drop, Option, Some, None, IfSome, Result, Ok, Err, false, nat_lt, le-ltb}
+use Rattle.macsec_pcap.proofs.{FilledRooms.filled_whole, NumbersAt.{number-append, number-drop-append}}
+use Rattle.macsec_pcap.specs.{
+  Answers.{ReadsHeader, UnlessRead},
+  Filled.IsFilled,
+  Header.{form_of, header_in, header_of},
+  declared.fault.PcapFault.{
+    PcapFault,
+    TheVariants.{Magic, Version, LinkType, CutHeader, CutRecord, RecordLength, Read, Write, Memory, RecordCount},
+    TheVariants.{BlockLength, NoInterface, InterfaceCount, Time},
+  },
+  declared.form.{Form.Form, Order.TheVariants.{Big, Little}},
+}
 
 -- `meant` is returned
 pub UnlessRead-same : {X : Type 0} (meant answer : Result X PcapFault) → answer ≡ meant → UnlessRead meant answer

@@ -1,10 +1,10 @@
 -- A number depends only on its own octets, whatever follows them.
-use Rattle.std.proofs.Common.{◌≡◌, ℕ, ◌+◌, ◌≤◌, List, ◌++◌, length, drop, ◌∙◌, ap, arith, length-drop}
-use Rattle.std.proofs.lemmas.List.{drop-append-le}
-use Rattle.byteorder.specs.Numbers.{big_from-append, little_from-append}
-use Rattle.macsec_pcap.specs.declared.form.Order.{Order}
-use Rattle.macsec_pcap.specs.declared.form.Order.TheVariants.{Big, Little}
-use Rattle.macsec_pcap.specs.Numbers.{number}
+use Rattle.{
+  std.proofs.Common.{◌≡◌, ℕ, ◌+◌, ◌≤◌, List, ◌++◌, length, drop, ◌∙◌, ap, arith, length-drop},
+  std.proofs.lemmas.List.drop-append-le,
+  byteorder.specs.Numbers.{big_from-append, little_from-append},
+  macsec_pcap.specs.{Numbers.number, declared.form.Order.{Order, TheVariants.{Big, Little}}},
+}
 
 pub number-append : (order : Order) (n : ℕ) (xs ys : List ℕ) → n ≤ length xs → number order n (xs ++ ys) ≡ number order n xs
 number-append Big n xs ys h = big_from-append n xs ys h

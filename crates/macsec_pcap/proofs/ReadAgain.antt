@@ -1,24 +1,22 @@
 -- The law `read_again`: a written file is read as the records that were written.
-use Rattle.std.proofs.Common.{◌≡◌, ℕ, zero, suc, ◌^◌, ◌<◌, ◌≤◌, List, [], ◌∷◌, ◌++◌, length, map, take, drop, refl, ap, ◌∙◌, arith, append_assoc, length-append}
-use Rattle.std.specs.Prelude.{Some, None, Ok, nat_lt, false, if◌then◌else◌}
-use Rattle.std.proofs.lemmas.Bool.{le-ltb}
-use Rattle.std.proofs.lemmas.List.{take_at, drop_at}
-use Rattle.byteorder.specs.Numbers.{little_number-reads_back}
-use Rattle.byteorder.specs.Endian.{little_bytes}
-use Rattle.macsec_pcap.specs.declared.form.Order.TheVariants.{Little}
-use Rattle.macsec_pcap.specs.declared.form.Resolution.{Resolution}
-use Rattle.macsec_pcap.specs.declared.form.Resolution.TheVariants.{Micro, Nano}
-use Rattle.macsec_pcap.specs.declared.records.Head.{Head}
-use Rattle.macsec_pcap.specs.Limits.{max_records}
-use Rattle.macsec_pcap.specs.Numbers.{number}
-use Rattle.macsec_pcap.specs.Header.{header_of}
-use Rattle.macsec_pcap.specs.Records.{record_at, whole, partial}
-use Rattle.macsec_pcap.specs.Captures.{Capture, begun_by, file_in, records_of}
-use Rattle.macsec_pcap.specs.Written.{header_octets, record_head, record_octets}
-use Rattle.macsec_pcap.specs.Answers.{head_of, record_in}
-use Rattle.macsec_pcap.specs.Laws.{AllCanBeWritten, CanBeWritten, ReadAgain, WholeRecord, as_read, written_records}
-use Rattle.macsec_pcap.proofs.Headers.{header_of-append}
-use Rattle.macsec_pcap.proofs.RecordsAt.{at_head, at_head-whole, record_at-append}
+use Rattle.{
+  std.proofs.Common.{◌≡◌, ℕ, zero, suc, ◌^◌, ◌<◌, ◌≤◌, List, [], ◌∷◌, ◌++◌, length, map, take, drop, refl, ap, ◌∙◌},
+  std.proofs.Common.{arith, append_assoc, length-append, Some, None, Ok, nat_lt, false, if◌then◌else◌, le-ltb, take_at},
+  std.proofs.Common.drop_at,
+  byteorder.specs.{Endian.little_bytes, Numbers.little_number-reads_back},
+  macsec_pcap.proofs.{Headers.header_of-append, RecordsAt.{at_head, at_head-whole, record_at-append}},
+  macsec_pcap.specs.{
+    Answers.{head_of, record_in},
+    Captures.{Capture, begun_by, file_in, records_of},
+    Header.header_of,
+    Laws.{AllCanBeWritten, CanBeWritten, ReadAgain, WholeRecord, as_read, written_records},
+    Limits.max_records,
+    Numbers.number,
+    Records.{record_at, whole, partial},
+    Written.{header_octets, record_head, record_octets},
+    declared.{form.{Order.TheVariants.Little, Resolution.{Resolution, TheVariants.{Micro, Nano}}}, records.Head.Head},
+  },
+}
 
 -- the head of a written record
 abbrev numbers : ℕ → ℕ → ℕ → ℕ → Head

@@ -1,22 +1,26 @@
 -- A record depends on its own octets only, and is read by two reads: head and captured octets.
-use Rattle.std.proofs.Common.{◌≡◌, ℕ, zero, suc, ◌+◌, ◌<◌, ◌≤◌, List, ◌++◌, length, take, drop, refl, sym, ap, subst, ◌∙◌, arith, length-append, take-append-drop}
-use Rattle.std.specs.Prelude.{Option, Some, None, IfSome, Result, Ok, Err, false, true, nat_lt, ◌==◌, if◌then◌else◌}
-use Rattle.std.proofs.lemmas.Bool.{le-ltb, lt-ltb}
-use Rattle.std.proofs.lemmas.Bool.Decides.{nat_tests}
-use Rattle.std.proofs.lemmas.List.{drop_at}
-use Rattle.std.proofs.Math.Seq.{drop-append-add}
-use Rattle.macsec_pcap.specs.declared.fault.PcapFault.{PcapFault}
-use Rattle.macsec_pcap.specs.declared.fault.PcapFault.TheVariants.{Magic, Version, LinkType, CutHeader, CutRecord, RecordLength, Read, Write}
-use Rattle.macsec_pcap.specs.declared.fault.PcapFault.TheVariants.{Memory, RecordCount, BlockLength, NoInterface, InterfaceCount, Time}
-use Rattle.macsec_pcap.specs.declared.form.Order.{Order}
-use Rattle.macsec_pcap.specs.declared.records.Head.{Head}
-use Rattle.macsec_pcap.specs.Filled.{IsFilled}
-use Rattle.macsec_pcap.specs.Limits.{max_record_length}
-use Rattle.macsec_pcap.specs.Records.{CaptureRecord, captured_length, record_at}
-use Rattle.macsec_pcap.specs.Captures.{record_within}
-use Rattle.macsec_pcap.specs.Answers.{TakesCaptured, TakesRecord, UnlessRead, head_of, record_in}
-use Rattle.macsec_pcap.proofs.FilledRooms.{IsFullOf, filled_whole}
-use Rattle.macsec_pcap.proofs.NumbersAt.{number-append, number-drop-append}
+use Rattle.std.proofs.{
+  Common.{◌≡◌, ℕ, zero, suc, ◌+◌, ◌<◌, ◌≤◌, List, ◌++◌, length, take, drop, refl, sym, ap, subst, ◌∙◌, arith},
+  Common.{length-append, take-append-drop, Option, Some, None, IfSome, Result, Ok, Err, false, true, nat_lt, ◌==◌},
+  Common.{if◌then◌else◌, le-ltb, lt-ltb, drop_at},
+  Math.Seq.drop-append-add,
+  lemmas.Bool.Decides.nat_tests,
+}
+use Rattle.macsec_pcap.proofs.{FilledRooms.{IsFullOf, filled_whole}, NumbersAt.{number-append, number-drop-append}}
+use Rattle.macsec_pcap.specs.{
+  Answers.{TakesCaptured, TakesRecord, UnlessRead, head_of, record_in},
+  Captures.record_within,
+  Filled.IsFilled,
+  Limits.max_record_length,
+  Records.{CaptureRecord, captured_length, record_at},
+  declared.fault.PcapFault.{
+    PcapFault,
+    TheVariants.{Magic, Version, LinkType, CutHeader, CutRecord, RecordLength, Read, Write, Memory, RecordCount},
+    TheVariants.{BlockLength, NoInterface, InterfaceCount, Time},
+  },
+  declared.form.Order.Order,
+  declared.records.Head.Head,
+}
 
 -- the head of a record depends on its first 16 octets only
 head_of-append : (order : Order) (head rest : List ℕ) → length head ≡ 16 → head_of order (head ++ rest) ≡ head_of order head

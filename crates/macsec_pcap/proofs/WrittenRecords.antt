@@ -1,15 +1,20 @@
 -- Records that are written in two pieces: head and frame.
-use Rattle.std.proofs.Common.{◌≡◌, ℕ, ◌≤◌, List, ◌++◌, length, drop, refl, sym, ap, subst, ◌∙◌, append_assoc}
-use Rattle.std.specs.Prelude.{Option, Result, Ok, Err, IfErr, OnErr, OnOk}
-use Rattle.std.specs.Io.KnownBytes.{Appends}
-use Rattle.std.proofs.KnownBytes.{Appends-trans, starts_with_rest}
-use Rattle.std.proofs.Transfers.{starts_with_of_append}
-use Rattle.macsec_writes.specs.Fronts.{AppendsFront}
-use Rattle.macsec_pcap.specs.declared.fault.PcapFault.{PcapFault}
-use Rattle.macsec_pcap.specs.declared.fault.PcapFault.TheVariants.{Write}
-use Rattle.macsec_pcap.specs.Limits.{max_record_length}
-use Rattle.macsec_pcap.specs.Written.{record_head}
-use Rattle.macsec_pcap.specs.Writing.{WritesRecord}
+use Rattle.{
+  std.proofs.{
+    Common.{◌≡◌, ℕ, ◌≤◌, List, ◌++◌, length, drop, refl, sym, ap, subst, ◌∙◌, append_assoc, Option, Result, Ok, Err},
+    Common.{IfErr, OnErr, OnOk},
+    KnownBytes.{Appends-trans, starts_with_rest},
+    Transfers.starts_with_of_append,
+  },
+  std.specs.Io.KnownBytes.Appends,
+  macsec_writes.specs.Fronts.AppendsFront,
+  macsec_pcap.specs.{
+    Limits.max_record_length,
+    Writing.WritesRecord,
+    Written.record_head,
+    declared.fault.PcapFault.{PcapFault, TheVariants.Write},
+  },
+}
 
 -- all of the first piece, and a prefix of the second
 front_behind : (old mid new : Option (List ℕ)) (first second : List ℕ) → Appends old mid first → AppendsFront mid new second → AppendsFront old new (first ++ second)

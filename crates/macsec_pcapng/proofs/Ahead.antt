@@ -1,21 +1,24 @@
 -- What a reader has still to return, before and after each block and each call of `next`.
-use Rattle.std.proofs.Common.{◌≡◌, ℕ, zero, suc, ◌-◌, ◌≤◌, ◌<◌, List, refl, sym, ap, subst, ◌∙◌, arith}
-use Rattle.std.specs.Prelude.{Option, Some, None, IfSome, Result, Ok, Err}
-use Rattle.macsec_pcap.specs.declared.fault.PcapFault.{PcapFault}
-use Rattle.macsec_pcap.specs.declared.fault.PcapFault.TheVariants.{Read, RecordCount}
-use Rattle.macsec_pcap.specs.declared.form.Resolution.TheVariants.{Nano}
-use Rattle.macsec_pcap.specs.Records.{CaptureRecord}
-use Rattle.macsec_pcap.specs.Answers.{UnlessRead}
-use Rattle.macsec_pcap.specs.Reading.{holds, Answers, IsAfter, IsAhead, Reading, ahead_after, first_of, past_first}
-use Rattle.macsec_pcapng.specs.declared.packets.Packet.{Packet}
-use Rattle.macsec_pcapng.specs.declared.reader.Course.{Course}
-use Rattle.macsec_pcapng.specs.declared.reader.Course.TheVariants.{Going, Ended, Failed}
-use Rattle.macsec_pcapng.specs.declared.taking.Taken.TheVariants.{End, Found, Skipped}
-use Rattle.macsec_pcapng.specs.Section.{Section}
-use Rattle.macsec_pcapng.specs.Files.{Takes, content_from, capture_of, ended, taken_at}
-use Rattle.macsec_pcapng.specs.Packets.{packet_record}
-use Rattle.macsec_pcapng.specs.Answers.{TakesOne, TakesPacket}
-use Rattle.macsec_pcapng.specs.Reading.{ahead_in, content_ahead}
+use Rattle.std.proofs.Common.{◌≡◌, ℕ, zero, suc, ◌-◌, ◌≤◌, ◌<◌, List, refl, sym, ap, subst, ◌∙◌, arith, Option, Some}
+use Rattle.std.proofs.Common.{None, IfSome, Result, Ok, Err}
+use Rattle.macsec_pcap.specs.{
+  Answers.UnlessRead,
+  Reading.{holds, Answers, IsAfter, IsAhead, Reading, ahead_after, first_of, past_first},
+  Records.CaptureRecord,
+  declared.{fault.PcapFault.{PcapFault, TheVariants.{Read, RecordCount}}, form.Resolution.TheVariants.Nano},
+}
+use Rattle.macsec_pcapng.specs.{
+  Answers.{TakesOne, TakesPacket},
+  Files.{Takes, content_from, capture_of, ended, taken_at},
+  Packets.packet_record,
+  Reading.{ahead_in, content_ahead},
+  Section.Section,
+  declared.{
+    packets.Packet.Packet,
+    reader.Course.{Course, TheVariants.{Going, Ended, Failed}},
+    taking.Taken.TheVariants.{End, Found, Skipped},
+  },
+}
 
 -- ---- reading a block
 

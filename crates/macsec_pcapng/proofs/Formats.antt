@@ -1,20 +1,21 @@
 -- The fault of a capture file in either format is never `Memory`, `Read` or `Write`.
-use Rattle.std.proofs.Common.{ℕ, zero, suc, List, [], drop, length}
-use Rattle.std.specs.Prelude.{nat_lt, not, ◌==◌, Option, Some, None, Result, Ok, Err}
-use Rattle.macsec_pcap.specs.declared.fault.PcapFault.{PcapFault}
-use Rattle.macsec_pcap.specs.declared.fault.PcapFault.TheVariants.{CutHeader, CutRecord, LinkType, RecordCount, RecordLength, Version}
-use Rattle.macsec_pcap.specs.declared.form.Form.{Form}
-use Rattle.macsec_pcap.specs.declared.form.Order.{Order}
-use Rattle.macsec_pcap.specs.Limits.{header_length, max_record_length, max_records, record_header_length}
-use Rattle.macsec_pcap.specs.Header.{form_of, header_in, header_of, is_ethernet, is_version}
-use Rattle.macsec_pcap.specs.Records.{CaptureRecord, captured_length, record_length}
-use Rattle.macsec_pcap.specs.Captures.{Capture, begun_by, file_in, file_of, record_within, records_of}
-use Rattle.macsec_pcapng.specs.Blocks.{is_section}
-use Rattle.macsec_pcapng.specs.Captures.{captures_of}
-use Rattle.macsec_pcapng.specs.Files.{pcapng_of}
-use Rattle.macsec_pcapng.specs.Laws.{FileIsOfFormat, IsOfFormat}
-use Rattle.macsec_pcapng.proofs.OfFormat.{FaultIsOfFormat, chosen, picked}
-use Rattle.macsec_pcapng.proofs.PcapngFormats.{pcapng_format}
+use Rattle.{
+  std.proofs.Common.{ℕ, zero, suc, List, [], drop, length, nat_lt, not, ◌==◌, Option, Some, None, Result, Ok, Err},
+  macsec_pcap.specs.{
+    Captures.{Capture, begun_by, file_in, file_of, record_within, records_of},
+    Header.{form_of, header_in, header_of, is_ethernet, is_version},
+    Limits.{header_length, max_record_length, max_records, record_header_length},
+    Records.{CaptureRecord, captured_length, record_length},
+    declared.{
+      fault.PcapFault.{PcapFault, TheVariants.{CutHeader, CutRecord, LinkType, RecordCount, RecordLength, Version}},
+      form.{Form.Form, Order.Order},
+    },
+  },
+  macsec_pcapng.{
+    proofs.{OfFormat.{FaultIsOfFormat, chosen, picked}, PcapngFormats.pcapng_format},
+    specs.{Blocks.is_section, Captures.captures_of, Files.pcapng_of, Laws.{FileIsOfFormat, IsOfFormat}},
+  },
+}
 
 within_format : (order : Order) (places : ℕ) (octets : List ℕ) → FaultIsOfFormat (record_within order places octets)
 within_format order zero octets = chosen (length octets == 0) (Ok None) (Err RecordCount) tt tt

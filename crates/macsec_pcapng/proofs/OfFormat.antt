@@ -1,7 +1,9 @@
 -- The results of reading a file have no fault `Memory`, `Read` or `Write`.
-use Rattle.std.specs.Prelude.{Bool, true, false, if◌then◌else◌, Some, Result, Ok, Err}
-use Rattle.macsec_pcap.specs.declared.fault.PcapFault.{PcapFault}
-use Rattle.macsec_pcapng.specs.Laws.{IsOfFormat}
+use Rattle.{
+  std.proofs.Common.{Bool, true, false, if◌then◌else◌, Some, Result, Ok, Err},
+  macsec_pcap.specs.declared.fault.PcapFault.PcapFault,
+  macsec_pcapng.specs.Laws.IsOfFormat,
+}
 
 abbrev pub FaultIsOfFormat : {X : Type 0} → Result X PcapFault → Type 0
 FaultIsOfFormat (Ok x) = Unit {0}

@@ -1,30 +1,30 @@
 -- Reading a block and applying it to the section, and reading the first block of a file.
-use Rattle.std.proofs.Common.{◌≡◌, ◌≢◌, ℕ, ◌+◌, ◌-◌, ◌≤◌, List, take, drop, sym, ap, subst, ◌∙◌, arith}
-use Rattle.std.specs.Prelude.{Option, Some, None, IfSome, Result, Ok, Err, false, true, ◌==◌, nat_lt, not, if◌then◌else◌}
-use Rattle.std.proofs.lemmas.Bool.Decides.{nat_tests}
-use Rattle.std.proofs.lemmas.List.{drop-take, take-take}
-use Rattle.macsec_pcap.specs.declared.fault.PcapFault.{PcapFault}
-use Rattle.macsec_pcap.specs.declared.fault.PcapFault.TheVariants.{CutHeader, Magic, Memory, Read}
-use Rattle.macsec_pcap.specs.declared.form.Order.{Order}
-use Rattle.macsec_pcap.specs.declared.form.Order.TheVariants.{Big}
-use Rattle.macsec_pcap.specs.declared.form.Resolution.TheVariants.{Nano}
-use Rattle.macsec_pcap.specs.Limits.{max_records}
-use Rattle.macsec_pcap.specs.Captures.{CaptureFile}
-use Rattle.macsec_pcap.specs.Reading.{Opens}
-use Rattle.macsec_pcap.specs.Answers.{UnlessRead}
-use Rattle.macsec_pcap.specs.Records.{CaptureRecord, Content, whole, partial, other_link}
-use Rattle.macsec_pcapng.specs.declared.blocks.Head.{Head}
-use Rattle.macsec_pcapng.specs.declared.packets.Packet.{Packet}
-use Rattle.macsec_pcapng.specs.declared.taking.Taken.TheVariants.{End, Found}
-use Rattle.macsec_pcapng.specs.Answers.{IsLeft, TakesBlock, TakesHeader, TakesOne, block_by}
-use Rattle.macsec_pcapng.specs.Limits.{max_blocks}
-use Rattle.macsec_pcapng.specs.Reading.{content_ahead}
-use Rattle.macsec_pcapng.specs.Blocks.{Begins, block_at, kept, section_header}
-use Rattle.macsec_pcapng.specs.Files.{capture_of, file_after, file_by, in_header, pcapng_of, taken_at, taken_by, taken_with}
-use Rattle.macsec_pcapng.specs.Interfaces.{ethernet}
-use Rattle.macsec_pcapng.specs.Packets.{packet_record}
-use Rattle.macsec_pcapng.specs.Section.{Section}
-use Rattle.macsec_pcapng.specs.Sections.{left_by, new_section}
+use Rattle.std.proofs.{
+  Common.{◌≡◌, ◌≢◌, ℕ, ◌+◌, ◌-◌, ◌≤◌, List, take, drop, sym, ap, subst, ◌∙◌, arith, Option, Some, None, IfSome, Result},
+  Common.{Ok, Err, false, true, ◌==◌, nat_lt, not, if◌then◌else◌, take-take},
+  lemmas.{Bool.Decides.nat_tests, List.drop-take},
+}
+use Rattle.macsec_pcap.specs.{
+  Answers.UnlessRead,
+  Captures.CaptureFile,
+  Limits.max_records,
+  Reading.Opens,
+  Records.{CaptureRecord, Content, whole, partial, other_link},
+  declared.fault.PcapFault.{PcapFault, TheVariants.{CutHeader, Magic, Memory, Read}},
+  declared.form.{Order.{Order, TheVariants.Big}, Resolution.TheVariants.Nano},
+}
+use Rattle.macsec_pcapng.specs.{
+  Answers.{IsLeft, TakesBlock, TakesHeader, TakesOne, block_by},
+  Blocks.{Begins, block_at, kept, section_header},
+  Files.{capture_of, file_after, file_by, in_header, pcapng_of, taken_at, taken_by, taken_with},
+  Interfaces.ethernet,
+  Limits.max_blocks,
+  Packets.packet_record,
+  Reading.content_ahead,
+  Section.Section,
+  Sections.{left_by, new_section},
+  declared.{blocks.Head.Head, packets.Packet.Packet, taking.Taken.TheVariants.{End, Found}},
+}
 
 -- what a packet with these octets has
 abbrev with_octets : Packet → List ℕ → Content

@@ -1,10 +1,9 @@
 -- Options are read one after another: one step of the loop in `with_options`.
-use Rattle.std.proofs.Common.{◌≡◌, ℕ, zero, suc, ◌+◌, ◌-◌, ◌<◌, List, drop, refl, ap, ◌∙◌, arith}
-use Rattle.std.specs.Prelude.{Some, None, Ok, Err}
-use Rattle.macsec_pcap.specs.declared.fault.PcapFault.{PcapFault}
-use Rattle.macsec_pcap.specs.declared.form.Order.{Order}
-use Rattle.macsec_pcapng.specs.declared.interfaces.Interface.{Interface}
-use Rattle.macsec_pcapng.specs.Interfaces.{after_option, option_at, options_in}
+use Rattle.{
+  std.proofs.Common.{◌≡◌, ℕ, zero, suc, ◌+◌, ◌-◌, ◌<◌, List, drop, refl, ap, ◌∙◌, arith, Some, None, Ok, Err},
+  macsec_pcap.specs.declared.{fault.PcapFault.PcapFault, form.Order.Order},
+  macsec_pcapng.specs.{Interfaces.{after_option, option_at, options_in}, declared.interfaces.Interface.Interface},
+}
 
 -- reading all options is reading the first one and then the rest
 pub options_in-more : (order : Order) (n k : ℕ) (octets : List ℕ) (interface described : Interface) (len : ℕ) → k < n →

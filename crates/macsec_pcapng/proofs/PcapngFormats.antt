@@ -1,29 +1,34 @@
 -- The fault of a pcapng file is never `Memory`, `Read` or `Write`.
-use Rattle.std.proofs.Common.{ℕ, zero, suc, ◌+◌, ◌-◌, List, drop, take, length}
-use Rattle.std.specs.Prelude.{Bool, false, true, ◌==◌, nat_lt, not, slice_get, Option, Some, None, Result, Ok, Err}
-use Rattle.macsec_pcap.specs.declared.fault.PcapFault.{PcapFault}
-use Rattle.macsec_pcap.specs.declared.fault.PcapFault.TheVariants.{BlockLength, CutRecord, InterfaceCount, LinkType, Magic, RecordLength, Version}
-use Rattle.macsec_pcap.specs.declared.form.Order.{Order}
-use Rattle.macsec_pcap.specs.declared.form.Order.TheVariants.{Big}
-use Rattle.macsec_pcap.specs.Limits.{max_record_length, max_records}
-use Rattle.macsec_pcap.specs.Captures.{Capture}
-use Rattle.macsec_pcapng.specs.declared.interfaces.Interface.{Interface}
-use Rattle.macsec_pcapng.specs.declared.packets.Packet.{Packet}
-use Rattle.macsec_pcapng.specs.declared.times.Time.{Time}
-use Rattle.macsec_pcap.specs.Numbers.{number}
-use Rattle.macsec_pcap.specs.Records.{CaptureRecord}
-use Rattle.macsec_pcapng.specs.Limits.{max_blocks, max_options, room_length, max_interfaces}
-use Rattle.macsec_pcapng.specs.Blocks.{Begins, Block, block_at, block_of, block_with, enhanced_packet, interface_description, is_length, is_section}
-use Rattle.macsec_pcapng.specs.Blocks.{obsolete_packet, order_of_magic, section_header, section_in, section_in_order, simple_packet, total_length}
-use Rattle.macsec_pcapng.specs.Files.{Takes, content_from, capture_of, file_after, file_by, in_header, pcapng_of, taken_at, taken_by, taken_with, with_record}
-use Rattle.macsec_pcapng.specs.Interfaces.{after_option, behind_option, interface_of, is_ethernet, option_at, option_code, option_length, options_in}
-use Rattle.macsec_pcapng.specs.Interfaces.{plain_interface, value_length, with_option}
-use Rattle.macsec_pcapng.specs.Packets.{enhanced, enhanced_on, obsolete, other_packet, packet_at, packet_of, simple, simple_on, ticks, within_snap}
-use Rattle.macsec_pcapng.specs.Section.{Section}
-use Rattle.macsec_pcapng.specs.Sections.{Leaves, is_known_version, leaves_packet, leaves_section, left_by, new_section, with_interface, with_one_more}
-use Rattle.macsec_pcapng.specs.Times.{time_of}
-use Rattle.macsec_pcapng.specs.Laws.{FileIsOfFormat, IsOfFormat}
+use Rattle.std.proofs.Common.{ℕ, zero, suc, ◌+◌, ◌-◌, List, drop, take, length, Bool, false, true, ◌==◌, nat_lt, not}
+use Rattle.std.proofs.Common.{slice_get, Option, Some, None, Result, Ok, Err}
+use Rattle.macsec_pcap.specs.{
+  Captures.Capture,
+  Limits.{max_record_length, max_records},
+  Numbers.number,
+  Records.CaptureRecord,
+  declared.fault.PcapFault.{
+    PcapFault,
+    TheVariants.{BlockLength, CutRecord, InterfaceCount, LinkType, Magic, RecordLength, Version},
+  },
+  declared.form.Order.{Order, TheVariants.Big},
+}
 use Rattle.macsec_pcapng.proofs.OfFormat.{FaultIsOfFormat, chosen, picked}
+use Rattle.macsec_pcapng.specs.{
+  Blocks.{Begins, Block, block_at, block_of, block_with, enhanced_packet, interface_description, is_length, is_section},
+  Blocks.{obsolete_packet, order_of_magic, section_header, section_in, section_in_order, simple_packet, total_length},
+  Files.{Takes, content_from, capture_of, file_after, file_by, in_header, pcapng_of, taken_at, taken_by, taken_with},
+  Files.with_record,
+  Interfaces.{after_option, behind_option, interface_of, is_ethernet, option_at, option_code, option_length},
+  Interfaces.{options_in, plain_interface, value_length, with_option},
+  Laws.{FileIsOfFormat, IsOfFormat},
+  Limits.{max_blocks, max_options, room_length, max_interfaces},
+  Packets.{enhanced, enhanced_on, obsolete, other_packet, packet_at, packet_of, simple, simple_on, ticks, within_snap},
+  Section.Section,
+  Sections.{Leaves, is_known_version, leaves_packet, leaves_section, left_by, new_section, with_interface},
+  Sections.with_one_more,
+  Times.time_of,
+  declared.{interfaces.Interface.Interface, packets.Packet.Packet, times.Time.Time},
+}
 
 -- ---- blocks
 

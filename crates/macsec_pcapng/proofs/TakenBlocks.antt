@@ -1,20 +1,25 @@
 -- A block that is read in pieces (type and length, body, length) is the block of the definition.
-use Rattle.std.proofs.Common.{◌≡◌, ◌≢◌, ℕ, ◌+◌, ◌-◌, ◌<◌, ◌≤◌, List, ◌++◌, length, take, drop, refl, sym, ap, subst, ◌∙◌, arith, length-append, length-drop, take-append-drop}
-use Rattle.std.specs.Prelude.{Option, Some, None, IfSome, Result, Ok, Err, false, true, nat_lt, ◌==◌}
-use Rattle.std.proofs.lemmas.Bool.{le-ltb, lt-ltb}
-use Rattle.std.proofs.lemmas.Bool.Decides.{nat_tests}
-use Rattle.std.proofs.lemmas.List.{drop-drop, length-take-le, take_at}
-use Rattle.std.proofs.Math.Seq.{drop-append-add, take-append-add}
-use Rattle.macsec_pcap.specs.declared.fault.PcapFault.{PcapFault}
-use Rattle.macsec_pcap.specs.declared.fault.PcapFault.TheVariants.{BlockLength, CutRecord, Read}
-use Rattle.macsec_pcap.specs.declared.form.Order.{Order}
-use Rattle.macsec_pcap.specs.Filled.{IsFilled}
-use Rattle.macsec_pcap.specs.Numbers.{number}
-use Rattle.macsec_pcapng.specs.declared.blocks.Head.{Head}
-use Rattle.macsec_pcapng.specs.Answers.{Fetches, Skips, TakesBlock, TakesBody, TakesTrailer}
-use Rattle.macsec_pcapng.specs.Blocks.{block_at, block_of, block_of_len, block_with, is_length, is_section, kept}
-use Rattle.macsec_pcapng.specs.Blocks.{order_of_magic, section_header, section_in, section_in_order, total_length}
-use Rattle.macsec_pcapng.proofs.TakenOctets.{fetches}
+use Rattle.std.proofs.{
+  Common.{◌≡◌, ◌≢◌, ℕ, ◌+◌, ◌-◌, ◌<◌, ◌≤◌, List, ◌++◌, length, take, drop, refl, sym, ap, subst, ◌∙◌, arith},
+  Common.{length-append, length-drop, take-append-drop, Option, Some, None, IfSome, Result, Ok, Err, false, true},
+  Common.{nat_lt, ◌==◌, le-ltb, lt-ltb, drop-drop, length-take-le, take_at},
+  Math.Seq.{drop-append-add, take-append-add},
+  lemmas.Bool.Decides.nat_tests,
+}
+use Rattle.macsec_pcap.specs.{
+  Filled.IsFilled,
+  Numbers.number,
+  declared.{fault.PcapFault.{PcapFault, TheVariants.{BlockLength, CutRecord, Read}}, form.Order.Order},
+}
+use Rattle.macsec_pcapng.{
+  proofs.TakenOctets.fetches,
+  specs.{
+    Answers.{Fetches, Skips, TakesBlock, TakesBody, TakesTrailer},
+    Blocks.{block_at, block_of, block_of_len, block_with, is_length, is_section, kept, order_of_magic, section_header},
+    Blocks.{section_in, section_in_order, total_length},
+    declared.blocks.Head.Head,
+  },
+}
 
 -- ---- the first eight octets
 

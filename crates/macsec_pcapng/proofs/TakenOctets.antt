@@ -1,9 +1,10 @@
 -- Reading and skipping octets of a reader.
-use Rattle.std.proofs.Common.{◌≡◌, ℕ, ◌≤◌, List, ◌++◌, length, take, drop, refl, sym, ap, ◌∙◌, arith, length-append}
-use Rattle.std.specs.Prelude.{Option, Some, None, IfSome, Ok}
-use Rattle.std.proofs.lemmas.List.{drop_at, take_all, take_at}
-use Rattle.macsec_pcap.specs.Filled.{IsFilled}
-use Rattle.macsec_pcapng.specs.Answers.{Fetches}
+use Rattle.{
+  std.proofs.Common.{◌≡◌, ℕ, ◌≤◌, List, ◌++◌, length, take, drop, refl, sym, ap, ◌∙◌, arith, length-append, Option},
+  std.proofs.Common.{Some, None, IfSome, Ok, drop_at, take_all, take_at},
+  macsec_pcap.specs.Filled.IsFilled,
+  macsec_pcapng.specs.Answers.Fetches,
+}
 
 -- ---- filling a room
 

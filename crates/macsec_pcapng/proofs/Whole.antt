@@ -1,20 +1,21 @@
 -- The first 24 octets of a file are read to find its format. The reader for that format then reads the whole file, from
 -- a cursor over these octets and then from the source.
-use Rattle.std.proofs.Common.{◌≡◌, ℕ, ◌≤◌, List, [], ◌∷◌, ◌++◌, length, drop, refl, sym, ap, subst, ◌∙◌, arith, take-append-drop}
-use Rattle.std.specs.Prelude.{true, false, nat_lt, if◌then◌else◌, Option, Some, None, IfSome, Result, Ok, Err, option_map}
-use Rattle.std.proofs.lemmas.Bool.{le-ltb}
-use Rattle.std.specs.Fmt.{option_append}
-use Rattle.macsec_pcap.specs.declared.fault.PcapFault.{PcapFault}
-use Rattle.macsec_pcap.specs.declared.fault.PcapFault.TheVariants.{CutHeader}
-use Rattle.macsec_pcap.specs.Captures.{file_of}
-use Rattle.macsec_pcap.specs.Filled.{IsFilled}
-use Rattle.macsec_pcap.specs.Limits.{header_length}
-use Rattle.macsec_pcap.specs.Reading.{Opens, Reading}
-use Rattle.macsec_pcapng.specs.Answers.{Fetches}
-use Rattle.macsec_pcapng.specs.Blocks.{is_section}
-use Rattle.macsec_pcapng.specs.Captures.{captures_of}
-use Rattle.macsec_pcapng.specs.Files.{pcapng_of}
-use Rattle.macsec_pcapng.proofs.TakenOctets.{fetches}
+use Rattle.std.{
+  proofs.Common.{◌≡◌, ℕ, ◌≤◌, List, [], ◌∷◌, ◌++◌, length, drop, refl, sym, ap, subst, ◌∙◌, arith, take-append-drop},
+  proofs.Common.{true, false, nat_lt, if◌then◌else◌, Option, Some, None, IfSome, Result, Ok, Err, option_map, le-ltb},
+  specs.Fmt.option_append,
+}
+use Rattle.macsec_pcap.specs.{
+  Captures.file_of,
+  Filled.IsFilled,
+  Limits.header_length,
+  Reading.{Opens, Reading},
+  declared.fault.PcapFault.{PcapFault, TheVariants.CutHeader},
+}
+use Rattle.macsec_pcapng.{
+  proofs.TakenOctets.fetches,
+  specs.{Answers.Fetches, Blocks.is_section, Captures.captures_of, Files.pcapng_of},
+}
 
 -- the first four octets decide the format
 is_section-append : (front rest : List ℕ) → length front ≡ 24 → is_section (front ++ rest) ≡ is_section front

@@ -1,21 +1,22 @@
 -- All runs of a history: what one run seals and what a later run seals have different IVs.
-use Rattle.std.proofs.Common.{ℕ, ◌<◌, ◌≤◌, List, [], ◌∷◌, ◌++◌, get_or, refl, ap, sym, subst, ◌∙◌, arith, append-nil, All}
-use Rattle.std.proofs.lemmas.List.Elements.{All-cons, All-append, All-head, All-nil, All-tail, All-weaker}
-use Rattle.macsec_suite.specs.CipherUses.{CipherUse}
-use Rattle.macsec_reserve.specs.declared.reservation.Reservation.{Reservation}
-use Rattle.macsec_reserve.specs.Entries.{reduced}
-use Rattle.macsec_reserve.specs.Journal.{highest, record_of, reservations, salt_of, sending_name}
-use Rattle.macsec_reserve.specs.Crashes.{IsHistoryOfCrashes, IsReservation, LeavesDurable, StandsIn}
-use Rattle.macsec_reserve.specs.Histories.{AgreeOnKeys, IsHistory, KeepsDurable, Run, SameSalt, StaysSound, closing, opening, reported, sealed_in, sealed_in_all}
-use Rattle.macsec_reserve.specs.Unique.{HasOtherIv, RepeatsNoIv, RepeatsNoIvAfterCrashes}
-use Rattle.macsec_reserve.proofs.EndpointLaws.{Laws, numbers_tell}
-use Rattle.macsec_reserve.proofs.Pairs.{no_pairs, pairs-append, pairs-head, pairs-tail}
-use Rattle.macsec_reserve.proofs.HighestOf.{highest-append}
-use Rattle.macsec_reserve.proofs.Reduced.{reduced_reserves}
-use Rattle.macsec_reserve.proofs.Written.{reads_written}
-use Rattle.macsec_reserve.proofs.Runs.{Runs, runs}
-use Rattle.macsec_reserve.proofs.Steps.{granted_reported}
-use Rattle.macsec_reserve.proofs.Seals.{IsUse}
+use Rattle.macsec_reserve.proofs.{
+  Prelude.{[], ◌++◌, ◌<◌, ◌∙◌, ◌∷◌, ◌≤◌, AgreeOnKeys, All, All-append, All-cons, All-head, All-nil, All-tail},
+  Prelude.{All-weaker, ap, append-nil, arith, CipherUse, closing, get_or, HasOtherIv, highest, IsHistory},
+  Prelude.{IsReservation, KeepsDurable, List, opening, record_of, reduced, refl, reported, Reservation, reservations},
+  Prelude.{Run, salt_of, SameSalt, sealed_in, sealed_in_all, sending_name, StaysSound, subst, sym, ℕ},
+  EndpointLaws.{Laws, numbers_tell},
+  HighestOf.highest-append,
+  Pairs.{no_pairs, pairs-append, pairs-head, pairs-tail},
+  Reduced.reduced_reserves,
+  Runs.{Runs, runs},
+  Seals.IsUse,
+  Steps.granted_reported,
+  Written.reads_written,
+}
+use Rattle.macsec_reserve.specs.{
+  Crashes.{IsHistoryOfCrashes, LeavesDurable, StandsIn},
+  Unique.{RepeatsNoIv, RepeatsNoIvAfterCrashes},
+}
 
 abbrev pub IsSoundRun : Run → Type 0
 IsSoundRun run = StaysSound (opening run) run.inputs

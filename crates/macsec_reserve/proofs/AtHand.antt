@@ -1,23 +1,14 @@
 -- If the enabled SA's next number is within what is at hand for its key, every client frame uses only what is reserved.
-use Rattle.std.proofs.Common.{◌≡◌, ◌⊎◌, inl, inr, ℕ, ◌+◌, Bool, true, false, List, length, refl, ap, sym, subst, ◌∙◌}
-use Rattle.std.specs.Prelude.{◌==◌, ◌&&◌, ◌||◌, not, nat_lt, nat_le, if◌then◌else◌, Option, Some, None}
-use Rattle.std.specs.List.{list_any}
-use Rattle.std.proofs.lemmas.Bool.{and_parts, eqb-true}
-use Rattle.macsec_suite.specs.KeyRows.{InstalledKey, the_key}
-use Rattle.macsec_suite.specs.Suites.{last_of}
-use Rattle.macsec_tx.specs.declared.TxOptions.{TxOptions}
-use Rattle.macsec_tx.specs.declared.TxRow.{TxRow}
-use Rattle.macsec_tx.specs.Transmit.{Sending, no_sa, not_protected, octets_added, plain, protected, protected_frame, row_on, sending, sending_by, tag_sent, too_long}
-use Rattle.macsec_secy.specs.declared.fault.FrameFault.{FrameFault}
-use Rattle.macsec_secy.specs.Laws.{UsedNumber, number_unless_fault}
-use Rattle.macsec_secy.specs.State.{tx_options}
-use Rattle.macsec_secy.specs.Step.{client_frame, frame_fault}
-use Rattle.macsec_reserve.specs.declared.keeper.AtHand.{AtHand}
-use Rattle.macsec_reserve.specs.declared.keeper.NamedKey.{NamedKey}
-use Rattle.macsec_reserve.specs.Journal.{highest}
-use Rattle.macsec_reserve.specs.Keeping.{Keeping, key_name, may_use, uses_reserved}
-use Rattle.macsec_reserve.specs.Names.{HasNames, IsAtHand, name_or_none, name_row}
-use Rattle.macsec_reserve.proofs.KeptNames.{found_name}
+use Rattle.macsec_tx.specs.Transmit.{no_sa, not_protected, octets_added, plain, protected, protected_frame, sending_by}
+use Rattle.macsec_tx.specs.Transmit.{tag_sent, too_long}
+use Rattle.macsec_reserve.proofs.{
+  Prelude.{◌&&◌, ◌+◌, ◌==◌, ◌||◌, ◌∙◌, ◌≡◌, ◌⊎◌, and_parts, ap, AtHand, Bool, client_frame, eqb-true, false},
+  Prelude.{frame_fault, FrameFault, HasNames, highest, if◌then◌else◌, inl, inr, InstalledKey, IsAtHand, Keeping},
+  Prelude.{key_name, last_of, length, List, list_any, may_use, name_or_none, name_row, NamedKey, nat_le, nat_lt, None},
+  Prelude.{not, number_unless_fault, Option, refl, row_on, Sending, sending, Some, subst, sym, the_key, true},
+  Prelude.{tx_options, TxOptions, TxRow, UsedNumber, uses_reserved, ℕ},
+  KeptNames.found_name,
+}
 
 -- only the enabled SA sends
 by_tests : (row : TxRow) (b c : Bool) (p q s : Sending) → p.by ≡ None → q.by ≡ None → s.by ≡ Some row →

@@ -1,37 +1,29 @@
 -- The lowest acceptable packet number of each receive SA stays above what the journal had saved for it. The proof uses only
 -- that the rows of the endpoint's tables agree.
-use Rattle.std.proofs.Common.{◌≡◌, ◌⊎◌, inl, inr, ℕ, ◌<◌, ◌≤◌, Bool, true, false, List, [], ◌∷◌, ◌++◌, map, get_or, refl, ap, sym, subst, ◌∙◌, arith, All}
-use Rattle.std.specs.Prelude.{◌-◌, ◌^◌, ◌==◌, ◌&&◌, nat_lt, nat_le, not, if◌then◌else◌, Option, Some, None, IsSome, unwrap_or}
-use Rattle.std.proofs.lemmas.Bool.{and_cases, eqb-false, leb-false, ltb-false, or_parts}
-use Rattle.std.proofs.lemmas.List.Elements.{All-filter, All-map, All-push, All-weaker}
-use Rattle.macsec_tag.specs.declared.identifiers.Sci.{Sci}
-use Rattle.macsec_suite.specs.declared.refusal.Refusal.{Refusal}
+use Rattle.std.proofs.{
+  Common.{leb-false, ltb-false},
+  lemmas.{Bool.{and_cases, eqb-false}, List.Elements.{All-filter, All-push}},
+}
 use Rattle.macsec_suite.specs.Refusals.{is_outside}
-use Rattle.macsec_suite.specs.declared.suite.Suite.{Suite}
-use Rattle.macsec_suite.specs.Suites.{is_xpn, last_of}
-use Rattle.macsec_suite.specs.KeyRows.{InstalledKey, at_number, key_row, no_key, retired_row, row_noting, the_key, with_key}
-use Rattle.macsec_tx.specs.declared.TxRow.{TxRow}
-use Rattle.macsec_tx.specs.Transmit.{keys_after}
-use Rattle.macsec_rx.specs.declared.RxRow.{RxRow}
-use Rattle.macsec_rx.specs.Channels.{at_place, is_at, same_sci}
-use Rattle.macsec_rx.specs.Judge.{accepted_number, row_accepting, rows_accepting}
-use Rattle.macsec_rx.specs.Commands.{is_below_lowest, row_narrowed, row_raised, row_switched, rx_low_refusals, rx_sa_refusals}
-use Rattle.macsec_commands.specs.declared.command.Command.{Command}
-use Rattle.macsec_commands.specs.declared.command.Command.TheVariants.{Protect, Validate, Replay, Tag, Key, Retire, TxSa, TxOn, TxOff}
-use Rattle.macsec_commands.specs.declared.command.Command.TheVariants.{TxDel, RxSc, RxScDel, RxSa, RxOn, RxOff, RxLow, RxDel}
-use Rattle.macsec_secy.specs.declared.fault.FrameFault.{FrameFault}
-use Rattle.macsec_secy.specs.Commands.{effect, refusal, unless_refused}
-use Rattle.macsec_secy.specs.Agrees.{Agrees}
-use Rattle.macsec_secy.specs.State.{State}
-use Rattle.macsec_secy.specs.Reception.{judgement_of, state_after_receiving}
-use Rattle.macsec_secy.specs.Step.{Input, Output, operator_command, client_frame, uncontrolled_frame, link_frame, frame_fault, leaves, received_output, sending_of, sent_output, state_after_sending, step, unless_fault}
-use Rattle.macsec_secy.proofs.AfterCommands.{none_hold}
-use Rattle.macsec_secy.proofs.KeysKept.{field_kept}
+use Rattle.macsec_rx.specs.{
+  Channels.{at_place, same_sci},
+  Commands.{is_below_lowest, row_narrowed, row_raised, row_switched, rx_low_refusals, rx_sa_refusals},
+  Judge.{accepted_number, row_accepting, rows_accepting},
+}
 use Rattle.macsec_secy.proofs.RxRowsAgree.{IsNotBelow, none_below}
-use Rattle.macsec_reserve.specs.declared.reservation.Reservation.{Reservation}
-use Rattle.macsec_reserve.specs.Journal.{highest, receiving_name, sending_name}
-use Rattle.macsec_reserve.specs.Keeping.{Keeping, KeepingInput, endpoint_input, now_durable, begins_at, is_below_floor, keeping_after, keeping_step, key_name, may_go, was_reserved}
-use Rattle.macsec_reserve.proofs.Steps.{before_stays, by_tests, keeps_stays, salt_stays}
+use Rattle.macsec_reserve.proofs.{
+  Prelude.{[], ◌&&◌, ◌++◌, ◌-◌, ◌<◌, ◌==◌, ◌^◌, ◌∙◌, ◌∷◌, ◌≡◌, ◌≤◌, ◌⊎◌, Agrees, All, All-map, All-weaker, ap, arith},
+  Prelude.{at_number, begins_at, Bool, client_frame, Command, effect, endpoint_input, false, field_kept, frame_fault},
+  Prelude.{FrameFault, get_or, highest, if◌then◌else◌, inl, Input, inr, InstalledKey, is_at, is_below_floor, is_xpn},
+  Prelude.{IsSome, judgement_of, Keeping, keeping_after, keeping_step, KeepingInput, Key, key_name, key_row},
+  Prelude.{keys_after, last_of, leaves, link_frame, List, map, may_go, nat_le, nat_lt, no_key, None, none_hold, not},
+  Prelude.{now_durable, operator_command, Option, or_parts, Output, Protect, received_output, receiving_name, refl},
+  Prelude.{Refusal, refusal, Replay, Reservation, Retire, retired_row, row_noting, RxDel, RxLow, RxOff, RxOn, RxRow},
+  Prelude.{RxSa, RxSc, RxScDel, Sci, sending_name, sending_of, sent_output, Some, State, state_after_receiving},
+  Prelude.{state_after_sending, step, subst, Suite, sym, Tag, the_key, true, TxDel, TxOff, TxOn, TxRow, TxSa},
+  Prelude.{uncontrolled_frame, unless_fault, unless_refused, unwrap_or, Validate, was_reserved, with_key, ℕ},
+  Steps.{before_stays, by_tests, keeps_stays, salt_stays},
+}
 
 -- what was saved under a name is below a packet number, and below 2^64 - 1
 pub record IsSavedBelow (before : List Reservation) (name : List ℕ) (n : ℕ) : Type 0 where

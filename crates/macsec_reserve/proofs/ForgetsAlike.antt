@@ -1,44 +1,29 @@
 -- A run with forgetting, compared with the same run without: the endpoints differ only in the octets of forgotten keys.
-use Rattle.std.proofs.Common.{◌≡◌, inl, inr, ℕ, ◌≤◌, Bool, true, false, List, [], ◌∷◌, ◌++◌, map, length, refl, ap, sym, subst, ◌∙◌, arith, length-append, All, Contains}
-use Rattle.std.specs.Prelude.{◌==◌, ◌||◌, ◌&&◌, not, is_some, if◌then◌else◌, Option, Some, None, IsSome, unwrap_or}
-use Rattle.std.specs.List.{list_any}
-use Rattle.std.proofs.lemmas.Bool.{eqb-true, or_parts}
-use Rattle.std.proofs.lemmas.List.{length-map}
-use Rattle.std.proofs.lemmas.List.Elements.{All-cons, All-head, All-nil, All-tail, All-weaker}
-use Rattle.std.proofs.lemmas.Slice.Eq.{bytes_eq-Decides}
-use Rattle.macsec_aes.specs.Keys.{key_bytes}
-use Rattle.macsec_gcm.specs.Octets.{same_octets}
-use Rattle.macsec_suite.specs.declared.key_row.NewKey.{NewKey}
-use Rattle.macsec_suite.specs.declared.refusal.Refusal.{Refusal}
 use Rattle.macsec_suite.specs.declared.refusal.Refusal.TheVariants.{KeyRetired, NoKey}
-use Rattle.macsec_suite.specs.KeyRows.{InstalledKey, at_number, key_row, no_key, the_key, with_bytes, with_key}
-use Rattle.macsec_suite.specs.Refusals.{has_retired, holds_of, is_number_used, is_retired, retire_refusals}
-use Rattle.macsec_commands.specs.declared.command.Command.{Command}
-use Rattle.macsec_commands.specs.declared.command.Command.TheVariants.{Key, Retire, RxSa, TxSa}
-use Rattle.macsec_secy.specs.Commands.{refusal, unless_refused, uses}
-use Rattle.macsec_secy.specs.Agrees.{Agrees}
-use Rattle.macsec_secy.specs.GivenUp.{IsGivenUp, RepeatsAlike}
-use Rattle.macsec_secy.specs.Kept.{KeysAreApart, KeysStay}
-use Rattle.macsec_secy.specs.Sound.{IsSound}
-use Rattle.macsec_secy.specs.State.{State}
-use Rattle.macsec_secy.specs.Step.{Input, Output, operator_command, command_output, refused, step}
-use Rattle.macsec_secy.proofs.AfterCommands.{none_hold}
-use Rattle.macsec_secy.proofs.Contained.{behind, first}
-use Rattle.macsec_secy.proofs.KeysApart.{octets_same, the_key_found}
-use Rattle.macsec_reserve.specs.declared.reservation.Reservation.{Reservation}
-use Rattle.macsec_reserve.specs.Entries.{raised_by}
-use Rattle.macsec_reserve.specs.Forgetting.{as_taken, can_forget, fingerprint, fingerprint_of, forgetting, forgetting_step, is_done, is_forgotten, then_forget}
-use Rattle.macsec_reserve.specs.Forgotten.{AreAlike, RefusesRetired, installing, installs_retired}
-use Rattle.macsec_reserve.specs.Journal.{highest, receiving_name}
-use Rattle.macsec_reserve.specs.Keeping.{Keeping, KeepingInput, KeepingOutput, endpoint_input, for_each_key, is_below_floor, keeping_step, may_go, now_durable, nothing_yet, was_reserved}
-use Rattle.macsec_reserve.proofs.ForgottenEntries.{complete, completed, completed_long, completed_with, entries_added, entries_completed, step_adds}
-use Rattle.macsec_reserve.proofs.KeyEntries.{for_each_key_reserves}
-use Rattle.macsec_reserve.proofs.KnownKeys.{command_step, none_refuses, or_true, retiring, with_fingerprint}
-use Rattle.macsec_reserve.proofs.Replaced.{AreDistinct, AtEach, HasOther, IsGivenUpIn, IsNotHeld, IsOther, KeyLaws, NotHeld, RepeatsOf, Replacement}
-use Rattle.macsec_reserve.proofs.Replaced.{at_each, have_octets, have_other, replaced, replaced_keys, repeats_replaced, retired_replaced, row_replaced, step_replaced}
-use Rattle.macsec_reserve.proofs.SameUses.{GrantsAlike, beside, may_go_alike, name_replaced}
-use Rattle.macsec_reserve.proofs.SoundBeside.{HaveLengths, step_lengths}
-use Rattle.macsec_reserve.proofs.Steps.{by_tests}
+use Rattle.macsec_secy.proofs.KeysApart.{the_key_found}
+use Rattle.macsec_reserve.proofs.{
+  Prelude.{[], ◌&&◌, ◌++◌, ◌==◌, ◌||◌, ◌∙◌, ◌∷◌, ◌≡◌, ◌≤◌, Agrees, All, All-cons, All-head, All-nil, All-tail},
+  Prelude.{All-weaker, ap, arith, as_taken, at_number, behind, Bool, bytes_eq-Decides, can_forget, Command},
+  Prelude.{command_output, Contains, endpoint_input, eqb-true, false, fingerprint, fingerprint_of, first, for_each_key},
+  Prelude.{forgetting, forgetting_step, has_retired, highest, holds_of, if◌then◌else◌, inl, Input, inr, InstalledKey},
+  Prelude.{installing, installs_retired, is_below_floor, is_done, is_forgotten, is_number_used, is_retired, is_some},
+  Prelude.{IsGivenUp, IsSome, IsSound, Keeping, keeping_step, KeepingInput, KeepingOutput, Key, key_bytes, key_row},
+  Prelude.{KeysAreApart, KeysStay, length, length-append, length-map, List, list_any, map, may_go, NewKey, no_key},
+  Prelude.{None, none_hold, not, nothing_yet, now_durable, octets_same, operator_command, Option, or_parts, Output},
+  Prelude.{raised_by, receiving_name, refl, Refusal, refusal, refused, RepeatsAlike, Reservation, Retire},
+  Prelude.{retire_refusals, RxSa, same_octets, Some, State, step, subst, sym, the_key, true, TxSa, unless_refused},
+  Prelude.{unwrap_or, uses, was_reserved, with_bytes, with_key, ℕ},
+  ForgottenEntries.{complete, completed, completed_long, completed_with, entries_added, entries_completed, step_adds},
+  KeyEntries.for_each_key_reserves,
+  KnownKeys.{command_step, none_refuses, or_true, retiring, with_fingerprint},
+  Replaced.{AreDistinct, AtEach, HasOther, IsGivenUpIn, IsNotHeld, IsOther, KeyLaws, NotHeld, RepeatsOf, Replacement},
+  Replaced.{at_each, have_octets, have_other, replaced, replaced_keys, repeats_replaced, retired_replaced},
+  Replaced.{row_replaced, step_replaced},
+  SameUses.{GrantsAlike, beside, may_go_alike, name_replaced},
+  SoundBeside.{HaveLengths, step_lengths},
+  Steps.by_tests,
+}
+use Rattle.macsec_reserve.specs.{Forgetting.then_forget, Forgotten.{AreAlike, RefusesRetired}}
 
 -- ---- what ties the two endpoints together
 

@@ -1,25 +1,18 @@
 -- What the calls that forget a key leave.
-use Rattle.std.proofs.Common.{◌≡◌, ℕ, Bool, true, false, List, [], ◌∷◌, length, map, take, refl, ap, sym, subst, ◌∙◌}
-use Rattle.std.specs.Prelude.{◌==◌, ◌&&◌, if◌then◌else◌, Option, Some, None, option_map, unwrap_or}
-use Rattle.macsec_aes.specs.Keys.{key_bytes}
-use Rattle.macsec_aes.specs.declared.Key.{Key as KeyOctets}
-use Rattle.macsec_suite.specs.declared.key_row.NewKey.{NewKey}
-use Rattle.macsec_suite.specs.Refusals.{has_retired}
-use Rattle.macsec_commands.specs.declared.command.Command.{Command}
-use Rattle.macsec_commands.specs.declared.command.Command.TheVariants.{Retire}
-use Rattle.macsec_secy.specs.Step.{operator_command, done}
-use Rattle.macsec_suite.specs.KeyRows.{AreKeyRows, InstalledKey, key_row, no_key, prepared_key, with_bytes, with_key}
-use Rattle.macsec_suite.specs.Keys.{PreparedKey}
-use Rattle.macsec_suite.specs.Replacing.{can_replace}
-use Rattle.macsec_suite.specs.Suites.{key_length}
-use Rattle.macsec_secy.specs.GivenUp.{replacing, state_after_replacing}
-use Rattle.macsec_secy.specs.State.{State}
-use Rattle.macsec_reserve.specs.declared.keeper.NamedKey.{NamedKey}
-use Rattle.macsec_reserve.specs.Forgetting.{as_taken, can_forget, fingerprint_of, forgetting, forgetting_step, is_done, key_of_fingerprint}
-use Rattle.macsec_reserve.specs.Journal.{sending_name}
-use Rattle.macsec_reserve.specs.Keeping.{Keeping, endpoint_input, endpoint_output, for_each_key, keeping_step, key_name}
-use Rattle.macsec_reserve.specs.Names.{HasNames, named, renamed}
-use Rattle.macsec_reserve.proofs.KnownKeys.{bytes_of_fingerprint}
+use Rattle.{
+  macsec_aes.specs.declared.Key.{Key as KeyOctets},
+  macsec_suite.specs.Keys.PreparedKey,
+  macsec_secy.specs.GivenUp.state_after_replacing,
+  macsec_reserve.proofs.{
+    Prelude.{[], ◌&&◌, ◌==◌, ◌∙◌, ◌∷◌, ◌≡◌, ap, AreKeyRows, as_taken, Bool, can_forget, can_replace, Command, done},
+    Prelude.{endpoint_input, endpoint_output, false, fingerprint_of, for_each_key, forgetting, forgetting_step},
+    Prelude.{has_retired, HasNames, if◌then◌else◌, InstalledKey, is_done, Keeping, keeping_step, key_bytes, key_length},
+    Prelude.{key_name, key_of_fingerprint, key_row, length, List, map, named, NamedKey, NewKey, no_key, None},
+    Prelude.{operator_command, Option, option_map, prepared_key, refl, renamed, replacing, Retire, sending_name, Some},
+    Prelude.{State, subst, sym, take, true, unwrap_or, with_bytes, with_key, ℕ},
+    KnownKeys.bytes_of_fingerprint,
+  },
+}
 
 -- ---- names
 

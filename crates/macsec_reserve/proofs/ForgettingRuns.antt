@@ -1,31 +1,29 @@
 -- Whole runs with forgetting: they seal what the runs without it seal, and answer alike.
-use Rattle.std.proofs.Common.{◌≡◌, zero, suc, ◌≤◌, Bool, true, false, List, [], ◌∷◌, ◌++◌, length, map, get_or, refl, ap, ap₂, sym, subst, ◌∙◌, arith, All, AllPairs}
-use Rattle.std.specs.Prelude.{if◌then◌else◌}
-use Rattle.std.proofs.lemmas.List.Elements.{All-head, All-map, All-nil, All-tail, All-weaker}
-use Rattle.std.proofs.lemmas.List.Kept.{AllPairs-cons}
-use Rattle.macsec_suite.specs.CipherUses.{CipherUse}
-use Rattle.macsec_commands.specs.declared.command.Command.TheVariants.{Key}
-use Rattle.macsec_commands.specs.declared.config.EndConfig.{EndConfig}
-use Rattle.macsec_secy.specs.Agrees.{Agrees}
-use Rattle.macsec_secy.specs.Sound.{IsSound}
-use Rattle.macsec_secy.specs.Step.{operator_command}
-use Rattle.macsec_reserve.specs.declared.reservation.Reservation.{Reservation}
-use Rattle.macsec_reserve.specs.Forgetting.{forgetting_after, forgetting_step, sealed_forgetting}
-use Rattle.macsec_reserve.specs.Forgotten.{AreAllAlike, AreSameBut, ForgetsAlike, IsHistoryForgetting, RepeatsNoIvForgetting, RunsAlike, StaysSoundForgetting, installs_retired, others, outputs, outputs_to_others}
-use Rattle.macsec_reserve.specs.Forgotten.{sealed_forgetting_in_all, without_forgetting}
-use Rattle.macsec_reserve.specs.Histories.{AgreeOnKeys, IsHistory, KeepsDurable, Run, SameSalt, StaysSound, newly_sealed, opening, reported_in, sealed_from, sealed_if, sealed_in_all}
-use Rattle.macsec_reserve.specs.Journal.{highest, reservations}
-use Rattle.macsec_reserve.specs.Keeping.{Keeping, KeepingInput, KeepingOutput, alone, endpoint_input, now_durable, keeping_after, keeping_step, may_go, nothing_yet}
-use Rattle.macsec_reserve.specs.Unique.{HasOtherIv}
-use Rattle.macsec_reserve.proofs.AllRuns.{IsSoundRun, repeats_no_iv}
-use Rattle.macsec_reserve.proofs.EndpointLaws.{Laws}
-use Rattle.macsec_reserve.proofs.ForgetsAlike.{Fits, IsOfKey, NextAlike, grants_alike, is_other, next_alike}
-use Rattle.macsec_reserve.proofs.KnownKeys.{retired_unchanged}
-use Rattle.macsec_reserve.proofs.NoReplay.{StartAgrees}
-use Rattle.macsec_reserve.proofs.Pairs.{no_pairs, pairs-head, pairs-tail}
-use Rattle.macsec_reserve.proofs.Replaced.{IsGivenUpIn, IsOther, KeyLaws, Replacement, replaced, row_replaced}
-use Rattle.macsec_reserve.proofs.SameUses.{beside, sealed_alike}
-use Rattle.macsec_reserve.proofs.SoundBeside.{HaveLengths, sound_beside}
+use Rattle.std.proofs.Common.{ap₂}
+use Rattle.macsec_reserve.proofs.{
+  Prelude.{[], ◌++◌, ◌∙◌, ◌∷◌, ◌≡◌, ◌≤◌, AgreeOnKeys, Agrees, All, All-head, All-map, All-nil, All-tail, All-weaker},
+  Prelude.{AllPairs, AllPairs-cons, ap, arith, Bool, CipherUse, EndConfig, endpoint_input, false, forgetting_step},
+  Prelude.{get_or, HasOtherIv, highest, if◌then◌else◌, installs_retired, IsHistory, IsSound, Keeping, keeping_after},
+  Prelude.{keeping_step, KeepingInput, KeepingOutput, KeepsDurable, Key, length, List, map, may_go, newly_sealed},
+  Prelude.{nothing_yet, now_durable, opening, operator_command, refl, reported_in, Reservation, reservations, Run},
+  Prelude.{SameSalt, sealed_from, sealed_if, sealed_in_all, StaysSound, subst, suc, sym, true, without_forgetting},
+  Prelude.zero,
+  AllRuns.{IsSoundRun, repeats_no_iv},
+  EndpointLaws.Laws,
+  ForgetsAlike.{Fits, IsOfKey, NextAlike, grants_alike, is_other, next_alike},
+  KnownKeys.retired_unchanged,
+  NoReplay.StartAgrees,
+  Pairs.{no_pairs, pairs-head, pairs-tail},
+  Replaced.{IsGivenUpIn, IsOther, KeyLaws, Replacement, replaced, row_replaced},
+  SameUses.{beside, sealed_alike},
+  SoundBeside.{HaveLengths, sound_beside},
+}
+use Rattle.macsec_reserve.specs.{
+  Forgetting.{forgetting_after, sealed_forgetting},
+  Forgotten.{AreAllAlike, AreSameBut, ForgetsAlike, IsHistoryForgetting, RepeatsNoIvForgetting, RunsAlike},
+  Forgotten.{StaysSoundForgetting, others, outputs, outputs_to_others, sealed_forgetting_in_all},
+  Keeping.alone,
+}
 
 -- an installation seals nothing
 none_if : (go : Bool) → sealed_if go [] ≡ []

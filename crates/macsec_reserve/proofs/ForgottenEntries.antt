@@ -1,23 +1,16 @@
 -- The entries of what was reported durable: what a step adds to them.
-use Rattle.std.proofs.Common.{◌≡◌, ℕ, ◌≤◌, Bool, true, false, List, [], ◌∷◌, ◌++◌, map, drop, length, refl, ap, sym, ◌∙◌, arith, append-nil, append_assoc, length-append, length-drop}
-use Rattle.std.specs.Prelude.{◌==◌, if◌then◌else◌, Option, Some, None}
-use Rattle.std.proofs.lemmas.List.{drop-append-le, drop-map, drop_all, map-append}
-use Rattle.macsec_aes.specs.Keys.{key_bytes}
-use Rattle.macsec_suite.specs.KeyRows.{InstalledKey, new_row, retired_row, row_noting, suite_of, with_key}
-use Rattle.macsec_suite.specs.declared.refusal.Refusal.{Refusal}
-use Rattle.macsec_tx.specs.declared.TxRow.{TxRow}
-use Rattle.macsec_tx.specs.Transmit.{keys_after}
-use Rattle.macsec_commands.specs.declared.command.Command.{Command}
-use Rattle.macsec_commands.specs.declared.command.Command.TheVariants.{Key, Retire}
-use Rattle.macsec_secy.specs.declared.fault.FrameFault.{FrameFault}
-use Rattle.macsec_secy.specs.Commands.{effect, refusal, unless_refused}
-use Rattle.macsec_secy.specs.Reception.{judgement_of, state_after_receiving}
-use Rattle.macsec_secy.specs.State.{State}
-use Rattle.macsec_secy.specs.Step.{Input, Output, operator_command, client_frame, uncontrolled_frame, link_frame, command_output, frame_fault, leaves, received_output, sending_of, sent_output, state_after_sending, step, unless_fault}
-use Rattle.macsec_reserve.specs.declared.reservation.Reservation.{Reservation}
-use Rattle.macsec_reserve.specs.Forgetting.{is_done_output}
-use Rattle.macsec_reserve.specs.Journal.{sending_name}
-use Rattle.macsec_reserve.specs.Keeping.{for_each_key, nothing_yet}
+use Rattle.{
+  std.proofs.lemmas.List.{drop-map, drop_all},
+  macsec_reserve.proofs.Prelude.{[], ◌++◌, ◌==◌, ◌∙◌, ◌∷◌, ◌≡◌, ◌≤◌, ap, append-nil, append_assoc, arith, Bool},
+  macsec_reserve.proofs.Prelude.{client_frame, Command, command_output, drop, drop-append-le, effect, false},
+  macsec_reserve.proofs.Prelude.{for_each_key, frame_fault, FrameFault, if◌then◌else◌, Input, InstalledKey},
+  macsec_reserve.proofs.Prelude.{is_done_output, judgement_of, Key, key_bytes, keys_after, leaves, length},
+  macsec_reserve.proofs.Prelude.{length-append, length-drop, link_frame, List, map, map-append, new_row, None},
+  macsec_reserve.proofs.Prelude.{nothing_yet, operator_command, Option, Output, received_output, refl, Refusal},
+  macsec_reserve.proofs.Prelude.{refusal, Reservation, Retire, retired_row, row_noting, sending_name, sending_of},
+  macsec_reserve.proofs.Prelude.{sent_output, Some, State, state_after_receiving, state_after_sending, step, suite_of},
+  macsec_reserve.proofs.Prelude.{sym, true, TxRow, uncontrolled_frame, unless_fault, unless_refused, with_key, ℕ},
+}
 
 -- ---- entries, and the entries of keys for which nothing was reported
 

@@ -1,18 +1,12 @@
 -- The entries of keys: what they reserve together, and that there is room for them.
-use Rattle.std.proofs.Common.{◌≡◌, ℕ, zero, suc, ◌≤◌, Bool, true, false, List, [], ◌∷◌, ◌++◌, map, drop, length, refl, ap, sym, ◌∙◌, arith}
-use Rattle.std.specs.Prelude.{max, if◌then◌else◌}
-use Rattle.std.proofs.lemmas.List.{length-map}
-use Rattle.std.proofs.lemmas.Slice.Eq.{bytes_eq-Decides}
-use Rattle.macsec_gcm.specs.Octets.{same_octets}
-use Rattle.macsec_suite.specs.KeyRows.{AreKeyRows, InstalledKey, max_key_count}
 use Rattle.macsec_suite.proofs.KeyLemmas.{at_most_rows}
-use Rattle.macsec_reserve.specs.declared.keeper.NamedKey.{NamedKey}
-use Rattle.macsec_reserve.specs.declared.reservation.Reservation.{Reservation}
-use Rattle.macsec_reserve.specs.Journal.{highest, sending_name}
-use Rattle.macsec_reserve.specs.Entries.{raised_by}
-use Rattle.macsec_reserve.specs.Keeping.{for_each_key, nothing_yet}
-use Rattle.macsec_reserve.specs.Names.{HasNames, entry_of, named}
-use Rattle.macsec_reserve.proofs.HighestOf.{highest-append, highest_of_one}
+use Rattle.macsec_reserve.proofs.{
+  Prelude.{[], ◌++◌, ◌∙◌, ◌∷◌, ◌≡◌, ◌≤◌, ap, AreKeyRows, arith, Bool, bytes_eq-Decides, drop, entry_of, false},
+  Prelude.{for_each_key, HasNames, highest, if◌then◌else◌, InstalledKey, length, length-map, List, map, max},
+  Prelude.{max_key_count, named, NamedKey, nothing_yet, raised_by, refl, Reservation, same_octets, sending_name, suc},
+  Prelude.{sym, true, zero, ℕ},
+  HighestOf.{highest-append, highest_of_one},
+}
 
 -- ---- what they reserve
 

@@ -1,46 +1,34 @@
 -- Octets that were installed stay known, and are refused.
-use Rattle.std.proofs.Common.{◌≡◌, ◌⊎◌, inl, inr, ℕ, ◌≤◌, Bool, true, false, List, [], ◌∷◌, ◌++◌, length, map, refl, ap, sym, subst, ◌∙◌, arith, Contains}
-use Rattle.std.specs.Prelude.{codes, ◌==◌, ◌||◌, ◌&&◌, not, if◌then◌else◌, Option, Some, None, unwrap_or}
-use Rattle.std.specs.List.{list_any}
-use Rattle.std.proofs.lemmas.Bool.{and_parts, eqb-true, or_cases, or_parts}
-use Rattle.std.proofs.lemmas.List.{length-take-le}
-use Rattle.std.proofs.lemmas.Slice.Eq.{bytes_eq-Decides}
-use Rattle.sha2.proofs.Facts256.{length-sha256}
-use Rattle.macsec_aes.specs.Keys.{key_bytes}
-use Rattle.macsec_aes.specs.declared.Key.{Key as KeyOctets}
-use Rattle.macsec_aes.specs.declared.Key.TheVariants.{K128, K256}
-use Rattle.macsec_gcm.specs.Octets.{same_octets}
-use Rattle.macsec_suite.specs.declared.key_row.NewKey.{NewKey}
-use Rattle.macsec_suite.specs.declared.refusal.Refusal.{Refusal}
-use Rattle.macsec_suite.specs.declared.refusal.Refusal.TheVariants.{KeyLength, KeyNumberUsed, KeyRepeated, Offset, Window}
-use Rattle.macsec_suite.specs.declared.suite.Suite.{Suite}
-use Rattle.macsec_suite.specs.declared.suite.Suite.TheVariants.{Gcm128, Gcm256, Xpn128, Xpn256}
-use Rattle.macsec_suite.specs.KeyRows.{InstalledKey, at_number, key_row, new_row, no_key, retired_row, row_noting, suite_of, the_key, with_bytes, with_key}
-use Rattle.macsec_suite.specs.Keys.{has_wrong_length, has_wrong_offset}
-use Rattle.macsec_suite.specs.Refusals.{first_refusal, has_retired, holds_of, is_number_used, is_repeated, is_retired, is_too_wide, RefusalLine, retire_refusals}
-use Rattle.macsec_suite.specs.Suites.{key_length}
-use Rattle.macsec_tx.specs.declared.TxRow.{TxRow}
-use Rattle.macsec_tx.specs.Transmit.{keys_after}
-use Rattle.macsec_commands.specs.declared.command.Command.{Command}
-use Rattle.macsec_commands.specs.declared.command.Command.TheVariants.{Key, Retire}
-use Rattle.macsec_secy.specs.declared.fault.FrameFault.{FrameFault}
-use Rattle.macsec_secy.specs.Commands.{effect, refusal, unless_refused, uses}
-use Rattle.macsec_secy.specs.Kept.{KeysAreApart}
-use Rattle.macsec_secy.specs.Sound.{IsSound}
-use Rattle.macsec_secy.specs.State.{State}
-use Rattle.macsec_secy.specs.Reception.{judgement_of, state_after_receiving}
-use Rattle.macsec_secy.specs.Step.{Input, Output, operator_command, client_frame, uncontrolled_frame, link_frame, command_output, done, frame_fault, leaves, received_output, refused, sending_of, sent_output, state_after_sending, step, unless_fault}
-use Rattle.macsec_secy.proofs.AfterCommands.{none_hold, true_from_not}
-use Rattle.macsec_secy.proofs.Contained.{behind, first}
-use Rattle.macsec_secy.proofs.KeysApart.{octets_same}
-use Rattle.macsec_secy.proofs.KeysKept.{field_kept, same_number}
+use Rattle.std.proofs.lemmas.Bool.{or_cases}
+use Rattle.macsec_aes.specs.declared.Key.{Key as KeyOctets, TheVariants.K256}
+use Rattle.macsec_suite.specs.{
+  Keys.{has_wrong_length, has_wrong_offset},
+  Refusals.{first_refusal, is_too_wide, RefusalLine},
+  declared.refusal.Refusal.TheVariants.{KeyLength, KeyNumberUsed, KeyRepeated, Offset, Window},
+  declared.suite.Suite.TheVariants.{Gcm128, Gcm256, Xpn128, Xpn256},
+}
 use Rattle.macsec_secy.proofs.SameKey.{field_of_the_key}
-use Rattle.macsec_reserve.specs.Forgetting.{as_taken, can_forget, fingerprint, forgetting, forgetting_step, is_done, is_done_output, is_forgotten, key_of_fingerprint, taken}
-use Rattle.macsec_reserve.specs.Forgotten.{BecomesKnown, IsAsBefore, RefusesKnown, StaysKnown, installing, installs_retired, is_known}
-use Rattle.macsec_reserve.specs.Journal.{sending_name}
-use Rattle.macsec_reserve.specs.Keeping.{Keeping, KeepingInput, KeepingOutput, begins_at, endpoint_input, endpoint_output, now_durable, is_below_floor, keeping_step, may_go, was_reserved, with_step}
-use Rattle.macsec_reserve.proofs.Replaced.{KeyLaws}
-use Rattle.macsec_reserve.proofs.Steps.{by_tests, salt_stays}
+use Rattle.macsec_reserve.proofs.{
+  Prelude.{[], ◌&&◌, ◌++◌, ◌==◌, ◌||◌, ◌∙◌, ◌∷◌, ◌≡◌, ◌≤◌, ◌⊎◌, and_parts, ap, arith, as_taken, at_number, begins_at},
+  Prelude.{behind, Bool, bytes_eq-Decides, can_forget, client_frame, codes, Command, command_output, Contains, done},
+  Prelude.{effect, endpoint_input, endpoint_output, eqb-true, false, field_kept, fingerprint, first, forgetting},
+  Prelude.{forgetting_step, frame_fault, FrameFault, has_retired, holds_of, if◌then◌else◌, inl, Input, inr},
+  Prelude.{InstalledKey, installing, installs_retired, is_below_floor, is_done, is_done_output, is_forgotten},
+  Prelude.{is_number_used, is_repeated, is_retired, IsSound, judgement_of, K128, Keeping, keeping_step, KeepingInput},
+  Prelude.{KeepingOutput, Key, key_bytes, key_length, key_of_fingerprint, key_row, keys_after, KeysAreApart, leaves},
+  Prelude.{length, length-sha256, length-take-le, link_frame, List, list_any, map, may_go, new_row, NewKey, no_key},
+  Prelude.{None, none_hold, not, now_durable, octets_same, operator_command, Option, or_parts, Output, received_output},
+  Prelude.{refl, Refusal, refusal, refused, Retire, retire_refusals, retired_row, row_noting, same_number, same_octets},
+  Prelude.{sending_name, sending_of, sent_output, Some, State, state_after_receiving, state_after_sending, step, subst},
+  Prelude.{Suite, suite_of, sym, the_key, true, true_from_not, TxRow, uncontrolled_frame, unless_fault, unless_refused},
+  Prelude.{unwrap_or, uses, was_reserved, with_bytes, with_key, with_step, ℕ},
+  Replaced.KeyLaws,
+  Steps.{by_tests, salt_stays},
+}
+use Rattle.macsec_reserve.specs.{
+  Forgetting.taken,
+  Forgotten.{BecomesKnown, IsAsBefore, RefusesKnown, StaysKnown, is_known},
+}
 
 -- ---- commands that no floor stops
 

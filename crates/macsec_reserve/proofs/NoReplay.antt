@@ -1,34 +1,29 @@
 -- What is delivered is above all that the journal had saved. The proof uses only that the rows of the endpoint's tables
 -- agree at each moment, whatever the inputs are.
-use Rattle.std.proofs.Common.{◌≡◌, ℕ, ◌+◌, ◌≤◌, Bool, true, false, List, [], ◌∷◌, refl, ap, sym, ◌∙◌, subst, arith, All}
-use Rattle.std.specs.Prelude.{◌^◌, max, if◌then◌else◌, unwrap_or, Option, Some}
-use Rattle.macsec_gcm.specs.Octets.{same_octets}
-use Rattle.macsec_tag.specs.declared.identifiers.Sci.{Sci}
-use Rattle.std.proofs.lemmas.List.Elements.{All-cons, All-contains, All-head, All-nil, All-tail, All-weaker}
 use Rattle.macsec_tag.specs.Table.{reading}
-use Rattle.macsec_rx.specs.declared.RxRow.{RxRow}
-use Rattle.macsec_commands.specs.declared.config.EndConfig.{EndConfig}
-use Rattle.macsec_rx.specs.Channels.{is_at}
 use Rattle.macsec_rx.specs.Rows.{IsRxRow}
-use Rattle.macsec_secy.specs.declared.fault.FrameFault.{FrameFault}
-use Rattle.macsec_secy.specs.Agrees.{Agrees}
-use Rattle.macsec_secy.specs.Kept.{IsAbove as IsAboveAt, RxRowStays}
-use Rattle.macsec_secy.specs.Step.{Input, Output, link_frame, received_output, step, unless_fault}
-use Rattle.macsec_secy.specs.Reception.{judgement_of, state_after_receiving}
-use Rattle.macsec_secy.specs.State.{State, start}
-use Rattle.macsec_secy.proofs.Deliveries.{delivery_tells}
-use Rattle.macsec_secy.proofs.DeliveredFrom.{above_accepted, all_rows, used_at_place}
-use Rattle.macsec_secy.proofs.InUse.{found, used_holds}
-use Rattle.macsec_secy.proofs.KeysApart.{octets_same}
-use Rattle.macsec_reserve.specs.declared.reservation.Reservation.{Reservation}
-use Rattle.macsec_reserve.specs.Entries.{reduced}
-use Rattle.macsec_reserve.specs.Journal.{highest, receiving_name, reservations, salt_of, sending_name}
-use Rattle.macsec_reserve.specs.Keeping.{Keeping, KeepingInput, KeepingOutput, endpoint_input, now_durable, is_below_floor, keeping_after, keeping_step, may_go}
-use Rattle.macsec_reserve.specs.Histories.{Run, opening, reported}
-use Rattle.macsec_reserve.specs.Replay.{DeliversAbove, KeepsAssociation, NeverDeliversAgain, NeverDeliversAgainUnder, SavesAccepted, row_name, saved_for}
-use Rattle.macsec_reserve.proofs.Steps.{by_tests, received_step}
-use Rattle.macsec_reserve.proofs.FloorsKept.{IsAbove, IsSavedBelow, StaysAgreed, agree_after, agree_next, before_stays_after, keeps_floors, salt_stays_after}
-use Rattle.macsec_reserve.proofs.Reduced.{reduced_reserves}
+use Rattle.macsec_secy.{
+  proofs.DeliveredFrom.{above_accepted, all_rows, used_at_place},
+  proofs.Deliveries.delivery_tells,
+  proofs.InUse.{found, used_holds},
+  specs.{Kept.{IsAbove as IsAboveAt, RxRowStays}, State.start},
+}
+use Rattle.macsec_reserve.{
+  proofs.{
+    Prelude.{[], ◌+◌, ◌^◌, ◌∙◌, ◌∷◌, ◌≡◌, ◌≤◌, Agrees, All, All-cons, All-contains, All-head, All-nil, All-tail},
+    Prelude.{All-weaker, ap, arith, Bool, EndConfig, endpoint_input, false, FrameFault, highest, if◌then◌else◌, Input},
+    Prelude.{is_at, is_below_floor, judgement_of, Keeping, keeping_after, keeping_step, KeepingInput, KeepingOutput},
+    Prelude.{link_frame, List, max, may_go, now_durable, octets_same, opening, Option, Output, received_output},
+    Prelude.{receiving_name, reduced, refl, reported, Reservation, reservations, row_name, Run, RxRow, salt_of},
+    Prelude.{same_octets, saved_for, Sci, sending_name, Some, State, state_after_receiving, step, subst, sym, true},
+    Prelude.{unless_fault, unwrap_or, ℕ},
+    FloorsKept.{IsAbove, IsSavedBelow, StaysAgreed, agree_after, agree_next, before_stays_after, keeps_floors},
+    FloorsKept.salt_stays_after,
+    Reduced.reduced_reserves,
+    Steps.{by_tests, received_step},
+  },
+  specs.Replay.{DeliversAbove, KeepsAssociation, NeverDeliversAgain, NeverDeliversAgainUnder, SavesAccepted},
+}
 
 abbrev pub RowsStay : Type 0
 RowsStay = (s : State) (input : Input) (sci : Sci) (an n : ℕ) → RxRowStays s input sci an n

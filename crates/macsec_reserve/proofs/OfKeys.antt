@@ -1,23 +1,23 @@
 -- All runs of a history, where a later run reads what was reported under the names of its keys.
-use Rattle.std.proofs.Common.{ℕ, ◌<◌, ◌≤◌, List, [], ◌∷◌, map, get_or, ap, sym, subst, ◌∙◌, arith, All, AllPairs}
-use Rattle.std.proofs.lemmas.List.Elements.{All-append, All-head, All-map, All-nil, All-tail, All-weaker}
-use Rattle.macsec_suite.specs.CipherUses.{CipherUse}
-use Rattle.macsec_reserve.specs.declared.reservation.Reservation.{Reservation}
-use Rattle.macsec_reserve.specs.Entries.{reduced}
-use Rattle.macsec_reserve.specs.Forgotten.{without_forgetting}
-use Rattle.macsec_reserve.specs.Histories.{AgreeOnKeys, Run, SameSalt, closing, opening, sealed_in, sealed_in_all}
-use Rattle.macsec_reserve.specs.Journal.{highest, reservations, salt_of, sending_name}
-use Rattle.macsec_reserve.specs.OfKeys.{IsHistoryOfKeys, IsHistoryOfKeysForgetting, IsNameOfKey, KeepsForKeys, KeepsForKeysForgetting, RepeatsNoIvOfKeys, RepeatsNoIvOfKeysForgetting}
-use Rattle.macsec_reserve.specs.Unique.{HasOtherIv}
-use Rattle.macsec_reserve.proofs.AllRuns.{IsSoundRun, of_run}
-use Rattle.macsec_reserve.proofs.EndpointLaws.{Laws, numbers_tell}
-use Rattle.macsec_reserve.proofs.ForgettingRuns.{IsSoundForgetting, pairs-map, reports_kept, seals_in_all, forgets_alike}
-use Rattle.macsec_reserve.proofs.NoReplay.{StartAgrees}
-use Rattle.macsec_reserve.proofs.Pairs.{no_pairs, pairs-append, pairs-head, pairs-tail}
-use Rattle.macsec_reserve.proofs.Reduced.{reduced_reserves}
-use Rattle.macsec_reserve.proofs.Replaced.{KeyLaws}
-use Rattle.macsec_reserve.proofs.Seals.{IsUse}
-use Rattle.macsec_reserve.proofs.Steps.{granted_reported}
+use Rattle.macsec_reserve.{
+  proofs.{
+    Prelude.{[], ◌<◌, ◌∙◌, ◌∷◌, ◌≤◌, AgreeOnKeys, All, All-append, All-head, All-map, All-nil, All-tail, All-weaker},
+    Prelude.{AllPairs, ap, arith, CipherUse, closing, get_or, HasOtherIv, highest, List, map, opening, reduced},
+    Prelude.{Reservation, reservations, Run, salt_of, SameSalt, sealed_in, sealed_in_all, sending_name, subst, sym},
+    Prelude.{without_forgetting, ℕ},
+    AllRuns.{IsSoundRun, of_run},
+    EndpointLaws.{Laws, numbers_tell},
+    ForgettingRuns.{IsSoundForgetting, pairs-map, reports_kept, seals_in_all, forgets_alike},
+    NoReplay.StartAgrees,
+    Pairs.{no_pairs, pairs-append, pairs-head, pairs-tail},
+    Reduced.reduced_reserves,
+    Replaced.KeyLaws,
+    Seals.IsUse,
+    Steps.granted_reported,
+  },
+  specs.OfKeys.{IsHistoryOfKeys, IsHistoryOfKeysForgetting, IsNameOfKey, KeepsForKeys, KeepsForKeysForgetting},
+  specs.OfKeys.{RepeatsNoIvOfKeys, RepeatsNoIvOfKeysForgetting},
+}
 
 differs : Laws → (run later : Run) → IsSoundRun run → IsSoundRun later → AgreeOnKeys run later → SameSalt run later → KeepsForKeys run later →
     (x : CipherUse) → IsUse (opening run) (closing run) x → (y : CipherUse) → IsUse (opening later) (closing later) y → HasOtherIv x y

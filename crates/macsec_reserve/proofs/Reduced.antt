@@ -1,19 +1,15 @@
 -- One entry for each name: it says what the whole list says.
-use Rattle.std.proofs.Common.{◌≡◌, ◌≢◌, ℕ, ◌+◌, ◌≤◌, Bool, true, false, List, [], ◌∷◌, ◌++◌, length, map, refl, sym, subst, ◌∙◌, arith, length-append, All, AllPairs}
-use Rattle.std.specs.Prelude.{◌||◌, max, if◌then◌else◌}
-use Rattle.std.proofs.lemmas.Bool.{or_parts}
-use Rattle.std.proofs.lemmas.List.{length-map}
-use Rattle.std.proofs.lemmas.List.Elements.{All-append, All-cons, All-head, All-map, All-nil, All-tail, All-weaker}
-use Rattle.std.proofs.lemmas.List.Kept.{AllPairs-cons}
-use Rattle.std.proofs.lemmas.Slice.Eq.{bytes_eq-Decides}
-use Rattle.macsec_gcm.specs.Octets.{same_octets}
-use Rattle.macsec_reserve.specs.declared.reservation.Reservation.{Reservation}
-use Rattle.macsec_reserve.specs.Journal.{highest}
-use Rattle.macsec_reserve.specs.Crashes.{IsReservation}
-use Rattle.macsec_reserve.specs.Entries.{SaysTheSame, has_entry, raised_by, reduced, with_all, with_one_more}
-use Rattle.macsec_reserve.proofs.KeyEntries.{raised_reserves}
-use Rattle.macsec_reserve.proofs.HighestOf.{highest-append, highest_of_one}
-use Rattle.macsec_reserve.proofs.Pairs.{no_pairs, one_alone, pairs-append, pairs-head, pairs-tail}
+use Rattle.std.proofs.Common.{◌≢◌}
+use Rattle.macsec_reserve.proofs.{
+  Prelude.{[], ◌++◌, ◌+◌, ◌||◌, ◌∙◌, ◌∷◌, ◌≡◌, ◌≤◌, All, All-append, All-cons, All-head, All-map, All-nil, All-tail},
+  Prelude.{All-weaker, AllPairs, AllPairs-cons, arith, Bool, bytes_eq-Decides, false, has_entry, highest},
+  Prelude.{if◌then◌else◌, IsReservation, length, length-append, length-map, List, map, max, or_parts, raised_by},
+  Prelude.{reduced, refl, Reservation, same_octets, subst, sym, true, with_all, ℕ},
+  HighestOf.{highest-append, highest_of_one},
+  KeyEntries.raised_reserves,
+  Pairs.{no_pairs, one_alone, pairs-append, pairs-head, pairs-tail},
+}
+use Rattle.macsec_reserve.specs.Entries.{SaysTheSame, with_one_more}
 
 -- ---- what the entries say
 

@@ -1,23 +1,13 @@
 -- If the octets of several retired keys are replaced, each input has the same output, and seals the same.
-use Rattle.std.proofs.Common.{◌≡◌, ℕ, Bool, true, false, List, [], ◌∷◌, get_or, refl, ap, sym, subst, ◌∙◌, All}
-use Rattle.std.specs.Prelude.{◌==◌, ◌||◌, ◌&&◌, if◌then◌else◌, option_map, Option, Some, None}
-use Rattle.std.proofs.lemmas.Bool.{or_parts}
-use Rattle.std.proofs.lemmas.List.Elements.{All-cons, All-head, All-nil, All-tail}
-use Rattle.macsec_gcm.specs.Octets.{same_octets}
-use Rattle.macsec_suite.specs.KeyRows.{InstalledKey, at_number, key_row, with_bytes, with_key}
-use Rattle.macsec_suite.specs.Refusals.{has_retired, holds_of, is_repeated, is_retired}
-use Rattle.macsec_tx.specs.declared.TxOptions.{TxOptions}
-use Rattle.macsec_tx.specs.declared.TxRow.{TxRow}
-use Rattle.macsec_tx.specs.Commands.{tx_uses}
-use Rattle.macsec_tx.specs.Transmit.{sending}
-use Rattle.macsec_secy.specs.Agrees.{Agrees}
-use Rattle.macsec_secy.specs.GivenUp.{GivesUp, IsGivenUp, RepeatsAlike, StaysGivenUp, StepsAlike, replacing}
-use Rattle.macsec_secy.specs.Kept.{KeysAreApart, KeysStay}
-use Rattle.macsec_secy.specs.Sound.{IsSound}
-use Rattle.macsec_secy.specs.State.{State}
-use Rattle.macsec_secy.specs.Step.{Input, Output, step}
-use Rattle.macsec_secy.proofs.KeysKept.{same_number}
-use Rattle.macsec_secy.proofs.OtherOctets.{alike, another, row-map, sending-alike}
+use Rattle.{
+  macsec_secy.{proofs.OtherOctets.{another, sending-alike}, specs.GivenUp.{GivesUp, StaysGivenUp, StepsAlike}},
+  macsec_reserve.proofs.Prelude.{[], ◌&&◌, ◌==◌, ◌||◌, ◌∙◌, ◌∷◌, ◌≡◌, Agrees, alike, All, All-cons, All-head, All-nil},
+  macsec_reserve.proofs.Prelude.{All-tail, ap, at_number, Bool, false, get_or, has_retired, holds_of, if◌then◌else◌},
+  macsec_reserve.proofs.Prelude.{Input, InstalledKey, is_repeated, is_retired, IsGivenUp, IsSound, key_row},
+  macsec_reserve.proofs.Prelude.{KeysAreApart, KeysStay, List, None, Option, option_map, or_parts, Output, refl},
+  macsec_reserve.proofs.Prelude.{RepeatsAlike, replacing, row-map, same_number, same_octets, sending, Some, State},
+  macsec_reserve.proofs.Prelude.{step, subst, sym, true, tx_uses, TxOptions, TxRow, with_bytes, with_key, ℕ},
+}
 
 -- the laws of an endpoint about its keys, as their calls give them
 pub record KeyLaws : Type 0 where

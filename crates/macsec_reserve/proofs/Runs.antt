@@ -1,24 +1,16 @@
 -- One run: where its uses of the cipher come from, and that no two have the same key octets and the same IV.
-use Rattle.std.proofs.Common.{◌≡◌, ℕ, suc, ◌<◌, ◌≤◌, Bool, true, false, List, [], ◌∷◌, ap, sym, ◌∙◌, arith, All, AllPairs, Contains}
-use Rattle.std.specs.Prelude.{Option, Some, None}
-use Rattle.std.proofs.lemmas.List.Elements.{All-append, All-nil, All-weaker}
-use Rattle.macsec_suite.specs.CipherUses.{CipherUse}
-use Rattle.macsec_suite.specs.KeyRows.{InstalledKey, the_key}
-use Rattle.macsec_tx.specs.declared.TxRow.{TxRow}
-use Rattle.macsec_tx.specs.Transmit.{use_sent}
-use Rattle.macsec_secy.specs.declared.fault.FrameFault.{FrameFault}
-use Rattle.macsec_secy.specs.State.{State, tx_options}
-use Rattle.macsec_secy.specs.Step.{operator_command, client_frame, uncontrolled_frame, link_frame, frame_fault, sending_of}
-use Rattle.macsec_secy.specs.Kept.{KeysStay}
-use Rattle.macsec_secy.specs.Sound.{IsSound}
-use Rattle.macsec_reserve.specs.Journal.{highest}
-use Rattle.macsec_reserve.specs.Keeping.{Keeping, KeepingInput, endpoint_input, now_durable, keeping_after, keeping_step, may_go}
-use Rattle.macsec_reserve.specs.Histories.{AgreeOnKey, StaysSound, newly_sealed, sealed_by, sealed_from, sealed_if}
-use Rattle.macsec_reserve.specs.Unique.{HasOtherIv}
-use Rattle.macsec_reserve.proofs.EndpointLaws.{Laws, numbers_tell}
-use Rattle.macsec_reserve.proofs.Pairs.{no_pairs, one_alone, pairs-append}
-use Rattle.macsec_reserve.proofs.Seals.{IsNewUse, IsUse, new_uses, use_earlier}
-use Rattle.macsec_reserve.proofs.Steps.{granted_grows, keeps_stays, keys_stay, stays_itself, stays_on}
+use Rattle.macsec_reserve.proofs.{
+  Prelude.{[], ◌<◌, ◌∙◌, ◌∷◌, ◌≡◌, ◌≤◌, AgreeOnKey, All, All-append, All-nil, All-weaker, AllPairs, ap, arith, Bool},
+  Prelude.{CipherUse, client_frame, Contains, endpoint_input, false, frame_fault, FrameFault, HasOtherIv, highest},
+  Prelude.{InstalledKey, IsSound, Keeping, keeping_after, keeping_step, KeepingInput, KeysStay, link_frame, List},
+  Prelude.{may_go, newly_sealed, None, now_durable, operator_command, Option, sealed_by, sealed_from, sealed_if},
+  Prelude.{sending_of, Some, State, StaysSound, suc, sym, the_key, true, tx_options, TxRow, uncontrolled_frame},
+  Prelude.{use_sent, ℕ},
+  EndpointLaws.{Laws, numbers_tell},
+  Pairs.{no_pairs, one_alone, pairs-append},
+  Seals.{IsNewUse, IsUse, new_uses, use_earlier},
+  Steps.{granted_grows, keeps_stays, keys_stay, stays_itself, stays_on},
+}
 
 pub record Runs (k : Keeping) (inputs : List KeepingInput) : Type 0 where
   pub sound : IsSound (keeping_after k inputs).secy

@@ -1,26 +1,15 @@
 -- An endpoint with the octets of some retired keys replaced sends the same frames under the same packet numbers.
-use Rattle.std.proofs.Common.{◌≡◌, ◌⊎◌, inl, inr, ℕ, Bool, false, List, [], ◌∷◌, get_or, refl, ap, sym, ◌∙◌, All}
-use Rattle.std.specs.Prelude.{◌==◌, ◌||◌, ◌&&◌, not, nat_lt, nat_le, Option, Some, None, unwrap_or}
-use Rattle.std.specs.List.{list_any}
-use Rattle.std.proofs.lemmas.Bool.{or_parts}
-use Rattle.std.proofs.lemmas.List.Elements.{All-weaker}
-use Rattle.macsec_suite.specs.CipherUses.{CipherUse}
-use Rattle.macsec_suite.specs.KeyRows.{InstalledKey, no_key}
-use Rattle.macsec_tx.specs.declared.TxRow.{TxRow}
-use Rattle.macsec_tx.specs.Commands.{tx_uses}
-use Rattle.macsec_tx.specs.Transmit.{Sending, row_on, use_sent}
 use Rattle.macsec_rx.specs.Commands.{rx_uses}
-use Rattle.macsec_secy.specs.declared.fault.FrameFault.{FrameFault}
-use Rattle.macsec_secy.specs.Laws.{UsedNumber, number_unless_fault}
-use Rattle.macsec_secy.specs.State.{State, tx_options}
-use Rattle.macsec_secy.specs.Step.{Input, operator_command, client_frame, uncontrolled_frame, link_frame, frame_fault, sending_of}
-use Rattle.macsec_secy.proofs.OtherOctets.{found_unused}
-use Rattle.macsec_secy.proofs.UsedNumbers.{sent_by}
-use Rattle.macsec_reserve.specs.declared.reservation.Reservation.{Reservation}
-use Rattle.macsec_reserve.specs.Journal.{highest, sending_name}
-use Rattle.macsec_reserve.specs.Keeping.{Keeping, KeepingInput, endpoint_input, now_durable, key_name, may_go, may_use, uses_reserved}
-use Rattle.macsec_reserve.specs.Histories.{newly_sealed, sealed_by, sealed_if}
-use Rattle.macsec_reserve.proofs.Replaced.{IsGivenUpIn, IsOther, IsUnsent, Replacement, replaced, replaced_keys, row_replaced, sending_replaced}
+use Rattle.macsec_secy.proofs.{OtherOctets.found_unused, UsedNumbers.sent_by}
+use Rattle.macsec_reserve.proofs.{
+  Prelude.{[], ◌&&◌, ◌==◌, ◌||◌, ◌∙◌, ◌∷◌, ◌≡◌, ◌⊎◌, All, All-weaker, ap, Bool, CipherUse, client_frame},
+  Prelude.{endpoint_input, false, frame_fault, FrameFault, get_or, highest, inl, Input, inr, InstalledKey, Keeping},
+  Prelude.{KeepingInput, key_name, link_frame, List, list_any, may_go, may_use, nat_le, nat_lt, newly_sealed, no_key},
+  Prelude.{None, not, now_durable, number_unless_fault, operator_command, Option, or_parts, refl, Reservation, row_on},
+  Prelude.{sealed_by, sealed_if, Sending, sending_name, sending_of, Some, State, sym, tx_options, tx_uses, TxRow},
+  Prelude.{uncontrolled_frame, unwrap_or, use_sent, UsedNumber, uses_reserved, ℕ},
+  Replaced.{IsGivenUpIn, IsOther, IsUnsent, Replacement, replaced, replaced_keys, row_replaced, sending_replaced},
+}
 
 -- the keeping endpoint with these replacements, and with these entries of what was reported durable
 abbrev pub beside : Keeping → List Replacement → List Reservation → Keeping

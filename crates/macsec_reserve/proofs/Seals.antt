@@ -1,29 +1,17 @@
 -- Where each use of the cipher comes from: a key that the endpoint has at the end of the run, and a reserved packet number
 -- that no earlier run may have used.
-use Rattle.std.proofs.Common.{◌≡◌, ℕ, ◌<◌, ◌≤◌, Bool, true, false, List, [], ◌∷◌, refl, ap, sym, subst, ◌∙◌, arith, All, Contains}
-use Rattle.std.specs.Prelude.{◌||◌, not, nat_lt, nat_le, if◌then◌else◌, Option, Some, None}
-use Rattle.std.specs.List.{list_any}
-use Rattle.std.proofs.lemmas.Bool.{and_parts, leb-true, ltb-true}
-use Rattle.std.proofs.lemmas.List.Elements.{All-cons, All-nil}
-use Rattle.macsec_tag.specs.declared.identifiers.Sci.{Sci}
-use Rattle.macsec_suite.specs.CipherUses.{CipherUse}
-use Rattle.macsec_suite.specs.declared.suite.Suite.{Suite}
-use Rattle.macsec_suite.specs.KeyRows.{InstalledKey, row_noting, the_key}
-use Rattle.macsec_suite.specs.Suites.{iv_of, last_of}
-use Rattle.macsec_tx.specs.declared.TxRow.{TxRow}
-use Rattle.macsec_tx.specs.Transmit.{use_sent}
-use Rattle.macsec_commands.specs.declared.config.EndConfig.{EndConfig}
-use Rattle.macsec_secy.specs.declared.fault.FrameFault.{FrameFault}
-use Rattle.macsec_secy.specs.Kept.{KeysStay}
-use Rattle.macsec_secy.specs.Laws.{UsedNumber, number_unless_fault, number_used}
-use Rattle.macsec_secy.specs.Sound.{IsSound}
-use Rattle.macsec_secy.specs.State.{State, tx_options}
-use Rattle.macsec_secy.specs.Step.{operator_command, client_frame, uncontrolled_frame, link_frame, frame_fault, sending_of, step}
-use Rattle.macsec_reserve.specs.Journal.{highest, sending_name}
-use Rattle.macsec_reserve.specs.Keeping.{Keeping, KeepingInput, endpoint_input, now_durable, dropped_no_reservation, keeping_step, key_name, may_go, may_use, with_step}
-use Rattle.macsec_reserve.specs.Histories.{newly_sealed, sealed_by, sealed_if}
-use Rattle.macsec_reserve.proofs.EndpointLaws.{Laws}
-use Rattle.macsec_reserve.proofs.Steps.{before_stays, salt_stays}
+use Rattle.std.proofs.Common.{ltb-true}
+use Rattle.macsec_reserve.proofs.{
+  Prelude.{[], ◌<◌, ◌||◌, ◌∙◌, ◌∷◌, ◌≡◌, ◌≤◌, All, All-cons, All-nil, and_parts, ap, arith, Bool, CipherUse},
+  Prelude.{client_frame, Contains, dropped_no_reservation, EndConfig, endpoint_input, false, frame_fault, FrameFault},
+  Prelude.{highest, if◌then◌else◌, InstalledKey, IsSound, iv_of, Keeping, keeping_step, KeepingInput, key_name},
+  Prelude.{KeysStay, last_of, leb-true, link_frame, List, list_any, may_go, may_use, nat_le, nat_lt, newly_sealed},
+  Prelude.{None, not, now_durable, number_unless_fault, number_used, operator_command, Option, refl, row_noting, Sci},
+  Prelude.{sealed_by, sealed_if, sending_name, sending_of, Some, State, step, subst, Suite, sym, the_key, true},
+  Prelude.{tx_options, TxRow, uncontrolled_frame, use_sent, UsedNumber, with_step, ℕ},
+  EndpointLaws.Laws,
+  Steps.{before_stays, salt_stays},
+}
 
 -- a use of the cipher between two moments of a run, by a key as it is at the later moment
 pub record IsUse (k later : Keeping) (x : CipherUse) : Type 0 where

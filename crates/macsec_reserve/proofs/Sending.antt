@@ -1,12 +1,8 @@
 -- A client frame at a keeping endpoint, by whether it may go.
-use Rattle.std.proofs.Common.{◌≡◌, ℕ, Bool, true, false, List, [], ◌∷◌, refl, ap, sym, ◌∙◌}
-use Rattle.std.specs.Prelude.{◌||◌, ◌&&◌, not, nat_lt, nat_le, if◌then◌else◌}
-use Rattle.std.specs.List.{list_any}
-use Rattle.macsec_tx.specs.declared.TxRow.{TxRow}
-use Rattle.macsec_secy.specs.Laws.{UsedNumber, number_used}
-use Rattle.macsec_secy.specs.Step.{Input, client_frame, step}
-use Rattle.macsec_reserve.specs.Journal.{highest}
-use Rattle.macsec_reserve.specs.Keeping.{Keeping, dropped_no_reservation, endpoint_input, keeping_step, key_name, may_go, may_use, uses_reserved, with_step}
+use Rattle.macsec_reserve.proofs.Prelude.{[], ◌&&◌, ◌||◌, ◌∙◌, ◌∷◌, ◌≡◌, ap, Bool, client_frame, dropped_no_reservation}
+use Rattle.macsec_reserve.proofs.Prelude.{endpoint_input, false, highest, if◌then◌else◌, Input, Keeping, keeping_step}
+use Rattle.macsec_reserve.proofs.Prelude.{key_name, List, list_any, may_go, may_use, nat_le, nat_lt, not, number_used}
+use Rattle.macsec_reserve.proofs.Prelude.{refl, step, sym, true, TxRow, UsedNumber, uses_reserved, with_step, ℕ}
 
 pub dropped : (k : Keeping) (frame : List ℕ) → may_go k (client_frame frame) ≡ false → keeping_step k (endpoint_input (client_frame frame)) ≡ (dropped_no_reservation, k)
 dropped k frame go = ap (λ (b : Bool). if b then with_step k (step k.secy (client_frame frame)) else (dropped_no_reservation, k)) go

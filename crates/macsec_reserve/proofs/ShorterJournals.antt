@@ -1,19 +1,20 @@
 -- A compacted journal: what is read in it, and how long it is.
-use Rattle.std.proofs.Common.{◌≡◌, ℕ, zero, suc, ◌+◌, ◌-◌, ◌*◌, ◌/◌, ◌<◌, ◌≤◌, Bool, true, false, List, [], ◌∷◌, ◌++◌, length, take, drop, get_or, refl, ap, sym, ◌∙◌, arith, append_assoc, append-nil, length-append, length-drop, All, Fits, w8}
-use Rattle.std.specs.Prelude.{◌^◌, max, nat_le, slice_range, if◌then◌else◌}
-use Rattle.std.specs.Int.{w64, from_be_bytes}
-use Rattle.std.proofs.lemmas.Bool.{and_from, and_parts, le-leb, leb-true}
-use Rattle.std.proofs.lemmas.List.{drop-drop, drop_at, length-take-le, take_at, take-append-drop}
-use Rattle.std.proofs.lemmas.List.Elements.{All-append, All-cons, All-drop, All-from_get_or, All-head, All-nil, All-tail, All-take}
-use Rattle.macsec_gcm.specs.Octets.{same_octets}
-use Rattle.macsec_reserve.specs.declared.reservation.Reservation.{Reservation}
-use Rattle.macsec_reserve.specs.Journal.{check_of, header, highest, is_journal, record_of, records_of, reservations, reserved_in, reserved_within, salt_of}
-use Rattle.macsec_reserve.specs.Compaction.{IsCompacted, compacted}
-use Rattle.macsec_reserve.specs.Crashes.{IsReservation}
-use Rattle.macsec_reserve.specs.Entries.{reduced}
-use Rattle.macsec_reserve.proofs.HighestOf.{highest-append}
-use Rattle.macsec_reserve.proofs.Reduced.{reduced_are, reduced_fits, reduced_reserves}
-use Rattle.macsec_reserve.proofs.Written.{length_of_record, range-append, record_read_back}
+use Rattle.std.proofs.{
+  Common.{Fits, w8, drop-drop, take-append-drop},
+  lemmas.List.Elements.{All-drop, All-from_get_or, All-take},
+}
+use Rattle.macsec_reserve.proofs.{
+  Prelude.{[], ◌*◌, ◌++◌, ◌+◌, ◌-◌, ◌/◌, ◌<◌, ◌^◌, ◌∙◌, ◌∷◌, ◌≡◌, ◌≤◌, All, All-append, All-cons, All-head, All-nil},
+  Prelude.{All-tail, and_from, and_parts, ap, append-nil, append_assoc, arith, Bool, check_of, drop, drop_at, false},
+  Prelude.{from_be_bytes, get_or, highest, if◌then◌else◌, is_journal, IsCompacted, IsReservation, le-leb, leb-true},
+  Prelude.{length, length-append, length-drop, length-take-le, List, max, nat_le, record_of, records_of, reduced, refl},
+  Prelude.{Reservation, reservations, reserved_in, reserved_within, salt_of, same_octets, slice_range, suc, sym, take},
+  Prelude.{take_at, true, w64, zero, ℕ},
+  HighestOf.highest-append,
+  Reduced.{reduced_are, reduced_fits, reduced_reserves},
+  Written.{length_of_record, range-append, record_read_back},
+}
+use Rattle.macsec_reserve.specs.{Compaction.compacted, Journal.header}
 
 -- ---- the first record, and the others
 

@@ -1,29 +1,22 @@
 -- An endpoint is sound if it is sound with the octets of some keys replaced.
-use Rattle.std.proofs.Common.{◌≡◌, ℕ, ◌<◌, ◌≤◌, Bool, true, false, List, [], ◌∷◌, ◌++◌, length, refl, sym, subst, ◌∙◌}
-use Rattle.std.specs.Prelude.{◌==◌, ◌^◌, is_some, if◌then◌else◌, option_map, Option, Some, None, IsSome, IfSome}
-use Rattle.std.specs.List.{list_any}
-use Rattle.std.proofs.lemmas.Bool.{eqb-true}
-use Rattle.std.proofs.lemmas.List.Elements.{All-weaker}
-use Rattle.macsec_suite.specs.declared.refusal.Refusal.{Refusal}
-use Rattle.macsec_suite.specs.KeyRows.{AreKeyRows, InstalledKey, at_number, is_extended, key_row, max_key_count, new_row, retired_row, row_noting, suite_of, with_bytes, with_key}
-use Rattle.macsec_suite.specs.Refusals.{install_refusals}
-use Rattle.macsec_suite.specs.Suites.{key_length, widest_extended_window, widest_short_window}
-use Rattle.macsec_tx.specs.declared.TxRow.{TxRow}
-use Rattle.macsec_tx.specs.Transmit.{keys_after, tx_row}
-use Rattle.macsec_rx.specs.declared.RxRow.{RxRow}
-use Rattle.macsec_commands.specs.declared.command.Command.{Command}
-use Rattle.macsec_commands.specs.declared.command.Command.TheVariants.{Key, Retire}
-use Rattle.macsec_secy.specs.declared.fault.FrameFault.{FrameFault}
-use Rattle.macsec_secy.specs.Agrees.{Agrees}
-use Rattle.macsec_secy.specs.Commands.{effect, refusal, unless_refused}
-use Rattle.macsec_secy.specs.Reception.{judgement_of, state_after_receiving}
-use Rattle.macsec_secy.specs.Sound.{IsSound}
-use Rattle.macsec_secy.specs.State.{State}
-use Rattle.macsec_secy.specs.Step.{Input, Output, operator_command, client_frame, uncontrolled_frame, link_frame, frame_fault, leaves, received_output, sending_of, sent_output, state_after_sending, step, unless_fault}
-use Rattle.macsec_secy.proofs.AfterCommands.{none_hold, true_from_not}
-use Rattle.macsec_secy.proofs.KeysKept.{same_number}
-use Rattle.macsec_secy.proofs.OtherOctets.{alike, row-map, widest-alike}
-use Rattle.macsec_reserve.proofs.Replaced.{Replacement, replaced, replaced_keys}
+use Rattle.std.proofs.Common.{IfSome}
+use Rattle.macsec_suite.specs.{
+  KeyRows.is_extended,
+  Refusals.install_refusals,
+  Suites.{widest_extended_window, widest_short_window},
+}
+use Rattle.macsec_tx.specs.Transmit.{tx_row}
+use Rattle.macsec_secy.proofs.OtherOctets.{widest-alike}
+use Rattle.macsec_reserve.proofs.{
+  Prelude.{[], ◌++◌, ◌<◌, ◌==◌, ◌^◌, ◌∙◌, ◌∷◌, ◌≡◌, ◌≤◌, Agrees, alike, All-weaker, AreKeyRows, at_number, Bool},
+  Prelude.{client_frame, Command, effect, eqb-true, false, frame_fault, FrameFault, if◌then◌else◌, Input, InstalledKey},
+  Prelude.{is_some, IsSome, IsSound, judgement_of, Key, key_length, key_row, keys_after, leaves, length, link_frame},
+  Prelude.{List, list_any, max_key_count, new_row, None, none_hold, operator_command, Option, option_map, Output},
+  Prelude.{received_output, refl, Refusal, refusal, Retire, retired_row, row-map, row_noting, RxRow, same_number},
+  Prelude.{sending_of, sent_output, Some, State, state_after_receiving, state_after_sending, step, subst, suite_of},
+  Prelude.{sym, true, true_from_not, TxRow, uncontrolled_frame, unless_fault, unless_refused, with_bytes, with_key, ℕ},
+  Replaced.{Replacement, replaced, replaced_keys},
+}
 
 -- ---- each key has as many octets as its suite requires
 

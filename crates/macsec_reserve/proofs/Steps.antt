@@ -1,17 +1,13 @@
 -- What a step of a keeping endpoint keeps.
-use Rattle.std.proofs.Common.{◌≡◌, ℕ, ◌≤◌, Bool, true, false, List, [], ◌∷◌, refl, ap, ◌∙◌, arith}
-use Rattle.std.specs.Prelude.{◌||◌, not, max, if◌then◌else◌}
-use Rattle.macsec_suite.specs.declared.refusal.Refusal.TheVariants.{PnFloor}
-use Rattle.macsec_secy.specs.Kept.{KeysStay}
-use Rattle.macsec_secy.specs.Sound.{IsSound}
-use Rattle.macsec_secy.specs.State.{State}
-use Rattle.macsec_secy.specs.Step.{Output, link_frame, refused, step}
-use Rattle.macsec_reserve.specs.Journal.{highest}
-use Rattle.macsec_reserve.specs.Keeping.{Keeping, KeepingInput, KeepingOutput, endpoint_input, endpoint_output, now_durable, dropped_no_reservation, for_each_key, is_below_floor, may_go, keeping_after, keeping_step, with_step}
-use Rattle.macsec_reserve.specs.Histories.{reported_in}
-use Rattle.macsec_reserve.proofs.EndpointLaws.{Laws}
-use Rattle.macsec_reserve.proofs.KeyEntries.{for_each_key_reserves, raised_reserves}
-use Rattle.macsec_reserve.proofs.HighestOf.{highest-append}
+use Rattle.macsec_reserve.proofs.{
+  Prelude.{[], ◌||◌, ◌∙◌, ◌∷◌, ◌≡◌, ◌≤◌, ap, arith, Bool, dropped_no_reservation, endpoint_input, endpoint_output},
+  Prelude.{false, for_each_key, highest, if◌then◌else◌, is_below_floor, IsSound, Keeping, keeping_after, keeping_step},
+  Prelude.{KeepingInput, KeepingOutput, KeysStay, link_frame, List, max, may_go, not, now_durable, Output, PnFloor},
+  Prelude.{refl, refused, reported_in, State, step, true, with_step, ℕ},
+  EndpointLaws.Laws,
+  HighestOf.highest-append,
+  KeyEntries.{for_each_key_reserves, raised_reserves},
+}
 
 -- ---- keys
 

@@ -1,21 +1,15 @@
 -- A keeping endpoint takes the machine's step if it has no floors and what it uses is reserved, and if it has no journal.
-use Rattle.std.proofs.Common.{◌≡◌, ℕ, zero, suc, ◌<◌, ◌≤◌, Bool, true, false, List, [], refl, ap, sym, subst, ◌∙◌, arith, All}
-use Rattle.std.specs.Prelude.{◌||◌, ◌&&◌, not, nat_lt, nat_le, if◌then◌else◌, Option, Some, None}
-use Rattle.std.specs.List.{list_any}
-use Rattle.std.proofs.lemmas.Bool.{and_from, and_right, le-leb, lt-leb, lt-ltb}
-use Rattle.std.proofs.lemmas.List.Elements.{All-contains, All-head}
-use Rattle.macsec_suite.specs.declared.refusal.Refusal.TheVariants.{PnFloor}
-use Rattle.macsec_suite.specs.KeyRows.{IsKeyRow, the_key}
-use Rattle.macsec_tx.specs.declared.TxRow.{TxRow}
-use Rattle.macsec_secy.specs.declared.fault.FrameFault.{FrameFault}
-use Rattle.macsec_secy.specs.Laws.{UsedNumber, number_unless_fault, number_used}
-use Rattle.macsec_secy.specs.Sound.{IsSound}
-use Rattle.macsec_secy.specs.Step.{Input, operator_command, client_frame, uncontrolled_frame, link_frame, frame_fault, refused, sending_of, step}
-use Rattle.macsec_reserve.specs.declared.reservation.Reservation.{Reservation}
-use Rattle.macsec_reserve.specs.Journal.{highest}
-use Rattle.macsec_reserve.specs.Keeping.{Keeping, begins_at, dropped_no_reservation, endpoint_output, is_below_floor, key_name, may_go, may_use, uses_reserved, was_reserved, with_step}
+use Rattle.std.proofs.{Common.lt-ltb, lemmas.Bool.{and_right, lt-leb}}
+use Rattle.macsec_reserve.proofs.{
+  Prelude.{[], ◌&&◌, ◌<◌, ◌||◌, ◌∙◌, ◌≡◌, ◌≤◌, All, All-contains, All-head, and_from, ap, arith, begins_at, Bool},
+  Prelude.{client_frame, dropped_no_reservation, endpoint_output, false, frame_fault, FrameFault, highest},
+  Prelude.{if◌then◌else◌, Input, is_below_floor, IsKeyRow, IsSound, Keeping, key_name, le-leb, link_frame, List},
+  Prelude.{list_any, may_go, may_use, nat_le, nat_lt, None, not, number_unless_fault, number_used, operator_command},
+  Prelude.{Option, PnFloor, refl, refused, Reservation, sending_of, Some, step, subst, suc, sym, the_key, true, TxRow},
+  Prelude.{uncontrolled_frame, UsedNumber, uses_reserved, was_reserved, with_step, zero, ℕ},
+  EndpointLaws.Laws,
+}
 use Rattle.macsec_reserve.specs.Transparent.{IsTheMachine, IsTheMachineAlone}
-use Rattle.macsec_reserve.proofs.EndpointLaws.{Laws}
 
 -- ---- no floor
 

@@ -1,16 +1,15 @@
 -- Two ends: what a run of one seals and what a run of the other seals have different IVs.
-use Rattle.std.proofs.Common.{◌≡◌, Bool, true, false, List, [], ◌∷◌, refl, ap, sym, ◌∙◌, All}
-use Rattle.std.proofs.lemmas.List.Elements.{All-append, All-head, All-nil, All-tail, All-weaker}
-use Rattle.macsec_commands.specs.declared.config.EndConfig.{EndConfig}
-use Rattle.macsec_suite.specs.CipherUses.{CipherUse}
-use Rattle.macsec_suite.specs.Suites.{is_xpn}
-use Rattle.macsec_reserve.specs.Histories.{Run, closing, opening, sealed_in, sealed_in_all}
-use Rattle.macsec_reserve.specs.TwoEnds.{AreOfTwoEnds, RepeatsNoIvAtBoth, RepeatsNoIvAtBothAfterCrashes}
-use Rattle.macsec_reserve.specs.Unique.{HasOtherIv}
-use Rattle.macsec_reserve.proofs.AllRuns.{IsSoundRun, is_history, of_run, repeats_no_iv}
-use Rattle.macsec_reserve.proofs.EndpointLaws.{Laws, same_sender}
-use Rattle.macsec_reserve.proofs.Pairs.{pairs-append}
-use Rattle.macsec_reserve.proofs.Seals.{IsUse}
+use Rattle.macsec_reserve.{
+  proofs.{
+    Prelude.{[], ◌∙◌, ◌∷◌, ◌≡◌, All, All-append, All-head, All-nil, All-tail, All-weaker, ap, Bool, CipherUse, closing},
+    Prelude.{EndConfig, false, HasOtherIv, is_xpn, List, opening, refl, Run, sealed_in, sealed_in_all, sym, true},
+    AllRuns.{IsSoundRun, is_history, of_run, repeats_no_iv},
+    EndpointLaws.{Laws, same_sender},
+    Pairs.pairs-append,
+    Seals.IsUse,
+  },
+  specs.TwoEnds.{AreOfTwoEnds, RepeatsNoIvAtBoth, RepeatsNoIvAtBothAfterCrashes},
+}
 
 own_config : Laws → (run : Run) → IsSoundRun run → (closing run).secy.config ≡ run.config
 own_config laws run sound = (of_run laws run sound).stay.config

@@ -1,67 +1,44 @@
--- A PN that is accepted with the option is above all that earlier runs reserved, and at most what was reported durable to
+-- A PN that is accepted with the option is above all that earlier runs reserved, and at most what was reported durable
+-- to
 -- the run.
-use Rattle.std.proofs.Common.{◌≡◌, ℕ, ◌<◌, ◌≤◌, Bool, true, false, List, [], ◌∷◌, map, get_or, refl, ap, sym, subst, ◌∙◌, arith, All}
-use Rattle.std.specs.Prelude.{◌==◌, not, nat_le, max, if◌then◌else◌, Option, Some, None}
-use Rattle.std.proofs.lemmas.Bool.{leb-false, leb-true}
-use Rattle.std.proofs.lemmas.List.Elements.{All-append, All-cons, All-contains, All-nil, All-weaker}
-use Rattle.std.proofs.lemmas.Slice.Eq.{bytes_eq-Decides}
-use Rattle.macsec_gcm.specs.Octets.{same_octets}
-use Rattle.macsec_tag.specs.declared.identifiers.Sci.{Sci}
-use Rattle.macsec_suite.specs.KeyRows.{the_key}
-use Rattle.macsec_rx.specs.declared.RxRow.{RxRow}
-use Rattle.macsec_rx.specs.Judge.{Judgement}
-use Rattle.macsec_secy.specs.declared.fault.FrameFault.{FrameFault}
-use Rattle.macsec_secy.specs.Reception.{judgement_of}
-use Rattle.macsec_secy.specs.Step.{Input, client_frame, frame_fault, link_frame, operator_command, uncontrolled_frame}
-use Rattle.macsec_reserve.specs.declared.reservation.Reservation.{Reservation}
-use Rattle.macsec_reserve.specs.Entries.{raised_by, reduced}
-use Rattle.macsec_reserve.specs.Histories.{KeepsDurable, Run, SameSalt, reported_in}
-use Rattle.macsec_reserve.specs.Journal.{highest, receiving_name, reservations, salt_of, sending_name}
-use Rattle.macsec_reserve.specs.Keeping.{Keeping, KeepingInput, KeepingOutput, endpoint_input, keeping_step, now_durable}
-use Rattle.macsec_reserve.specs.Replay.{row_name}
-use Rattle.macsec_reserve.proofs.HighestOf.{highest-append}
-use Rattle.macsec_reserve.proofs.Reduced.{reduced_reserves}
-use Rattle.macsec_reserve.proofs.Steps.{before_stays, salt_stays}
-use Rattle.macsec_rx.specs.declared.within.RxPn.{RxPn}
-use Rattle.macsec_ahead.specs.Ahead.{Ahead, Standing, ahead_after, ahead_by, ahead_step, before_this_run, begins_again, for_each_row, is_through, lets_through, not_yet, opening_with, passes, standing, standing_by}
-use Rattle.macsec_restarts.specs.AheadRuns.{AcceptsAbove, AcceptsAboveInAll, AcceptsReserved, AreOfOneSa, IsReservedIn, accepted_from, accepted_in, delivery_name, newly_accepted}
-use Rattle.macsec_restarts.specs.Delivered.{Delivery, delivered_by, newly_delivered}
+use Rattle.macsec_restarts.{
+  proofs.{
+    Names.{[], ◌<◌, ◌==◌, ◌∙◌, ◌∷◌, ◌≡◌, ◌≤◌, accepted_from, accepted_in, Ahead, ahead_after, ahead_by, ahead_step},
+    Names.{All, All-append, All-contains, All-nil, All-weaker, ap, AreOfOneSa, arith, before_stays, before_this_run},
+    Names.{begins_again, Bool, bytes_eq-Decides, Delivery, delivery_name, endpoint_input, false, for_each_row, get_or},
+    Names.{highest, highest-append, if◌then◌else◌, Input, is_through, Judgement, judgement_of, Keeping, keeping_step},
+    Names.{KeepingInput, KeepingOutput, KeepsDurable, leb-false, leb-true, lets_through, List, map, max, nat_le},
+    Names.{newly_accepted, newly_delivered, None, not, not_yet, now_durable, opening_with, passes, raised_by, reduced},
+    Names.{reduced_reserves, refl, reported_in, Reservation, reservations, row_name, Run, RxPn, RxRow, salt_of},
+    Names.{salt_stays, same_octets, SameSalt, Some, Standing, standing, standing_by, subst, sym, true, ℕ, is_valid},
+    AheadInside.{by_ahead, field_inside},
+    Placed.{IsGiven, each_given, is_given},
+  },
+  specs.AheadRuns.{AcceptsAbove, AcceptsAboveInAll, AcceptsReserved, IsReservedIn},
+}
 
 -- ---- a step
 
-before_by : (again : Bool) (it : Standing) (a : Ahead) (input : Input) (answer : KeepingOutput × Keeping) → answer.1.before ≡ a.k.before → (ahead_by again it a input answer).1.k.before ≡ a.k.before
-before_by true it a input answer same = refl
-before_by false (not_yet at) a input answer same = refl
-before_by false (before_this_run at) a input answer same = refl
-before_by false passes a input answer same = same
-
 before_stays_with : (a : Ahead) (input : KeepingInput) → (ahead_step a input).1.k.before ≡ a.k.before
-before_stays_with a (now_durable r) = refl
-before_stays_with a (endpoint_input input) = before_by (begins_again a input) (standing a input) a input (keeping_step a.k (endpoint_input input)) (before_stays a.k (endpoint_input input))
-
-salt_by : (again : Bool) (it : Standing) (a : Ahead) (input : Input) (answer : KeepingOutput × Keeping) → answer.1.salt ≡ a.k.salt → (ahead_by again it a input answer).1.k.salt ≡ a.k.salt
-salt_by true it a input answer same = refl
-salt_by false (not_yet at) a input answer same = refl
-salt_by false (before_this_run at) a input answer same = refl
-salt_by false passes a input answer same = same
+before_stays_with a input = field_inside (λ (k : Keeping). k.before) before_stays a input
 
 salt_stays_with : (a : Ahead) (input : KeepingInput) → (ahead_step a input).1.k.salt ≡ a.k.salt
-salt_stays_with a (now_durable r) = refl
-salt_stays_with a (endpoint_input input) = salt_by (begins_again a input) (standing a input) a input (keeping_step a.k (endpoint_input input)) (salt_stays a.k (endpoint_input input))
+salt_stays_with a input = field_inside (λ (k : Keeping). k.salt) salt_stays a input
 
 pub salt_after : (inputs : List KeepingInput) (a : Ahead) → (ahead_after a inputs).k.salt ≡ a.k.salt
 salt_after [] a = refl
 salt_after (input ∷ inputs) a = salt_after inputs (ahead_step a input).1 ∙ salt_stays_with a input
 
-pub option_by : (again : Bool) (it : Standing) (a : Ahead) (input : Input) (answer : KeepingOutput × Keeping) → ((ahead_by again it a input answer).1.ahead ≡ a.ahead) × ((ahead_by again it a input answer).1.taken ≡ a.taken)
-option_by true it a input answer = (refl, refl)
-option_by false (not_yet at) a input answer = (refl, refl)
-option_by false (before_this_run at) a input answer = (refl, refl)
-option_by false passes a input answer = (refl, refl)
+pub option_by : (again : Bool) (it : Standing) (a : Ahead) (input : Input) (answer : KeepingOutput × Keeping) →
+    ((ahead_by again it a input answer).1.ahead ≡ a.ahead) × ((ahead_by again it a input answer).1.taken ≡ a.taken)
+option_by again it a input answer =
+    by_ahead (λ (x : Ahead). (x.ahead ≡ a.ahead) × (x.taken ≡ a.taken)) a input answer (refl, refl) (refl, refl)
+    again it
 
 option_stays : (a : Ahead) (input : KeepingInput) → (ahead_step a input).1.ahead ≡ a.ahead
 option_stays a (now_durable r) = refl
-option_stays a (endpoint_input input) = (option_by (begins_again a input) (standing a input) a input (keeping_step a.k (endpoint_input input))).0
+option_stays a (endpoint_input input) = (option_by (begins_again a input) (standing a input) a input
+    (keeping_step a.k (endpoint_input input))).0
 
 pub option_after : (inputs : List KeepingInput) (a : Ahead) → (ahead_after a inputs).ahead ≡ a.ahead
 option_after [] a = refl
@@ -71,21 +48,25 @@ option_after (input ∷ inputs) a = option_after inputs (ahead_step a input).1 �
 
 -- the entries of the SAs say no more than was reported
 entries_reserve : (name_of : RxRow → List ℕ) (taken : List Reservation) (rows : List RxRow) (name : List ℕ) →
-    highest (map (λ row. record { name = name_of row; last = highest taken (name_of row) }) rows) name ≤ highest taken name
+    highest (map (λ row. record { name = name_of row; last = highest taken (name_of row) }) rows) name ≤ highest taken
+    name
 entries_reserve name_of taken [] name = omega arith
-entries_reserve name_of taken (row ∷ rows) name = by_name (same_octets (name_of row) name) refl (entries_reserve name_of taken rows name)
+entries_reserve name_of taken (row ∷ rows) name = by_name (same_octets (name_of row) name) refl
+    (entries_reserve name_of taken rows name)
   where
     others : ℕ
     others = highest (map (λ r. record { name = name_of r; last = highest taken (name_of r) }) rows) name
 
-    by_name : (b : Bool) → same_octets (name_of row) name ≡ b → others ≤ highest taken name → (if b then max (highest taken (name_of row)) others else others) ≤ highest taken name
+    by_name : (b : Bool) → same_octets (name_of row) name ≡ b → others ≤ highest taken name →
+        (if b then max (highest taken (name_of row)) others else others) ≤ highest taken name
     by_name true is rest =
-        let same : highest taken (name_of row) ≡ highest taken name = ap (highest taken) ((bytes_eq-Decides (name_of row) name).0 is) in
+        let same : highest taken (name_of row) ≡ highest taken name = rw ((bytes_eq-Decides (name_of row) name).0 is) in
         omega (arith, same, rest)
     by_name false is rest = rest
 
 -- a report raises what is reserved under its name to its number at most
-raised_most : (r : Reservation) (entries : List Reservation) (name : List ℕ) → highest (map (raised_by r) entries) name ≤ max (highest entries name) (highest (r ∷ []) name)
+raised_most : (r : Reservation) (entries : List Reservation) (name : List ℕ) → highest (map (raised_by r) entries)
+    name ≤ max (highest entries name) (highest (r ∷ []) name)
 raised_most r [] name = omega arith
 raised_most r (g ∷ gs) name = by_own (same_octets g.name r.name) refl (raised_most r gs name)
   where
@@ -96,23 +77,27 @@ raised_most r (g ∷ gs) name = by_own (same_octets g.name r.name) refl (raised_
     new = highest (map (raised_by r) gs) name
 
     own_name : (b : Bool) → same_octets g.name name ≡ b → g.name ≡ r.name → new ≤ max old (highest (r ∷ []) name) →
-        (if b then max (max g.last r.last) new else new) ≤ max (if b then max g.last old else old) (highest (r ∷ []) name)
+        (if b then max (max g.last r.last) new else new) ≤ max (if b then max g.last old else old)
+        (highest (r ∷ []) name)
     own_name true is names rest =
-        let same : highest (r ∷ []) name ≡ max r.last 0 = ap (λ (b : Bool). if b then max r.last 0 else 0) (ap (λ n. same_octets n name) (sym names) ∙ is) in
+        let same : highest (r ∷ []) name ≡ max r.last 0 = rw (ap (λ n. same_octets n name) (sym names) ∙ is) in
         omega (arith, same, rest)
     own_name false is names rest = rest
 
-    other_name : (b : Bool) → new ≤ max old (highest (r ∷ []) name) → (if b then max g.last new else new) ≤ max (if b then max g.last old else old) (highest (r ∷ []) name)
+    other_name : (b : Bool) → new ≤ max old (highest (r ∷ []) name) → (if b then max g.last new else new) ≤ max
+        (if b then max g.last old else old) (highest (r ∷ []) name)
     other_name true rest = omega (arith, rest)
     other_name false rest = rest
 
     by_own : (own : Bool) → same_octets g.name r.name ≡ own → new ≤ max old (highest (r ∷ []) name) →
-        highest ((if own then record g { last = max g.last r.last } else g) ∷ map (raised_by r) gs) name ≤ max (highest (g ∷ gs) name) (highest (r ∷ []) name)
+        highest ((if own then record g { last = max g.last r.last } else g) ∷ map (raised_by r) gs) name ≤ max
+        (highest (g ∷ gs) name) (highest (r ∷ []) name)
     by_own true is rest = own_name (same_octets g.name name) refl ((bytes_eq-Decides g.name r.name).0 is) rest
     by_own false is rest = other_name (same_octets g.name name) rest
 
 pub taken_step : (a : Ahead) (input : KeepingInput) (inputs : List KeepingInput) (name : List ℕ) →
-    max (highest (ahead_step a input).1.taken name) (highest (reported_in inputs) name) ≤ max (highest a.taken name) (highest (reported_in (input ∷ inputs)) name)
+    max (highest (ahead_step a input).1.taken name) (highest (reported_in inputs) name) ≤ max (highest a.taken name)
+    (highest (reported_in (input ∷ inputs)) name)
 taken_step a (now_durable r) inputs name =
     omega (
       arith,
@@ -122,12 +107,18 @@ taken_step a (now_durable r) inputs name =
     )
 taken_step a (endpoint_input input) inputs name =
     let same : highest (ahead_step a (endpoint_input input)).1.taken name ≡ highest a.taken name =
-    ap (λ rs. highest rs name) (option_by (begins_again a input) (standing a input) a input (keeping_step a.k (endpoint_input input))).1 in
+    rw ((option_by (begins_again a input) (standing a input) a input (keeping_step a.k (endpoint_input input))).1) in
     omega (arith, same)
 
-pub taken_after : (inputs : List KeepingInput) (a : Ahead) (name : List ℕ) → highest (ahead_after a inputs).taken name ≤ max (highest a.taken name) (highest (reported_in inputs) name)
+pub taken_after : (inputs : List KeepingInput) (a : Ahead) (name : List ℕ) → highest (ahead_after a inputs).taken name ≤
+    max (highest a.taken name) (highest (reported_in inputs) name)
 taken_after [] a name = omega arith
-taken_after (input ∷ inputs) a name = omega (arith, taken_after inputs (ahead_step a input).1 name, taken_step a input inputs name)
+taken_after (input ∷ inputs) a name = omega (
+  arith,
+  taken_after inputs (ahead_step a input).1 name,
+  taken_step a input
+      inputs name,
+)
 
 -- ---- what is accepted
 
@@ -136,97 +127,106 @@ pub record IsWithin (before : List Reservation) (salt : List ℕ) (most : List �
   pub within : d.number ≤ most (delivery_name salt d)
 
 -- by the tests, in their order
-pub passes_means : (ahead old new : Bool) (x y : RxPn) → ahead ≡ true → is_through false (if not ahead then passes else if old then before_this_run x else if new then passes else not_yet y) ≡ true →
+pub passes_means : (ahead old new : Bool) (x y : RxPn) → ahead ≡ true →
+    is_through false (if not ahead then passes else if old then before_this_run x else if new then passes else not_yet
+    y) ≡ true →
     (old ≡ false) × (new ≡ true)
 passes_means true false true x y on is = (refl, refl)
 passes_means true false false x y on is = cc
 passes_means true true new x y on is = cc
 passes_means false old new x y on is = cc
 
-pub reserved_now : (a : Ahead) → a.ahead ≡ true → (j : Judgement) (row : RxRow) → (j.step == 13) ≡ true → is_through false (standing_by a j None (Some row)) ≡ true →
-    (highest a.k.before (row_name a.k.salt a.k.secy row) < j.number) × (j.number ≤ highest a.taken (row_name a.k.salt a.k.secy row))
+pub reserved_now : (a : Ahead) → a.ahead ≡ true → (j : Judgement) (row : RxRow) → (j.step == 13) ≡ true →
+    is_through false (standing_by a j None (Some row)) ≡ true →
+    (highest a.k.before (row_name a.k.salt a.k.secy row) < j.number) ×
+    (j.number ≤ highest a.taken (row_name a.k.salt a.k.secy row))
 reserved_now a on j row valid is =
     let at : RxPn = record { sci = row.sci; an = row.an; number = j.number } in
     let name = row_name a.k.salt a.k.secy row in
     let old = nat_le j.number (highest a.k.before name) in
     let new = nat_le j.number (highest a.taken name) in
-    let it : Standing = if not a.ahead then passes else if old then before_this_run at else if new then passes else not_yet at in
-    let tests = passes_means a.ahead old new at at on (ap (λ (b : Bool). is_through false (if b then it else passes)) (sym valid) ∙ is) in
+    let it : Standing = if not a.ahead then passes else if old then before_this_run at else if new then passes
+    else not_yet at in
+    let tests = passes_means a.ahead old new at at on (ap (λ (b : Bool). is_through false (if b then it else passes))
+    (sym valid) ∙ is) in
     (leb-false j.number (highest a.k.before name) tests.0, leb-true j.number (highest a.taken name) tests.1)
 
-within_now : (a : Ahead) → a.ahead ≡ true → (j : Judgement) → (j.step == 13) ≡ true → (f : Option FrameFault) (o : Option RxRow) (delivered : Option (List ℕ)) →
-    is_through false (standing_by a j f o) ≡ true → All (IsWithin a.k.before a.k.salt (highest a.taken)) (delivered_by a.k.secy j f o delivered)
-within_now a on j valid (Some f) o delivered is = All-nil (IsWithin a.k.before a.k.salt (highest a.taken))
-within_now a on j valid None None delivered is = All-nil (IsWithin a.k.before a.k.salt (highest a.taken))
-within_now a on j valid None (Some row) None is = All-nil (IsWithin a.k.before a.k.salt (highest a.taken))
-within_now a on j valid None (Some row) (Some delivered) is =
-    let both = reserved_now a on j row valid is in
-    All-cons (IsWithin a.k.before a.k.salt (highest a.taken))
-    (record { bytes = (the_key a.k.secy.keys row.key).bytes; sci = row.sci; an = row.an; number = j.number; frame = delivered }) []
-    (record { above = both.0; within = both.1 }) (All-nil (IsWithin a.k.before a.k.salt (highest a.taken)))
+within_now : (a : Ahead) → a.ahead ≡ true → (input : KeepingInput) (d : Delivery) → is_valid a.k.secy input ≡ true →
+    lets_through a input ≡ true → IsGiven a.k.secy input d → IsWithin a.k.before a.k.salt (highest a.taken) d
+within_now a on _ _ valid lets (is_given frame row delivered fits of_row delivers) =
+    let both = reserved_now a on (judgement_of a.k.secy frame) row valid (rw (fits, of_row) at lets) in
+    record { above = both.0; within = both.1 }
 
-pub within_input : (a : Ahead) → a.ahead ≡ true → (input : KeepingInput) → All (IsWithin a.k.before a.k.salt (highest a.taken)) (newly_accepted a input)
-within_input a on (now_durable r) = All-nil (IsWithin a.k.before a.k.salt (highest a.taken))
-within_input a on (endpoint_input (operator_command c)) = All-nil (IsWithin a.k.before a.k.salt (highest a.taken))
-within_input a on (endpoint_input (client_frame frame)) = All-nil (IsWithin a.k.before a.k.salt (highest a.taken))
-within_input a on (endpoint_input (uncontrolled_frame frame)) = All-nil (IsWithin a.k.before a.k.salt (highest a.taken))
-within_input a on (endpoint_input (link_frame frame)) = by_tests (j.step == 13) refl (lets_through a (endpoint_input (link_frame frame))) refl
+pub within_input : (a : Ahead) → a.ahead ≡ true → (input : KeepingInput) →
+    All (IsWithin a.k.before a.k.salt (highest a.taken)) (newly_accepted a input)
+within_input a on input = by_tests (is_valid a.k.secy input) refl (lets_through a input) refl
   where
-    j : Judgement
-    j = judgement_of a.k.secy frame
-
-    P : Delivery → Type 0
-    P = IsWithin a.k.before a.k.salt (highest a.taken)
-
-    by_tests : (valid : Bool) → (j.step == 13) ≡ valid → (lets : Bool) → lets_through a (endpoint_input (link_frame frame)) ≡ lets →
-        All P (if valid then (if lets then newly_delivered a.k (endpoint_input (link_frame frame)) else []) else [])
-    by_tests false is lets is' = All-nil P
-    by_tests true is false is' = All-nil P
-    by_tests true is true is' = within_now a on j is (frame_fault frame) j.row j.delivered is'
+    by_tests : (valid : Bool) → is_valid a.k.secy input ≡ valid → (lets : Bool) → lets_through a input ≡ lets →
+        All (IsWithin a.k.before a.k.salt (highest a.taken))
+        (if valid then (if lets then newly_delivered a.k input else []) else [])
+    by_tests true is true is' = λ i d within'.
+        within_now a on input (get_or (newly_delivered a.k input) i d) is is' (each_given a.k input i d within')
+    by_tests valid is lets is' = All-nil (IsWithin a.k.before a.k.salt (highest a.taken))
 
 abbrev pub most_of : Ahead → List KeepingInput → List ℕ → ℕ
 most_of a inputs name = max (highest a.taken name) (highest (reported_in inputs) name)
 
-within : (inputs : List KeepingInput) (a : Ahead) → a.ahead ≡ true → All (IsWithin a.k.before a.k.salt (most_of a inputs)) (accepted_from a inputs)
+within : (inputs : List KeepingInput) (a : Ahead) → a.ahead ≡ true →
+    All (IsWithin a.k.before a.k.salt (most_of a inputs)) (accepted_from a inputs)
 within [] a on = All-nil (IsWithin a.k.before a.k.salt (most_of a []))
 within (input ∷ inputs) a on =
     let after = (ahead_step a input).1 in
     let P : Delivery → Type 0 = IsWithin a.k.before a.k.salt (most_of a (input ∷ inputs)) in
     All-append P (newly_accepted a input) (accepted_from after inputs)
-    (All-weaker (IsWithin a.k.before a.k.salt (highest a.taken)) P (λ d it. record { above = it.above; within = omega (arith, it.within) }) (newly_accepted a input) (within_input a on input))
+    (All-weaker (IsWithin a.k.before a.k.salt (highest a.taken)) P
+    (λ d it. record { above = it.above; within = omega (arith, it.within) }) (newly_accepted a input)
+    (within_input a on input))
     (All-weaker (IsWithin after.k.before after.k.salt (most_of after inputs)) P
     (λ d it.
     let here : IsWithin a.k.before a.k.salt (most_of after inputs) d =
     subst (λ (salt : List ℕ). IsWithin a.k.before salt (most_of after inputs) d) (salt_stays_with a input)
-    (subst (λ (before : List Reservation). IsWithin before after.k.salt (most_of after inputs) d) (before_stays_with a input) it) in
-    record { above = here.above; within = omega (arith, here.within, taken_step a input inputs (delivery_name a.k.salt d)) })
+    (rw (before_stays_with a input) at it) in
+    record {
+      above = here.above;
+      within = omega (
+        arith,
+        here.within,
+        taken_step a input inputs
+            (delivery_name a.k.salt d),
+      );
+    })
     (accepted_from after inputs) (within inputs after (option_stays a input ∙ on)))
 
 pub accepts_reserved : (run : Run) → AcceptsReserved run
 accepts_reserved run d there =
-    let it = All-contains (IsWithin (reduced (reservations run.journal)) (salt_of run.journal) (most_of (opening_with true run) run.inputs)) (accepted_in run) d
+    let it = All-contains (IsWithin (reduced (reservations run.journal)) (salt_of run.journal)
+    (most_of (opening_with true run) run.inputs)) (accepted_in run) d
     (within run.inputs (opening_with true run) refl) there in
     record {
-      above = omega (arith, it.above, reduced_reserves (reservations run.journal) (delivery_name (salt_of run.journal) d));
+      above = omega (
+        arith,
+        it.above,
+        reduced_reserves (reservations run.journal)
+            (delivery_name (salt_of run.journal) d),
+      );
       within = omega (arith, it.within);
     }
 
 -- ---- two runs
 
 -- what is reserved in a later run is above what is reserved in an earlier one
-pub reserved_above : (run later : Run) → SameSalt run later → KeepsDurable run later → (d e : Delivery) → IsReservedIn run d → IsReservedIn later e → AreOfOneSa d e → d.number < e.number
+pub reserved_above : (run later : Run) → SameSalt run later → KeepsDurable run later → (d e : Delivery) →
+    IsReservedIn run d → IsReservedIn later e → AreOfOneSa d e → d.number < e.number
 reserved_above run later salt durable d e first second same =
     let name : delivery_name (salt_of later.journal) e ≡ delivery_name (salt_of run.journal) d =
-    ap (λ (s : List ℕ). delivery_name s e) salt
-    ∙ ap (λ (b : List ℕ). receiving_name (sending_name (salt_of run.journal) b) e.sci e.an) (sym same.bytes)
-    ∙ ap (λ (s : Sci). receiving_name (sending_name (salt_of run.journal) d.bytes) s e.an) (sym same.sci)
-    ∙ ap (λ (n : ℕ). receiving_name (sending_name (salt_of run.journal) d.bytes) d.sci n) (sym same.an) in
+    rw (salt, ← same.bytes, ← same.sci, ← same.an) in
     let above : highest (reservations later.journal) (delivery_name (salt_of run.journal) d) < e.number =
-    subst (λ (n : List ℕ). highest (reservations later.journal) n < e.number) name second.above in
+    rw name at second.above in
     omega (arith, first.within, above, durable (delivery_name (salt_of run.journal) d))
 
 accepts_above : (run later : Run) → SameSalt run later → KeepsDurable run later → AcceptsAbove run later
-accepts_above run later salt durable d e here there same = reserved_above run later salt durable d e (accepts_reserved run d here) (accepts_reserved later e there) same
+accepts_above run later salt durable d e here there same = reserved_above run later salt durable d e
+    (accepts_reserved run d here) (accepts_reserved later e there) same
 
 pub accepts_above_in_all : (runs : List Run) → AcceptsAboveInAll runs
 accepts_above_in_all runs salt durable i j d less within' =

@@ -1,38 +1,35 @@
 -- Where deleted SAs ended is remembered: the PN up to which frames may have been accepted from an SA does not fall,
 -- whether the SA exists or not.
-use Rattle.std.proofs.Common.{◌≡◌, ◌⊎◌, ℕ, ◌<◌, ◌≤◌, Bool, true, false, filter, inl, inr, refl, ap, sym, subst, ◌∙◌, arith}
-use Rattle.std.specs.Prelude.{List, [], ◌∷◌, ◌==◌, ◌&&◌, not, nat_le, nat_lt, max, if◌then◌else◌, is_some, Option, Some, None}
-use Rattle.std.proofs.lemmas.Bool.{and_cases, and_from, eqb-true, le-leb, leb-false, lt-ltb, ltb-false}
-use Rattle.macsec_tag.specs.declared.identifiers.Sci.{Sci}
-use Rattle.macsec_commands.specs.declared.command.Command.{Command}
-use Rattle.macsec_commands.specs.declared.command.Command.TheVariants.{Retire}
-use Rattle.macsec_commands.specs.declared.command.Command.TheVariants.{RxSa}
-use Rattle.macsec_rx.specs.declared.RxRow.{RxRow}
-use Rattle.macsec_rx.specs.Channels.{rx_row}
-use Rattle.macsec_secy.specs.GivenUp.{IsGivenUp}
-use Rattle.macsec_secy.specs.Kept.{IsAbove}
-use Rattle.macsec_secy.specs.State.{State}
-use Rattle.macsec_secy.specs.Step.{Input, Output, client_frame, done, dropped_no_sa, dropped_too_long, link_frame, operator_command, refused, step, uncontrolled_frame}
-use Rattle.macsec_secy.proofs.GivenUp.{gives_up, stays_given_up}
-use Rattle.macsec_secy.proofs.RxRowsStay.{rx_rows_stay}
-use Rattle.macsec_link.proofs.Members.{IsMember, left_member, member_of_map}
-use Rattle.macsec_reserve.specs.Forgetting.{is_done, is_done_output}
-use Rattle.macsec_reserve.specs.Keeping.{Keeping, KeepingInput, KeepingOutput, endpoint_input, is_below_floor, keeping_step, may_go, now_durable}
-use Rattle.macsec_reserve.specs.Replay.{KeepsAssociation}
-use Rattle.macsec_reserve.proofs.Steps.{by_tests}
-use Rattle.macsec_ahead.specs.Ahead.{Ahead, Standing, ahead_after, ahead_by, ahead_step, before_this_run, begins_again, ended_after, is_through, lets_through, not_yet, passes, standing}
-use Rattle.macsec_ahead.specs.Ends.{Ends, after_retiring, end_of, end_of_row, ended_by, ended_of, is_gone, with_ends, without_key}
-use Rattle.macsec_restarts.specs.AheadSteps.{KeepsEnds, RefusesBelowEnd, RemembersEnd}
-use Rattle.macsec_restarts.proofs.EndTables.{ends_cover, ends_more, without_other}
-use Rattle.macsec_restarts.proofs.NextNumbers.{same_place}
-use Rattle.macsec_restarts.proofs.RowSteps.{IsCreatedBy, RowStep, found_at, found_row, row_step, still}
+use Rattle.{
+  std.proofs.lemmas.Bool.and_cases,
+  macsec_secy.{proofs.RxRowsStay.rx_rows_stay, specs.Step.{dropped_no_sa, dropped_too_long}},
+  macsec_reserve.specs.Forgetting.is_done_output,
+  macsec_restarts.{
+    proofs.{
+      Names.{[], ◌&&◌, ◌<◌, ◌==◌, ◌∙◌, ◌∷◌, ◌≡◌, ◌≤◌, ◌⊎◌, after_retiring, Ahead, ahead_after, ahead_by, ahead_step},
+      Names.{and_from, ap, arith, begins_again, Bool, by_tests, Command, done, end_of, end_of_row, ended_after},
+      Names.{ended_by, ended_of, endpoint_input, Ends, eqb-true, false, filter, gives_up, if◌then◌else◌, inl, Input},
+      Names.{inr, is_below_floor, is_done, is_gone, is_through, IsAbove, IsGivenUp, IsMember, Keeping, keeping_step},
+      Names.{KeepingInput, KeepingOutput, KeepsAssociation, le-leb, leb-false, left_member, lets_through, List, lt-ltb},
+      Names.{ltb-false, max, may_go, member_of_map, nat_le, nat_lt, None, now_durable, operator_command, Option},
+      Names.{Output, refl, refused, Retire, rx_row, RxRow, RxSa, Sci, Some, Standing, standing, State, stays_given_up},
+      Names.{step, subst, sym, true, with_ends, without_key, ℕ},
+      AheadInside.{by_ahead, by_inside},
+      EndTables.{ends_cover, ends_more, without_other},
+      NextNumbers.same_place,
+      RowSteps.{IsCreatedBy, RowStep, found_at, found_row, row_step, still},
+      SoundRuns.by_keeping,
+    },
+    specs.AheadSteps.{KeepsEnds, RefusesBelowEnd, RemembersEnd},
+  },
+}
 
 -- an SA that existed and no longer exists is in the table
 gone : (s after : State) (t : Ends) (row : RxRow) → rx_row s.rx.rows row.sci row.an ≡ Some row →
     rx_row after.rx.rows row.sci row.an ≡ None →
     end_of_row row ≤ end_of (with_ends (ended_by s after) t) row.key row.sci row.an
 gone s after t row there none =
-    let gone' : is_gone after row ≡ true = ap (λ (o : Option RxRow). not (is_some o)) none in
+    let gone' : is_gone after row ≡ true = rw none in
     let left : IsMember (filter (is_gone after) s.rx.rows) row =
     left_member (is_gone after) s.rx.rows row (found_row row.sci row.an s.rx.rows row there) gone' in
     ends_cover (ended_by s after) t (ended_of row) (member_of_map ended_of (filter (is_gone after) s.rx.rows) row left)
@@ -61,25 +58,13 @@ retires k n done' = by_both (is_below_floor k (operator_command (Retire n)))
 pub keeps_given_up : (k : Keeping) (input : KeepingInput) (n : ℕ) → IsGivenUp k.secy n →
     IsGivenUp (keeping_step k input).1.secy n
 keeps_given_up k (now_durable r) n up = up
-keeps_given_up k (endpoint_input input) n up = by_both (is_below_floor k input) (may_go k input)
-  where
-    by_both : (below go : Bool) → IsGivenUp (by_tests below go k (step k.secy input)).1.secy n
-    by_both true go = up
-    by_both false true = stays_given_up k.secy n input up
-    by_both false false = up
+keeps_given_up k (endpoint_input input) n up =
+    by_keeping (λ (s : State). IsGivenUp s n) k input up (stays_given_up k.secy n input up)
 
 -- a key that is given up stays given up
 pub given_up_stays : (a : Ahead) (input : KeepingInput) (n : ℕ) → IsGivenUp a.k.secy n →
     IsGivenUp (ahead_step a input).1.k.secy n
-given_up_stays a (now_durable r) n up = up
-given_up_stays a (endpoint_input input) n up = by_standing (begins_again a input) (standing a input)
-  where
-    by_standing : (again : Bool) (it : Standing) →
-        IsGivenUp (ahead_by again it a input (keeping_step a.k (endpoint_input input))).1.k.secy n
-    by_standing true it = up
-    by_standing false (not_yet at) = up
-    by_standing false (before_this_run at) = up
-    by_standing false passes = keeps_given_up a.k (endpoint_input input) n up
+given_up_stays a input n up = by_inside (λ (k : Keeping). IsGivenUp k.secy n) a input up (keeps_given_up a.k input n up)
 
 -- ---- a step
 
@@ -100,10 +85,9 @@ retires_by k c = tt
 pub after_command : (c : Command) (answer : KeepingOutput × Keeping) → GivesUpBy c answer →
     (again : Bool) (it : Standing) (a : Ahead) (key : ℕ) (sci : Sci) (an : ℕ) →
     StaysUnless a (ahead_by again it a (operator_command c) answer).1 key sci an
-after_command c answer gives true it a key sci an = inr (omega arith)
-after_command c answer gives false (not_yet at) a key sci an = inr (omega arith)
-after_command c answer gives false (before_this_run at) a key sci an = inr (omega arith)
-after_command c answer gives false passes a key sci an = by_keeps a.k.keeps c answer gives
+after_command c answer gives again it a key sci an =
+    by_ahead (λ (x : Ahead). StaysUnless a x key sci an) a (operator_command c) answer (inr (omega arith))
+    (by_keeps a.k.keeps c answer gives) again it
   where
     grown : (answer : KeepingOutput × Keeping) →
         end_of a.ended key sci an ≤ end_of (with_ends (ended_by a.k.secy answer.1.secy) a.ended) key sci an
@@ -112,9 +96,14 @@ after_command c answer gives false passes a key sci an = by_keeps a.k.keeps c an
     by_key : (answer : KeepingOutput × Keeping) (n : ℕ) → IsGivenUp answer.1.secy n → (b : Bool) → (key == n) ≡ b →
         IsGivenUp answer.1.secy key ⊎ (end_of a.ended key sci an ≤ end_of
         (without_key n (with_ends (ended_by a.k.secy answer.1.secy) a.ended)) key sci an)
-    by_key answer n up true same = inl (subst (IsGivenUp answer.1.secy) (sym (eqb-true key n same)) up)
+    by_key answer n up true same = inl (rw (eqb-true key n same) up)
     by_key answer n up false other =
-        inr (omega (arith, grown answer, without_other n (with_ends (ended_by a.k.secy answer.1.secy) a.ended) key sci an other))
+        inr (omega (
+          arith,
+          grown answer,
+          without_other n (with_ends (ended_by a.k.secy answer.1.secy) a.ended) key sci
+              an other,
+        ))
 
     by_done : (answer : KeepingOutput × Keeping) (n : ℕ) (done' : Bool) → (done' ≡ true → IsGivenUp answer.1.secy n) →
         IsGivenUp answer.1.secy key ⊎ (end_of a.ended key sci an ≤ end_of
@@ -139,11 +128,9 @@ after_command c answer gives false passes a key sci an = by_keeps a.k.keeps c an
 after_frame : (again : Bool) (it : Standing) (a : Ahead) (input : Input) (answer : KeepingOutput × Keeping) →
     ended_after a input answer ≡ a.ended → (key : ℕ) (sci : Sci) (an : ℕ) →
     StaysUnless a (ahead_by again it a input answer).1 key sci an
-after_frame true it a input answer same key sci an = inr (omega arith)
-after_frame false (not_yet at) a input answer same key sci an = inr (omega arith)
-after_frame false (before_this_run at) a input answer same key sci an = inr (omega arith)
-after_frame false passes a input answer same key sci an =
-    inr (subst (λ (t : Ends). end_of a.ended key sci an ≤ end_of t key sci an) (sym same) (omega arith))
+after_frame again it a input answer same key sci an =
+    by_ahead (λ (x : Ahead). StaysUnless a x key sci an) a input answer (inr (omega arith))
+    (inr (rw same (omega arith))) again it
 
 pub ends_step : (a : Ahead) (input : KeepingInput) (key : ℕ) (sci : Sci) (an : ℕ) →
     StaysUnless a (ahead_step a input).1 key sci an
@@ -151,15 +138,9 @@ ends_step a (now_durable r) key sci an = inr (omega arith)
 ends_step a (endpoint_input (operator_command c)) key sci an =
     after_command c (keeping_step a.k (endpoint_input (operator_command c))) (retires_by a.k c)
     (begins_again a (operator_command c)) (standing a (operator_command c)) a key sci an
-ends_step a (endpoint_input (client_frame frame)) key sci an =
-    after_frame false passes a (client_frame frame)
-    (keeping_step a.k (endpoint_input (client_frame frame))) refl key sci an
-ends_step a (endpoint_input (uncontrolled_frame frame)) key sci an =
-    after_frame false passes a (uncontrolled_frame frame)
-    (keeping_step a.k (endpoint_input (uncontrolled_frame frame))) refl key sci an
-ends_step a (endpoint_input (link_frame frame)) key sci an =
-    after_frame false (standing a (link_frame frame)) a (link_frame frame)
-    (keeping_step a.k (endpoint_input (link_frame frame))) refl key sci an
+ends_step a (endpoint_input input) key sci an =
+    after_frame (begins_again a input) (standing a input) a input (keeping_step a.k (endpoint_input input)) refl key sci
+    an
 
 given_up_later : (inputs : List KeepingInput) (a : Ahead) (n : ℕ) → IsGivenUp a.k.secy n →
     IsGivenUp (ahead_after a inputs).k.secy n
@@ -183,12 +164,9 @@ keeps_ends (input ∷ inputs) a key sci an = by_step (ends_step a input key sci 
 pub row_kept : (k : Keeping) (input : KeepingInput) (sci : Sci) (an n : ℕ) → KeepsAssociation sci an input →
     IsAbove k.secy.rx.rows sci an n → IsAbove (keeping_step k input).1.secy.rx.rows sci an n
 row_kept k (now_durable r) sci an n stays above = above
-row_kept k (endpoint_input input) sci an n stays above = by_both (is_below_floor k input) (may_go k input)
-  where
-    by_both : (below go : Bool) → IsAbove (by_tests below go k (step k.secy input)).1.secy.rx.rows sci an n
-    by_both true go = above
-    by_both false true = rx_rows_stay k.secy input sci an n stays above
-    by_both false false = above
+row_kept k (endpoint_input input) sci an n stays above =
+    by_keeping (λ (s : State). IsAbove s.rx.rows sci an n) k input above
+    (rx_rows_stay k.secy input sci an n stays above)
 
 pub not_gone : (k : Keeping) (input : KeepingInput) (row : RxRow) → KeepsAssociation row.sci row.an input →
     rx_row k.secy.rx.rows row.sci row.an ≡ Some row →
@@ -220,42 +198,35 @@ pub remembers_by : (c : Command) (answer : KeepingOutput × Keeping) (again : Bo
     rx_row a.k.secy.rx.rows row.sci row.an ≡ Some row →
     rx_row (ahead_by again it a (operator_command c) answer).1.k.secy.rx.rows row.sci row.an ≡ None →
     end_of_row row ≤ end_of (ahead_by again it a (operator_command c) answer).1.ended row.key row.sci row.an
-remembers_by c answer true it a row by keeps there none = let no = sym there ∙ none in cc
-remembers_by c answer false (not_yet at) a row by keeps there none = let no = sym there ∙ none in cc
-remembers_by c answer false (before_this_run at) a row by keeps there none = let no = sym there ∙ none in cc
-remembers_by c answer false passes a row by keeps there none =
+remembers_by c answer again it a row by keeps there =
+    by_ahead (λ (x : Ahead). rx_row x.k.secy.rx.rows row.sci row.an ≡ None →
+    end_of_row row ≤ end_of x.ended row.key row.sci row.an) a (operator_command c) answer
+    (λ none. let no = sym there ∙ none in cc)
+    (λ none.
     let more = after_retiring c (is_done answer.0) (with_ends (ended_by a.k.secy answer.1.secy) a.ended) in
-    let all : ended_after a (operator_command c) answer ≡ more = ap (λ (b : Bool). if b then more else a.ended) keeps in
-    subst (λ (t : Ends). end_of_row row ≤ end_of t row.key row.sci row.an) (sym all)
-    (remembers_command a row there c answer by none)
+    let all : ended_after a (operator_command c) answer ≡ more = rw keeps in
+    rw all (remembers_command a row there c answer by none))
+    again it
 
 -- a step that is no command deletes no SA
-remembers_frame : (again : Bool) (it : Standing) (a : Ahead) (input : Input) (row : RxRow) →
-    KeepsAssociation row.sci row.an (endpoint_input input) → rx_row a.k.secy.rx.rows row.sci row.an ≡ Some row →
-    rx_row (ahead_by again it a input (keeping_step a.k (endpoint_input input))).1.k.secy.rx.rows row.sci row.an ≡
-    None → ⊥
-remembers_frame true it a input row stays there none = let no = sym there ∙ none in cc
-remembers_frame false (not_yet at) a input row stays there none = let no = sym there ∙ none in cc
-remembers_frame false (before_this_run at) a input row stays there none = let no = sym there ∙ none in cc
-remembers_frame false passes a input row stays there none = not_gone a.k (endpoint_input input) row stays there none
+remembers_frame : (a : Ahead) (input : KeepingInput) (row : RxRow) → KeepsAssociation row.sci row.an input →
+    rx_row a.k.secy.rx.rows row.sci row.an ≡ Some row →
+    rx_row (ahead_step a input).1.k.secy.rx.rows row.sci row.an ≡ None → ⊥
+remembers_frame a input row stays there =
+    by_inside (λ (k : Keeping). rx_row k.secy.rx.rows row.sci row.an ≡ None → ⊥) a input
+    (λ none. let no = sym there ∙ none in cc) (not_gone a.k input row stays there)
 
 pub remembers_end : (a : Ahead) (input : KeepingInput) (row : RxRow) → RemembersEnd a input row
 remembers_end a (now_durable r) row keeps there none = let no = sym there ∙ none in cc
 remembers_end a (endpoint_input (operator_command c)) row keeps there none =
     remembers_by c (keeping_step a.k (endpoint_input (operator_command c))) (begins_again a (operator_command c))
     (standing a (operator_command c)) a row (keeps_by_retiring a.k row there c) keeps there none
-remembers_end a (endpoint_input (client_frame frame)) row keeps there none =
-    absurd (remembers_frame false passes a (client_frame frame) row refl there none)
-remembers_end a (endpoint_input (uncontrolled_frame frame)) row keeps there none =
-    absurd (remembers_frame false passes a (uncontrolled_frame frame) row refl there none)
-remembers_end a (endpoint_input (link_frame frame)) row keeps there none =
-    absurd (remembers_frame false (standing a (link_frame frame)) a (link_frame frame) row refl there none)
+remembers_end a input row keeps there none = absurd (remembers_frame a input row refl there none)
 
 pub refuses_below_end : (a : Ahead) (sci : Sci) (an key ssci lowest : ℕ) → RefusesBelowEnd a sci an key ssci lowest
 refuses_below_end a sci an key ssci lowest least below =
     let input = operator_command (RxSa sci an key ssci lowest) in
-    ap (λ (b : Bool). ahead_by b (standing a input) a input (keeping_step a.k (endpoint_input input)))
-    (and_from (nat_lt 0 lowest) (nat_le lowest (end_of a.ended key sci an)) (lt-ltb 0 lowest least)
+    rw (and_from (nat_lt 0 lowest) (nat_le lowest (end_of a.ended key sci an)) (lt-ltb 0 lowest least)
     (le-leb lowest (end_of a.ended key sci an) below))
 
 -- ---- what may have been accepted from an SA: below its lowest acceptable PN, and up to where it ended
@@ -270,26 +241,16 @@ past_of a key sci an = max (row_end (rx_row a.k.secy.rx.rows sci an) key) (end_o
 -- the same step of a keeping endpoint
 keeping_row_step : (k : Keeping) (input : Input) (sci : Sci) (an : ℕ) →
     RowStep input (rx_row k.secy.rx.rows sci an) (rx_row (keeping_step k (endpoint_input input)).1.secy.rx.rows sci an)
-keeping_row_step k input sci an = by_both (is_below_floor k input) (may_go k input)
-  where
-    by_both : (below go : Bool) → RowStep input (rx_row k.secy.rx.rows sci an)
-        (rx_row (by_tests below go k (step k.secy input)).1.secy.rx.rows sci an)
-    by_both true go = still input (rx_row k.secy.rx.rows sci an)
-    by_both false true = row_step k.secy input sci an
-    by_both false false = still input (rx_row k.secy.rx.rows sci an)
+keeping_row_step k input sci an =
+    by_keeping (λ (s : State). RowStep input (rx_row k.secy.rx.rows sci an) (rx_row s.rx.rows sci an)) k input
+    (still input (rx_row k.secy.rx.rows sci an)) (row_step k.secy input sci an)
 
 pub ahead_row_step : (a : Ahead) (input : Input) (sci : Sci) (an : ℕ) →
     RowStep input (rx_row a.k.secy.rx.rows sci an)
     (rx_row (ahead_step a (endpoint_input input)).1.k.secy.rx.rows sci an)
-ahead_row_step a input sci an = by_standing (begins_again a input) (standing a input)
-  where
-    by_standing : (again : Bool) (it : Standing) →
-        RowStep input (rx_row a.k.secy.rx.rows sci an)
-        (rx_row (ahead_by again it a input (keeping_step a.k (endpoint_input input))).1.k.secy.rx.rows sci an)
-    by_standing true it = still input (rx_row a.k.secy.rx.rows sci an)
-    by_standing false (not_yet at) = still input (rx_row a.k.secy.rx.rows sci an)
-    by_standing false (before_this_run at) = still input (rx_row a.k.secy.rx.rows sci an)
-    by_standing false passes = keeping_row_step a.k input sci an
+ahead_row_step a input sci an =
+    by_inside (λ (k : Keeping). RowStep input (rx_row a.k.secy.rx.rows sci an) (rx_row k.secy.rx.rows sci an)) a
+    (endpoint_input input) (still input (rx_row a.k.secy.rx.rows sci an)) (keeping_row_step a.k input sci an)
 
 past_by : (input : Input) (o o' : Option RxRow) (key : ℕ) (old new : ℕ) → RowStep input o o' → old ≤ new →
     ((row : RxRow) → o ≡ Some row → o' ≡ None → row.key ≡ key → end_of_row row ≤ new) →
@@ -301,8 +262,7 @@ past_by input (Some row) None key old new stepped grows ended = by_key (row.key 
     by_key false other = omega (arith, grows)
     by_key true same = omega (arith, grows, ended row refl refl (eqb-true row.key key same))
 past_by input (Some row) (Some later) key old new stepped grows ended =
-    subst (λ (n : ℕ). max (if row.key == key then end_of_row row else 0) old ≤ max
-    (if n == key then end_of_row later else 0) new) (sym stepped.key) (by_key (row.key == key))
+    rw stepped.key (by_key (row.key == key))
   where
     by_key : (b : Bool) → max (if b then end_of_row row else 0) old ≤ max (if b then end_of_row later else 0) new
     by_key false = omega (arith, grows)
@@ -324,8 +284,8 @@ past_step a (endpoint_input input) key sci an keeps = by_ends (ends_step a (endp
         let P : Sci → ℕ → Type 0 = λ x n. rx_row a.k.secy.rx.rows x n ≡ Some row →
         rx_row after.k.secy.rx.rows x n ≡ None → end_of_row row ≤ end_of after.ended row.key x n in
         let first : P row.sci row.an = λ there' none'. remembers_end a (endpoint_input input) row keeps there' none' in
-        let second : P sci an = subst (P sci) own.1 (subst (λ (x : Sci). P x row.an) own.0 first) in
-        subst (λ (n : ℕ). end_of_row row ≤ end_of after.ended n sci an) of_key (second there none)
+        let second : P sci an = rw (← own.1) (subst (λ (x : Sci). P x row.an) own.0 first) in
+        rw of_key at (second there none)
 
     by_ends : StaysUnless a after key sci an → IsGivenUp after.k.secy key
         ⊎ (past_of a key sci an ≤ past_of after key sci an)
@@ -344,18 +304,15 @@ created_above a (now_durable r) sci an row none there lets = let no = sym none �
 created_above a (endpoint_input input) sci an row none there lets =
     let created : IsCreatedBy input row =
     subst (λ (o : Option RxRow). RowStep input o (Some row)) none
-    (subst (RowStep input (rx_row a.k.secy.rx.rows sci an)) there (ahead_row_step a input sci an)) in
+    (rw there at (ahead_row_step a input sci an)) in
     let new : begins_again a (operator_command (RxSa row.sci row.an row.key created.ssci row.lowest)) ≡ false =
     ap (begins_again a) (sym created.is) ∙ not_again (begins_again a input) (standing a input) lets in
     let own = same_place row.sci sci row.an an (found_at
     (ahead_step a (endpoint_input input)).1.k.secy.rx.rows sci an row there) in
     let above : end_of a.ended row.key row.sci row.an < row.lowest =
     first_new row.lowest (end_of a.ended row.key row.sci row.an) created.least new in
-    let here : end_of a.ended row.key sci an < row.lowest =
-    subst (λ (n : ℕ). end_of a.ended row.key sci n < row.lowest) own.1
-    (subst (λ (x : Sci). end_of a.ended row.key x row.an < row.lowest) own.0 above) in
-    subst (λ (o : Option RxRow). max (row_end o row.key) (end_of a.ended row.key sci an) < row.next) (sym none)
-    (omega (arith, here, created.next))
+    let here : end_of a.ended row.key sci an < row.lowest = rw (← own.1) (rw own.0 at above) in
+    rw none (omega (arith, here, created.next))
   where
     not_again : (again : Bool) (it : Standing) → is_through again it ≡ true → again ≡ false
     not_again true it is = cc

@@ -1,19 +1,21 @@
 -- The keeping endpoint inside one that can reserve ahead of receiving: its steps, its runs, what it sends and delivers.
-use Rattle.std.proofs.Common.{◌≡◌, Bool, true, false, List, [], ◌∷◌, ◌++◌, map, refl, ap, sym, ◌∙◌}
-use Rattle.std.specs.Prelude.{◌==◌, not, if◌then◌else◌, Option, Some, None}
-use Rattle.macsec_rx.specs.declared.RxRow.{RxRow}
-use Rattle.macsec_rx.specs.Judge.{Judgement}
-use Rattle.macsec_secy.specs.declared.fault.FrameFault.{FrameFault}
-use Rattle.macsec_secy.specs.Reception.{judgement_of}
-use Rattle.macsec_secy.specs.Step.{Input, client_frame, done, frame_fault, link_frame, received}
-use Rattle.macsec_reserve.specs.Histories.{Run, opening, reported_in}
-use Rattle.macsec_reserve.specs.Keeping.{Keeping, KeepingInput, KeepingOutput, dropped_no_reservation, endpoint_input, endpoint_output, keeping_after, keeping_step, noted, now_durable}
-use Rattle.macsec_ahead.specs.Ahead.{Ahead, Standing, ahead_after, ahead_by, ahead_step, before_this_run, begins_again, is_through, kept, lets_through, not_yet, opening_with, passes, run_inside, standing, standing_by, standing_of, through}
-use Rattle.macsec_restarts.specs.AheadRuns.{DeliversEachListedWith, MatchesDeliveriesWith, delivered_from_with, delivered_in_all_with, newly_delivered_with, sent_from_with, sent_in_all_with}
-use Rattle.macsec_restarts.specs.AheadSteps.{IsAsBefore, IsKeepingInside, StepsInside, TakesTheStep}
-use Rattle.macsec_restarts.specs.Delivered.{MatchesDeliveries, delivered_from, delivered_in_all, newly_delivered}
-use Rattle.macsec_restarts.specs.Sent.{newly_sent, sent_from, sent_in_all}
-use Rattle.macsec_restarts.proofs.Listed.{delivers_each_listed}
+use Rattle.macsec_reserve.specs.Keeping.{noted}
+use Rattle.macsec_ahead.specs.Ahead.{kept}
+use Rattle.macsec_restarts.proofs.{
+  Names.{[], ◌++◌, ◌==◌, ◌∙◌, ◌∷◌, ◌≡◌, Ahead, ahead_after, ahead_by, ahead_step, ap, before_this_run, begins_again},
+  Names.{Bool, client_frame, delivered_from, delivered_from_with, delivered_in_all, delivered_in_all_with, done},
+  Names.{dropped_no_reservation, endpoint_input, endpoint_output, false, frame_fault, FrameFault, if◌then◌else◌, Input},
+  Names.{is_through, Judgement, judgement_of, Keeping, keeping_after, keeping_step, KeepingInput, KeepingOutput},
+  Names.{lets_through, link_frame, List, map, MatchesDeliveries, newly_delivered, newly_delivered_with, newly_sent},
+  Names.{None, not, not_yet, now_durable, opening, opening_with, Option, passes, received, refl, reported_in, Run},
+  Names.{run_inside, RxRow, sent_from, sent_from_with, sent_in_all, sent_in_all_with, Some, Standing, standing},
+  Names.{standing_by, standing_of, sym, through, true},
+  Listed.delivers_each_listed,
+}
+use Rattle.macsec_restarts.specs.{
+  AheadRuns.{DeliversEachListedWith, MatchesDeliveriesWith},
+  AheadSteps.{IsAsBefore, IsKeepingInside, StepsInside, TakesTheStep},
+}
 
 -- ---- a step
 
@@ -50,7 +52,29 @@ steps_inside a input =
 pub step_inside : (a : Ahead) (input : KeepingInput) (b : Bool) → lets_through a input ≡ b →
     (ahead_step a input).1.k ≡ (if b then (keeping_step a.k input).1 else a.k)
 step_inside a input true is = (takes a input is).after
-step_inside a input false is = ap (λ (x : Ahead). x.k) (stays a input is)
+step_inside a input false is = rw (stays a input is)
+
+-- what holds of the keeping endpoint, and of it after its step, holds of it after a step
+pub by_inside : (P : Keeping → Type 0) (a : Ahead) (input : KeepingInput) → P a.k → P (keeping_step a.k input).1 →
+    P (ahead_step a input).1.k
+by_inside P a input stays goes = by_test (lets_through a input) refl
+  where
+    by_test : (b : Bool) → lets_through a input ≡ b → P (ahead_step a input).1.k
+    by_test true lets = rw (step_inside a input true lets) goes
+    by_test false lets = rw (step_inside a input false lets) stays
+
+-- a part that no step changes
+pub field_inside : {X : Type 0} (g : Keeping → X) →
+    ((k : Keeping) (input : KeepingInput) → g (keeping_step k input).1 ≡ g k) → (a : Ahead) (input : KeepingInput) →
+    g (ahead_step a input).1.k ≡ g a.k
+field_inside g same a input = by_inside (λ (k : Keeping). g k ≡ g a.k) a input refl (same a.k input)
+
+-- the same of the whole endpoint
+pub by_ahead : (P : Ahead → Type 0) (a : Ahead) (input : Input) (answer : KeepingOutput × Keeping) → P a →
+    P (ahead_by false passes a input answer).1 → (again : Bool) (it : Standing) →
+    P (ahead_by again it a input answer).1
+by_ahead P a input answer stays goes false passes = goes
+by_ahead P a input answer stays goes again it = stays
 
 -- ---- a run
 
@@ -67,12 +91,11 @@ k_inside (input ∷ inputs) a = by_test (lets_through a input) refl (k_inside in
         else through (ahead_step a input).1 inputs)
     by_test true is rest = rest ∙ ap (λ (k : Keeping). keeping_after k (through (ahead_step a input).1 inputs))
         (step_inside a input true is)
-    by_test false is rest = rest ∙ ap (λ (k : Keeping). keeping_after k (through (ahead_step a input).1 inputs))
-        (step_inside a input false is)
+    by_test false is rest = rw (rest, step_inside a input false is)
 
 reports : (inputs : List KeepingInput) (a : Ahead) → reported_in (through a inputs) ≡ reported_in inputs
 reports [] a = refl
-reports (now_durable r ∷ inputs) a = ap (λ rs. r ∷ rs) (reports inputs (ahead_step a (now_durable r)).1)
+reports (now_durable r ∷ inputs) a = rw (reports inputs (ahead_step a (now_durable r)).1)
 reports (endpoint_input input ∷ inputs) a = by_test (lets_through a (endpoint_input input))
     (reports inputs (ahead_step a (endpoint_input input)).1)
   where
@@ -111,9 +134,7 @@ all_pass a off (link_frame frame) = let j = judgement_of a.k.secy frame in
 all_pass a off input = refl
 
 pub is_as_before : (a : Ahead) (input : Input) → IsAsBefore a input
-is_as_before a input off again =
-    takes a (endpoint_input input) (ap (λ (b : Bool). is_through b (standing a input)) again
-    ∙ ap (is_through false) (all_pass a off input))
+is_as_before a input off again = takes a (endpoint_input input) (rw (again, all_pass a off input))
 
 -- ---- what it sends and delivers
 
@@ -165,16 +186,13 @@ pub sent_in_all_inside : (ahead : Bool) (runs : List Run) →
     sent_in_all (map (run_inside ahead) runs) ≡ sent_in_all_with ahead runs
 sent_in_all_inside ahead [] = refl
 sent_in_all_inside ahead (run ∷ runs) =
-    ap (λ xs. xs ++ sent_in_all (map (run_inside ahead) runs)) (sent_inside run.inputs (opening_with ahead run))
-    ∙ ap (λ xs. sent_from_with (opening_with ahead run) run.inputs ++ xs) (sent_in_all_inside ahead runs)
+    rw (sent_inside run.inputs (opening_with ahead run), sent_in_all_inside ahead runs)
 
 pub delivered_in_all_inside : (ahead : Bool) (runs : List Run) →
     delivered_in_all (map (run_inside ahead) runs) ≡ delivered_in_all_with ahead runs
 delivered_in_all_inside ahead [] = refl
 delivered_in_all_inside ahead (run ∷ runs) =
-    ap (λ xs. xs ++ delivered_in_all (map (run_inside ahead) runs))
-    (delivered_inside run.inputs (opening_with ahead run))
-    ∙ ap (λ xs. delivered_from_with (opening_with ahead run) run.inputs ++ xs) (delivered_in_all_inside ahead runs)
+    rw (delivered_inside run.inputs (opening_with ahead run), delivered_in_all_inside ahead runs)
 
 pub delivered_in_inside : (ahead : Bool) (run : Run) →
     delivered_from (opening (run_inside ahead run)) (run_inside ahead run).inputs ≡
@@ -196,14 +214,10 @@ carried a input same it' it = same ∙ it
 pub matches_by : (a : Ahead) (input : KeepingInput) (given : Input) (again : Bool) (it : Standing)
     (answer : KeepingOutput × Keeping) → lets_through a input ≡ is_through again it →
     MatchesDeliveries a.k input answer.0 → MatchesDeliveriesWith a input (ahead_by again it a given answer).0
-matches_by a input given true it answer same matches =
-    ap (λ (b : Bool). if b then newly_delivered a.k input else []) same
-matches_by a input given false (not_yet at) answer same matches =
-    ap (λ (b : Bool). if b then newly_delivered a.k input else []) same
-matches_by a input given false (before_this_run at) answer same matches =
-    ap (λ (b : Bool). if b then newly_delivered a.k input else []) same
-matches_by a input given false passes answer same matches =
-    carried a input (ap (λ (b : Bool). if b then newly_delivered a.k input else []) same) answer.0 matches
+matches_by a input given true it answer same matches = rw same
+matches_by a input given false (not_yet at) answer same matches = rw same
+matches_by a input given false (before_this_run at) answer same matches = rw same
+matches_by a input given false passes answer same matches = carried a input (rw same) answer.0 matches
 
 pub delivers_each_listed_with : (a : Ahead) (input : KeepingInput) → DeliversEachListedWith a input
 delivers_each_listed_with a (now_durable r) = refl

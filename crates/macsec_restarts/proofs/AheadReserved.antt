@@ -1,26 +1,19 @@
 -- A frame that was dropped because its PN was not reserved asks for a record, and passes once it is durable.
-use Rattle.std.proofs.Common.{◌≡◌, ℕ, ◌<◌, ◌≤◌, Bool, true, false, List, [], ◌∷◌, map, inl, inr, refl, ap, sym, subst, ◌∙◌, arith}
-use Rattle.std.specs.Prelude.{◌==◌, ◌+◌, ◌-◌, ◌/◌, ◌^◌, not, nat_le, max, min, if◌then◌else◌, option_map, Option, Some, None, IsSome}
-use Rattle.std.proofs.lemmas.Bool.{le-leb, leb-false, leb-true, lt-leb}
-use Rattle.macsec_gcm.specs.Octets.{same_octets}
-use Rattle.macsec_rx.specs.declared.RxRow.{RxRow}
-use Rattle.macsec_rx.specs.Judge.{Judgement}
-use Rattle.macsec_secy.specs.declared.fault.FrameFault.{FrameFault}
-use Rattle.macsec_secy.specs.Delivers.{DeliversFrom}
-use Rattle.macsec_secy.specs.Reception.{judgement_of}
-use Rattle.macsec_secy.specs.State.{State}
-use Rattle.macsec_secy.specs.Step.{Input, frame_fault, link_frame}
-use Rattle.macsec_link.proofs.Members.{IsMember, member_of_map}
-use Rattle.macsec_reserve.specs.declared.reservation.Reservation.{Reservation}
-use Rattle.macsec_reserve.specs.Entries.{raised_by}
-use Rattle.macsec_reserve.specs.Journal.{highest}
-use Rattle.macsec_reserve.specs.Keeping.{Keeping, KeepingOutput, endpoint_input, keeping_step, now_durable, wanted_last}
-use Rattle.macsec_reserve.specs.Replay.{row_name}
-use Rattle.macsec_reserve.proofs.Written.{same_octets-refl}
-use Rattle.macsec_rx.specs.declared.within.RxPn.{RxPn}
-use Rattle.macsec_ahead.specs.Ahead.{Ahead, Standing, ahead_by, ahead_step, before_this_run, dropped_not_reserved, for_each_row, not_yet, passes, standing_by}
-use Rattle.macsec_restarts.specs.AheadSteps.{AsksWhereDropped, PassesOnceReserved, ReachesPn, WantsEnough}
-use Rattle.macsec_restarts.proofs.RowSteps.{found_row}
+use Rattle.{
+  std.proofs.Common.{◌-◌, ◌/◌, min},
+  macsec_secy.specs.Delivers.DeliversFrom,
+  macsec_reserve.specs.Keeping.wanted_last,
+  macsec_restarts.proofs.{
+    Names.{[], ◌+◌, ◌<◌, ◌==◌, ◌^◌, ◌∙◌, ◌∷◌, ◌≡◌, ◌≤◌, Ahead, ahead_by, ahead_step, ap, arith, before_this_run, Bool},
+    Names.{dropped_not_reserved, endpoint_input, false, for_each_row, frame_fault, FrameFault, highest, if◌then◌else◌},
+    Names.{inl, Input, inr, IsMember, IsSome, Judgement, judgement_of, Keeping, keeping_step, KeepingOutput, le-leb},
+    Names.{leb-false, leb-true, link_frame, List, lt-leb, map, max, member_of_map, nat_le, None, not, not_yet},
+    Names.{now_durable, Option, option_map, passes, raised_by, refl, Reservation, row_name, RxPn, RxRow, same_octets},
+    Names.{same_octets-refl, Some, Standing, standing_by, State, subst, sym, true, ℕ},
+    RowSteps.found_row,
+  },
+  macsec_restarts.specs.AheadSteps.{AsksWhereDropped, PassesOnceReserved, ReachesPn, WantsEnough},
+}
 
 -- ---- a report raises an entry of its name to its number
 
@@ -41,10 +34,10 @@ first_of e es = by_name (same_octets e.name e.name) (same_octets-refl e.name)
 raised_covers : (r : Reservation) (entries : List Reservation) (x : Reservation) → IsMember entries x → x.name ≡ r.name → r.last ≤ highest (map (raised_by r) entries) r.name
 raised_covers r [] x there same = absurd there
 raised_covers r (e ∷ es) x (inr later) same = omega (arith, raised_covers r es x later same, more_of (raised_by r e) (map (raised_by r) es) r.name)
-raised_covers r (e ∷ es) x (inl here) same = by_own (same_octets e.name r.name) (ap (λ n. same_octets n r.name) own ∙ same_octets-refl r.name)
+raised_covers r (e ∷ es) x (inl here) same = by_own (same_octets e.name r.name) (rw (own, same_octets-refl r.name))
   where
     own : e.name ≡ r.name
-    own = ap (λ (z : Reservation). z.name) here ∙ same
+    own = rw (here, same)
 
     by_own : (b : Bool) → b ≡ true → r.last ≤ highest ((if b then record e { last = max e.last r.last } else e) ∷ map (raised_by r) es) r.name
     by_own false is = cc
@@ -115,7 +108,7 @@ wants_enough a amount next row r wanted = by_last (wanted_last (highest a.taken 
     by_last (Some last) is some =
         let one : record { name = own; last = last } ≡ r = cc in
         let reaches : next ≤ last = by_tests (nat_le (2 ^ 64) next) (nat_le (min (next + amount / 2) (2 ^ 64 - 1)) (highest a.taken own)) refl last is in
-        subst (ReachesPn a next row) one (record { name = refl; last = reaches })
+        rw (← one) (record { name = refl; last = reaches })
 
 -- what the tests say of a PN that is not reserved yet
 record IsNotReserved (a : Ahead) (j : Judgement) (row : RxRow) (at : RxPn) : Type 0 where

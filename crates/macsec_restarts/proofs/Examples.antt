@@ -10,6 +10,7 @@ pub mod Replays
 pub mod InsideBlocks
 pub mod ReservesAhead
 pub mod Extended
+pub mod ExtendedForgets
 pub mod OtherSuites
 pub mod Rewound
 pub mod Forgets

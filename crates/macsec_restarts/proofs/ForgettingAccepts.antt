@@ -1,21 +1,17 @@
 -- With the option, an endpoint that forgets keys also accepts only what is reserved. No premise is about soundness: no
 -- command changes what is reserved, nor the journal's salt and records.
-use Rattle.std.proofs.Common.{◌≡◌, ℕ, ◌≤◌, true, List, [], ◌∷◌, get_or, refl, ap, subst, ◌∙◌, arith, All}
-use Rattle.std.specs.Prelude.{max}
-use Rattle.std.proofs.lemmas.List.Elements.{All-append, All-contains, All-nil, All-weaker}
-use Rattle.macsec_reserve.specs.declared.reservation.Reservation.{Reservation}
-use Rattle.macsec_reserve.specs.Entries.{reduced}
-use Rattle.macsec_reserve.specs.Forgetting.{forgetting_step}
-use Rattle.macsec_reserve.specs.Histories.{KeepsDurable, Run, SameSalt, reported_in}
-use Rattle.macsec_reserve.specs.Journal.{highest, reservations, salt_of}
-use Rattle.macsec_reserve.specs.Keeping.{Keeping, KeepingInput, endpoint_input, now_durable}
-use Rattle.macsec_reserve.proofs.Reduced.{reduced_reserves}
-use Rattle.macsec_ahead.specs.Ahead.{Ahead, AheadOutput, begins_again, opening_with, standing}
-use Rattle.macsec_restarts.specs.AheadForgetting.{AcceptsAboveForgetting, AcceptsAboveForgettingInAll, AcceptsReservedForgetting, accepted_from_forgetting, accepted_in_forgetting, ahead_forgetting_step}
-use Rattle.macsec_restarts.specs.AheadRuns.{delivery_name, newly_accepted}
-use Rattle.macsec_restarts.specs.Delivered.{Delivery}
-use Rattle.macsec_restarts.proofs.AheadAccepts.{IsWithin, most_of, option_by, reserved_above, taken_step, within_input}
-use Rattle.macsec_restarts.proofs.AheadForgets.{before_kept, field_forgetting, forgetting_is, salt_kept}
+use Rattle.macsec_restarts.{
+  proofs.{
+    Names.{[], ◌∙◌, ◌∷◌, ◌≡◌, ◌≤◌, accepted_from_forgetting, AcceptsAboveForgetting, Ahead, ahead_forgetting_step},
+    Names.{AheadOutput, All, All-append, All-contains, All-nil, All-weaker, ap, arith, begins_again, Delivery},
+    Names.{delivery_name, endpoint_input, forgetting_step, get_or, highest, Keeping, KeepingInput, KeepsDurable, List},
+    Names.{max, newly_accepted, now_durable, opening_with, reduced, reduced_reserves, refl, reported_in, Reservation},
+    Names.{reservations, Run, salt_of, SameSalt, standing, subst, true, ℕ},
+    AheadAccepts.{IsWithin, most_of, option_by, reserved_above, taken_step, within_input},
+    AheadForgets.{before_kept, field_forgetting, forgetting_is, salt_kept},
+  },
+  specs.AheadForgetting.{AcceptsAboveForgettingInAll, AcceptsReservedForgetting, accepted_in_forgetting},
+}
 
 option_kept : (l : Ahead) (input : KeepingInput) → (ahead_forgetting_step l input).1.ahead ≡ l.ahead
 option_kept l (now_durable r) = refl

@@ -1,44 +1,29 @@
 -- Where deleted SAs ended is remembered by endpoints that forget keys, and what was saved of an SA is not delivered
 -- again.
-use Rattle.std.proofs.Common.{◌≡◌, ℕ, ◌+◌, ◌<◌, ◌≤◌, Bool, true, false, List, [], ◌∷◌, inl, inr, refl, ap, sym, subst, ◌∙◌, arith, All}
-use Rattle.std.specs.Prelude.{◌&&◌, nat_le, nat_lt, max, take, if◌then◌else◌, unwrap_or, Option, Some, None}
-use Rattle.std.proofs.lemmas.Bool.{and_from, le-leb, lt-ltb}
-use Rattle.std.proofs.lemmas.List.Elements.{All-cons, All-contains, All-head, All-nil, All-tail, All-weaker}
-use Rattle.macsec_gcm.specs.Octets.{same_octets}
-use Rattle.macsec_tag.specs.declared.identifiers.Sci.{Sci}
-use Rattle.macsec_commands.specs.declared.command.Command.{Command}
-use Rattle.macsec_commands.specs.declared.command.Command.TheVariants.{Key, Retire, RxSa}
-use Rattle.macsec_rx.specs.declared.RxRow.{RxRow}
-use Rattle.macsec_rx.specs.Channels.{Channels, rx_row}
-use Rattle.macsec_secy.specs.declared.fault.FrameFault.{FrameFault}
-use Rattle.macsec_secy.specs.Delivers.{IsDeliveredFrom}
-use Rattle.macsec_secy.specs.GivenUp.{IsGivenUp}
-use Rattle.macsec_secy.specs.Kept.{IsAbove}
-use Rattle.macsec_secy.specs.Reception.{judgement_of, state_after_receiving}
-use Rattle.macsec_secy.specs.Sound.{IsSound}
-use Rattle.macsec_secy.specs.State.{State}
-use Rattle.macsec_secy.specs.Step.{link_frame, operator_command, received_output, step, unless_fault}
 use Rattle.macsec_secy.proofs.GivenUp.{stays_replaced}
-use Rattle.macsec_link.proofs.EndpointLaws.{EndpointLaws}
-use Rattle.macsec_reserve.specs.declared.reservation.Reservation.{Reservation}
-use Rattle.macsec_reserve.specs.Forgetting.{can_forget, fingerprint_of, forgetting, forgetting_step, is_done, retired_by, taken, then_forget}
-use Rattle.macsec_reserve.specs.Histories.{Run, closing, reported}
-use Rattle.macsec_reserve.specs.Journal.{highest, receiving_name, reservations, salt_of, sending_name}
-use Rattle.macsec_reserve.specs.Keeping.{Keeping, KeepingInput, KeepingOutput, endpoint_input, keeping_step, now_durable}
-use Rattle.macsec_reserve.specs.Replay.{KeepsAssociation, SavesAccepted, row_name, saved_for}
-use Rattle.macsec_reserve.proofs.Steps.{received_step}
-use Rattle.macsec_reserve.proofs.Written.{same_octets-refl}
-use Rattle.macsec_ahead.specs.Ahead.{Ahead, ahead_by, ahead_step, begins_again, lets_through, opening_with, passes, through}
-use Rattle.macsec_ahead.specs.Ends.{end_of}
-use Rattle.macsec_restarts.specs.AheadForgetting.{ahead_forgetting_after, ahead_forgetting_step}
-use Rattle.macsec_restarts.specs.ForgettingEnds.{KeepsEndsForgetting, NeverDeliversAgainUnderWith, NeverDeliversAgainWith, RefusesBelowEndForgetting, RemembersEndForgetting, after_with}
-use Rattle.macsec_restarts.specs.Kept.{RunWith, inside_of}
-use Rattle.macsec_restarts.proofs.AheadEnds.{GivesUpBy, KeepsByRetiring, StaysUnless, after_command, ends_step, given_up_stays, keeps_given_up, not_gone, remembers_by, remembers_end, retires, row_kept}
-use Rattle.macsec_restarts.proofs.AheadForgets.{KeepersAlike, forgets_field, forgets_inside, forgetting_stays}
-use Rattle.macsec_restarts.proofs.AheadInside.{k_inside, step_inside, stays}
-use Rattle.macsec_restarts.proofs.InOrder.{Fresh}
-use Rattle.macsec_restarts.proofs.RunsWith.{same_beside, unused_beside}
-use Rattle.macsec_restarts.proofs.SameBut.{judged_same, name_same, row_there}
+use Rattle.macsec_reserve.specs.{Forgetting.fingerprint_of, Replay.{SavesAccepted, saved_for}}
+use Rattle.macsec_restarts.{
+  proofs.{
+    Names.{[], ◌&&◌, ◌+◌, ◌<◌, ◌∙◌, ◌∷◌, ◌≡◌, ◌≤◌, Ahead, ahead_forgetting_after, ahead_forgetting_step, ahead_step},
+    Names.{All, All-cons, All-contains, All-head, All-nil, All-tail, All-weaker, and_from, ap, arith, begins_again},
+    Names.{Bool, can_forget, closing, Command, end_of, endpoint_input, EndpointLaws, false, forgetting},
+    Names.{forgetting_step, highest, if◌then◌else◌, inl, inr, inside_of, is_done, IsAbove, IsDeliveredFrom, IsGivenUp},
+    Names.{IsSound, judgement_of, Keeping, keeping_step, KeepingInput, KeepingOutput, KeepsAssociation, Key, le-leb},
+    Names.{link_frame, List, lt-ltb, max, nat_le, nat_lt, None, now_durable, opening_with, operator_command, Option},
+    Names.{passes, received_step, receiving_name, refl, reported, Reservation, reservations, Retire, retired_by},
+    Names.{row_name, Run, RunWith, rx_row, RxRow, RxSa, salt_of, same_octets, same_octets-refl, Sci, sending_name},
+    Names.{Some, State, state_after_receiving, step, subst, sym, take, taken, then_forget, through, true, unwrap_or, ℕ},
+    AheadEnds.{GivesUpBy, KeepsByRetiring, StaysUnless, after_command, ends_step, keeps_given_up, not_gone},
+    AheadEnds.{remembers_by, remembers_end, retires, row_kept},
+    AheadForgets.{KeepersAlike, by_forgetting, forgets_field},
+    AheadInside.{by_inside, k_inside, step_inside},
+    Placed.Fresh,
+    RunsWith.{same_beside, unused_beside},
+    SameBut.{judged_same, name_same, row_there},
+  },
+  specs.ForgettingEnds.{KeepsEndsForgetting, NeverDeliversAgainUnderWith, NeverDeliversAgainWith},
+  specs.ForgettingEnds.{RefusesBelowEndForgetting, RemembersEndForgetting, after_with},
+}
 
 -- ---- what forgetting leaves
 
@@ -63,17 +48,10 @@ given_up_forgetting : (k : Keeping) (input : KeepingInput) (n : ℕ) → IsGiven
 given_up_forgetting k input n up = still_given_up (retired_by input) (keeping_step k (taken k input)) n
     (keeps_given_up k (taken k input) n up)
 
-given_up_by : (c : Command) (again : Bool) (a : Ahead) (n : ℕ) → IsGivenUp a.k.secy n →
-    IsGivenUp (ahead_by again passes a (operator_command c)
-    (forgetting_step a.k (endpoint_input (operator_command c)))).1.k.secy n
-given_up_by c true a n up = up
-given_up_by c false a n up = given_up_forgetting a.k (endpoint_input (operator_command c)) n up
-
 given_up_step : (a : Ahead) (input : KeepingInput) (n : ℕ) → IsGivenUp a.k.secy n →
     IsGivenUp (ahead_forgetting_step a input).1.k.secy n
-given_up_step a (now_durable r) n up = given_up_stays a (now_durable r) n up
-given_up_step a (endpoint_input (operator_command c)) n up = given_up_by c (begins_again a (operator_command c)) a n up
-given_up_step a input n up = given_up_stays a input n up
+given_up_step a input n up =
+    by_forgetting (λ (k : Keeping). IsGivenUp k.secy n) a input up (given_up_forgetting a.k input n up)
 
 given_up_later : (inputs : List KeepingInput) (a : Ahead) (n : ℕ) → IsGivenUp a.k.secy n →
     IsGivenUp (ahead_forgetting_after a inputs).k.secy n
@@ -114,8 +92,7 @@ keeps_by_retiring : (k : Keeping) (row : RxRow) → rx_row k.secy.rx.rows row.sc
     KeepsByRetiring c (forgetting_step k (endpoint_input (operator_command c))) row
 keeps_by_retiring k row there (Retire n) = λ none.
     not_gone k (endpoint_input (operator_command (Retire n))) row refl there
-    (subst (λ (rx : Channels). rx_row rx.rows row.sci row.an ≡ None)
-    (same_rx k (endpoint_input (operator_command (Retire n)))) none)
+    (rw (same_rx k (endpoint_input (operator_command (Retire n)))) at none)
 keeps_by_retiring k row there c = tt
 
 pub remembers_end_forgetting : (a : Ahead) (input : KeepingInput) (row : RxRow) → RemembersEndForgetting a input row
@@ -129,8 +106,7 @@ pub refuses_below_end_forgetting : (a : Ahead) (sci : Sci) (an key ssci lowest :
     RefusesBelowEndForgetting a sci an key ssci lowest
 refuses_below_end_forgetting a sci an key ssci lowest least below =
     let input = operator_command (RxSa sci an key ssci lowest) in
-    ap (λ (b : Bool). ahead_by b passes a input (forgetting_step a.k (endpoint_input input)))
-    (and_from (nat_lt 0 lowest) (nat_le lowest (end_of a.ended key sci an)) (lt-ltb 0 lowest least)
+    rw (and_from (nat_lt 0 lowest) (nat_le lowest (end_of a.ended key sci an)) (lt-ltb 0 lowest least)
     (le-leb lowest (end_of a.ended key sci an) below))
 
 -- ---- an SA that is not deleted keeps its next number
@@ -144,25 +120,15 @@ keeps_taken k sci an (endpoint_input input) keeps = keeps
 above_forgetting : (a : Ahead) (input : KeepingInput) (sci : Sci) (an n : ℕ) → KeepsAssociation sci an input →
     IsAbove a.k.secy.rx.rows sci an n →
     IsAbove (ahead_forgetting_step a input).1.k.secy.rx.rows sci an n
-above_forgetting a input sci an n keeps above = by_test (lets_through a input) refl
-  where
-    by_test : (b : Bool) → lets_through a input ≡ b → IsAbove (ahead_forgetting_step a input).1.k.secy.rx.rows sci an n
-    by_test true lets =
-        subst (λ (k : Keeping). IsAbove k.secy.rx.rows sci an n) (sym (forgets_inside a input lets))
-        (subst (λ (rx : Channels). IsAbove rx.rows sci an n) (sym (same_rx a.k input))
-        (row_kept a.k (taken a.k input) sci an n (keeps_taken a.k sci an input keeps) above))
-    by_test false lets = subst (λ (x : Ahead). IsAbove x.k.secy.rx.rows sci an n)
-        (sym (forgetting_stays a input lets)) above
+above_forgetting a input sci an n keeps above =
+    by_forgetting (λ (k : Keeping). IsAbove k.secy.rx.rows sci an n) a input above
+    (rw (same_rx a.k input) (row_kept a.k (taken a.k input) sci an n (keeps_taken a.k sci an input keeps) above))
 
 above_ahead : (a : Ahead) (input : KeepingInput) (sci : Sci) (an n : ℕ) → KeepsAssociation sci an input →
     IsAbove a.k.secy.rx.rows sci an n →
     IsAbove (ahead_step a input).1.k.secy.rx.rows sci an n
-above_ahead a input sci an n keeps above = by_test (lets_through a input) refl
-  where
-    by_test : (b : Bool) → lets_through a input ≡ b → IsAbove (ahead_step a input).1.k.secy.rx.rows sci an n
-    by_test true lets = subst (λ (k : Keeping). IsAbove k.secy.rx.rows sci an n) (sym (step_inside a input true lets))
-        (row_kept a.k input sci an n keeps above)
-    by_test false lets = subst (λ (x : Ahead). IsAbove x.k.secy.rx.rows sci an n) (sym (stays a input lets)) above
+above_ahead a input sci an n keeps above =
+    by_inside (λ (k : Keeping). IsAbove k.secy.rx.rows sci an n) a input above (row_kept a.k input sci an n keeps above)
 
 above_on : (forgets : Bool) (inputs : List KeepingInput) (a : Ahead) (sci : Sci) (an n : ℕ) →
     All (KeepsAssociation sci an) inputs → IsAbove a.k.secy.rx.rows sci an n →
@@ -195,15 +161,14 @@ module _ (alike : KeepersAlike) (fresh : Fresh) where
       let same = same_beside alike r sound in
       let unused = unused_beside alike r in
       let judged = judged_same s t same unused frame in
-      let replay' : s.options.replay ≡ true = sym (ap (λ (x : State). x.options.replay) same.same) ∙ replay in
-      let of_row' : (judgement_of s frame).row ≡ Some row = sym (ap (λ j. j.row) judged) ∙ of_row in
+      let replay' : s.options.replay ≡ true = sym (rw same.same) ∙ replay in
+      let of_row' : (judgement_of s frame).row ≡ Some row = rw (← judged, of_row) in
       let above : highest (reservations later.journal)
       (row_name (salt_of later.journal) s row) < (judgement_of s frame).number =
-      fresh q q.inputs frame row delivered replay' of_row' (sym (ap (λ j. j.delivered) judged) ∙ delivers) in
+      fresh q q.inputs frame row delivered replay' of_row' (rw (← judged, delivers)) in
       subst (λ (n : ℕ). highest (reservations later.journal) (row_name (salt_of later.journal) t row) < n)
       (sym (ap (λ j. j.number) judged))
-      (subst (λ (n : List ℕ). highest (reservations later.journal) n < (judgement_of s frame).number)
-      (sym (name_same s t same unused (salt_of later.journal) row (row_there s frame row of_row'))) above)
+      (rw (name_same s t same unused (salt_of later.journal) row (row_there s frame row of_row')) above)
   above_saved false other later inputs frame row delivered sound replay of_row delivers =
       let q : Run = record later { inputs = through (opening_with other later) inputs } in
       let P : Keeping → Type 0 = λ k.
@@ -254,21 +219,13 @@ module _ (alike : KeepersAlike) (laws : EndpointLaws) (fresh : Fresh) (saves : S
       let accepted : IsAbove (state_after_receiving s saved.frame j).rx.rows saved.from.sci saved.from.an
       (j.number + 1) = tells.accepted saved.accepted.step in
       let stepped : IsAbove (step s (link_frame saved.frame)).1.rx.rows saved.from.sci saved.from.an (j.number + 1) =
-      subst (λ (f : Option FrameFault). IsAbove (unless_fault f s
-      (received_output saved.frame j, state_after_receiving s saved.frame j)).1.rx.rows saved.from.sci saved.from.an
-      (j.number + 1))
-      (sym saved.accepted.fits) accepted in
+      rw saved.accepted.fits accepted in
       let kept : IsAbove (keeping_step l.k link).1.secy.rx.rows saved.from.sci saved.from.an (j.number + 1) =
-      subst (λ (a : KeepingOutput × Keeping). IsAbove a.1.secy.rx.rows saved.from.sci saved.from.an (j.number + 1))
-      (sym (received_step l.k saved.frame)) stepped in
+      rw (received_step l.k saved.frame) stepped in
       let first : IsAbove (ahead_forgetting_step l link).1.k.secy.rx.rows saved.from.sci saved.from.an (n + 1) =
-      subst (λ (m : ℕ). IsAbove (ahead_forgetting_step l link).1.k.secy.rx.rows saved.from.sci saved.from.an (m + 1))
-      saved.number
-      (subst (λ (k : Keeping). IsAbove k.secy.rx.rows saved.from.sci saved.from.an (j.number + 1))
-      (sym (step_inside l link true saved.passes)) kept) in
+      rw (← saved.number) (rw (step_inside l link true saved.passes) kept) in
       let at_last : IsAbove saved.last.k.secy.rx.rows saved.from.sci saved.from.an (n + 1) =
-      subst (λ (x : Ahead). IsAbove x.k.secy.rx.rows saved.from.sci saved.from.an (n + 1)) (sym saved.last_is)
-      (above_on forgets saved.then_on (ahead_forgetting_step l link).1 saved.from.sci saved.from.an
+      rw saved.last_is (above_on forgets saved.then_on (ahead_forgetting_step l link).1 saved.from.sci saved.from.an
       (n + 1) saved.keeps first) in
       let one : at_last.row ≡ saved.row = ap (λ (o : Option RxRow). unwrap_or o saved.row)
       (sym at_last.there ∙ saved.there) in
@@ -281,12 +238,11 @@ module _ (alike : KeepersAlike) (laws : EndpointLaws) (fresh : Fresh) (saves : S
       All-contains (λ (x : Reservation). x.last ≤ highest (reported run) x.name) (reported run)
       (saved_for saved.last.k.salt saved.last.k.secy saved.row) (has_highest (reported run)) saved.durable in
       let under : (saved_for saved.last.k.salt saved.last.k.secy saved.row).last ≤ highest (reported run) name =
-      subst (λ (m : List ℕ). (saved_for saved.last.k.salt saved.last.k.secy saved.row).last ≤ highest (reported run) m)
-      saved.name_is granted in
+      rw saved.name_is at granted in
       let t = (after_with forgets (opening_with other later) inputs).k.secy in
       let above : highest (reservations later.journal) name < (judgement_of t frame).number =
-      subst (λ (m : List ℕ). highest (reservations later.journal) m < (judgement_of t frame).number) is_name
-      (above_saved alike fresh forgets other later inputs frame row delivered sound replay of_row delivers) in
+      rw is_name at (above_saved alike fresh forgets other later inputs frame row delivered sound replay of_row
+      delivers) in
       omega (arith, covers, under, reads, above)
 
   pub never_delivers_again_under_with : (forgets ahead other : Bool) (run later : Run) (bytes : List ℕ) (sci : Sci)
@@ -296,7 +252,4 @@ module _ (alike : KeepersAlike) (laws : EndpointLaws) (fresh : Fresh) (saves : S
       never_delivers_again_with forgets ahead other run later
       (receiving_name (sending_name (salt_of run.journal) bytes) sci an) n saved reads
       inputs frame row delivered sound replay of_row delivers
-      (ap (λ (b : List ℕ). receiving_name (sending_name (salt_of later.journal) b) row.sci row.an) is_key
-      ∙ ap (λ (x : List ℕ). receiving_name (sending_name x bytes) row.sci row.an) salt
-      ∙ ap (λ (x : Sci). receiving_name (sending_name (salt_of run.journal) bytes) x row.an) is_sci
-      ∙ ap (λ (k : ℕ). receiving_name (sending_name (salt_of run.journal) bytes) sci k) is_an)
+      (rw (is_key, salt, is_sci, is_an))

@@ -1,29 +1,18 @@
 -- What ends send whose endpoints forget keys: packet numbers rise, and no IV comes twice at both ends.
-use Rattle.std.proofs.Common.{◌≡◌, Bool, true, false, List, [], ◌∷◌, ◌++◌, map, get_or, refl, ap, ap₂, sym, subst, ◌∙◌, ◌≤◌, All, AllPairs}
-use Rattle.std.specs.Prelude.{if◌then◌else◌}
-use Rattle.std.proofs.lemmas.List.Elements.{All-head, All-map, All-tail, All-weaker}
-use Rattle.std.proofs.lemmas.List.Kept.{AllPairs-cons}
-use Rattle.macsec_suite.specs.CipherUses.{CipherUse}
-use Rattle.macsec_link.proofs.EndpointLaws.{EndpointLaws}
-use Rattle.macsec_reserve.specs.declared.reservation.Reservation.{Reservation}
-use Rattle.macsec_reserve.specs.Forgotten.{installs_retired}
-use Rattle.macsec_reserve.specs.Histories.{KeepsDurable, Run, SameSalt, opening, reported, reported_in, sealed_in_all}
-use Rattle.macsec_reserve.specs.Journal.{highest, reservations}
-use Rattle.macsec_reserve.specs.Keeping.{KeepingInput, endpoint_input, now_durable}
 use Rattle.macsec_reserve.specs.TwoEnds.{RepeatsNoIvAtBoth}
-use Rattle.macsec_reserve.specs.Unique.{HasOtherIv}
-use Rattle.macsec_reserve.proofs.Pairs.{no_pairs, pairs-head, pairs-tail}
-use Rattle.macsec_ahead.specs.Ahead.{Ahead, opening_with, run_inside}
-use Rattle.macsec_restarts.specs.AheadForgetting.{IsSoundForgetting, ahead_forgetting_step, others_with, remembering}
-use Rattle.macsec_restarts.specs.AheadRuns.{sent_in_all_with}
-use Rattle.macsec_restarts.specs.ForgettingOrder.{sent_in_all_forgetting}
-use Rattle.macsec_restarts.specs.Sent.{Rises, SentIn, sent_from, sent_in_all}
-use Rattle.macsec_restarts.specs.Used.{NoIvAtBothForgetting, NumbersRiseForgetting, inner, seal_of}
-use Rattle.macsec_restarts.proofs.AheadForgets.{KeepersAlike, ahead_forgets_alike, stays_sound_inside}
-use Rattle.macsec_restarts.proofs.AheadInside.{is_keeping_inside, sent_in_all_inside}
-use Rattle.macsec_restarts.proofs.Sends.{seals_of_runs}
-use Rattle.macsec_restarts.proofs.SendsRise.{sends_rise}
-use Rattle.macsec_restarts.proofs.SoundRuns.{IsSoundRun}
+use Rattle.macsec_restarts.proofs.{
+  Names.{[], ◌++◌, ◌∙◌, ◌∷◌, ◌≡◌, Ahead, ahead_forgetting_step, All, All-head, All-map, All-tail, All-weaker, AllPairs},
+  Names.{AllPairs-cons, ap₂, Bool, CipherUse, endpoint_input, EndpointLaws, false, get_or, if◌then◌else◌, inner},
+  Names.{installs_retired, IsSoundForgetting, KeepingInput, KeepsDurable, List, map, no_pairs, now_durable},
+  Names.{opening_with, others_with, pairs-head, pairs-tail, refl, remembering, reported, reported_in, Run, run_inside},
+  Names.{SameSalt, seal_of, sealed_in_all, sent_in_all, sent_in_all_forgetting, sent_in_all_with, SentIn, sym, true},
+  AheadForgets.{KeepersAlike, ahead_forgets_alike, stays_sound_inside},
+  AheadInside.{is_keeping_inside, sent_in_all_inside},
+  Sends.seals_of_runs,
+  SendsRise.sends_rise,
+  SoundRuns.IsSoundRun,
+}
+use Rattle.macsec_restarts.specs.Used.{NoIvAtBothForgetting, NumbersRiseForgetting}
 
 -- ---- what is sent
 
@@ -32,7 +21,7 @@ sends_same alike ahead runs sounds = again runs ∙ sent_in_all_inside ahead (ma
   where
     again : (rs : List Run) → sent_in_all (map (inner ahead) rs) ≡ sent_in_all (map (run_inside ahead) (map (remembering ahead) rs))
     again [] = refl
-    again (r ∷ rs) = ap (λ (xs : List SentIn). sent_from (opening (inner ahead r)) (inner ahead r).inputs ++ xs) (again rs)
+    again (r ∷ rs) = rw (again rs)
 
     with_all : (rs : List Run) → All (IsSoundForgetting ahead) rs → sent_in_all_with ahead (map (remembering ahead) rs) ≡ sent_in_all_forgetting ahead rs
     with_all [] sounds' = refl
@@ -50,7 +39,7 @@ reports_if true l (now_durable r) inputs is = cc
 
 one_more_report : (input : KeepingInput) (inputs inputs' : List KeepingInput) → reported_in inputs' ≡ reported_in inputs → reported_in (input ∷ inputs') ≡ reported_in (input ∷ inputs)
 one_more_report (endpoint_input input) inputs inputs' same = same
-one_more_report (now_durable r) inputs inputs' same = ap (λ (rs : List Reservation). r ∷ rs) same
+one_more_report (now_durable r) inputs inputs' same = rw same
 
 pub reports_kept : (inputs : List KeepingInput) (l : Ahead) → reported_in (others_with l inputs) ≡ reported_in inputs
 reports_kept [] l = refl
@@ -62,8 +51,7 @@ pub reports_same : (ahead : Bool) (run : Run) → reported (inner ahead run) ≡
 reports_same ahead run = (is_keeping_inside ahead (remembering ahead run)).reports ∙ reports_kept run.inputs (opening_with ahead run)
 
 durable_same : (ahead : Bool) (run later : Run) → KeepsDurable run later → KeepsDurable (inner ahead run) (inner ahead later)
-durable_same ahead run later durable name =
-    subst (λ (rs : List Reservation). highest rs name ≤ highest (reservations later.journal) name) (sym (reports_same ahead run)) (durable name)
+durable_same ahead run later durable name = rw (reports_same ahead run) (durable name)
 
 pub pairs-map : {X Y : Type 0} (f : X → Y) (R : Y → Y → Type 0) (xs : List X) → AllPairs (λ x y. R (f x) (f y)) xs → AllPairs R (map f xs)
 pairs-map f R [] pairs = no_pairs R
@@ -74,8 +62,7 @@ pairs-map f R (x ∷ xs) pairs =
 
 pub numbers_rise_forgetting : KeepersAlike → EndpointLaws → (ahead : Bool) (runs : List Run) → NumbersRiseForgetting ahead runs
 numbers_rise_forgetting alike laws ahead runs sounds salt durable =
-    subst (AllPairs Rises) (sends_same alike ahead runs sounds)
-    (sends_rise laws (map (inner ahead) runs)
+    rw (sends_same alike ahead runs sounds) at (sends_rise laws (map (inner ahead) runs)
     (All-map IsSoundRun (inner ahead) runs (All-weaker (IsSoundForgetting ahead) (λ run. IsSoundRun (inner ahead run)) (λ run. stays_sound_inside alike ahead run) runs sounds))
     (pairs-map (inner ahead) SameSalt runs salt)
     (pairs-map (inner ahead) KeepsDurable runs (λ i j d less within. durable_same ahead (get_or runs i d) (get_or runs j d) (durable i j d less within))))
@@ -83,9 +70,9 @@ numbers_rise_forgetting alike laws ahead runs sounds salt durable =
 -- ---- no IV at both ends
 
 seals_same : KeepersAlike → (ahead : Bool) (runs : List Run) → All (IsSoundForgetting ahead) runs → sealed_in_all (map (inner ahead) runs) ≡ map seal_of (sent_in_all_forgetting ahead runs)
-seals_same alike ahead runs sounds = sym (seals_of_runs (map (inner ahead) runs)) ∙ ap (map seal_of) (sends_same alike ahead runs sounds)
+seals_same alike ahead runs sounds = rw (← seals_of_runs (map (inner ahead) runs), sends_same alike ahead runs sounds)
 
 pub no_iv_at_both_forgetting : KeepersAlike → ((runs others : List Run) → RepeatsNoIvAtBoth runs others) → (ahead other : Bool) (runs others : List Run) → NoIvAtBothForgetting ahead other runs others
 no_iv_at_both_forgetting alike law ahead other runs others sounds sounds' history history' apart =
-    subst (AllPairs HasOtherIv) (ap₂ (λ (xs ys : List CipherUse). xs ++ ys) (seals_same alike ahead runs sounds) (seals_same alike other others sounds'))
-    (law (map (inner ahead) runs) (map (inner other) others) history history' apart)
+    rw (ap₂ (λ (xs ys : List CipherUse). xs ++ ys) (seals_same alike ahead runs sounds) (seals_same alike other others
+    sounds')) at (law (map (inner ahead) runs) (map (inner other) others) history history' apart)

@@ -1,24 +1,17 @@
 -- In the mode Strict nothing is delivered without a receive SA: by the steps of reception.
-use Rattle.std.proofs.Common.{◌≡◌, ℕ, Bool, true, false, List, ap, sym, subst}
-use Rattle.std.specs.Prelude.{◌&&◌, ◌||◌, not, if◌then◌else◌, Option, Some, None}
-use Rattle.macsec_tag.specs.Frame.{MpduParts}
-use Rattle.macsec_tag.specs.Table.{Reading, bad, reading, tagged, untagged}
-use Rattle.macsec_pn.specs.Numbers.{is_late}
-use Rattle.macsec_suite.specs.KeyRows.{InstalledKey, the_key}
-use Rattle.macsec_suite.specs.declared.refusal.Refusal.{Refusal}
-use Rattle.macsec_tx.specs.Transmit.{Leaving, plain, protected, no_sa, too_long}
-use Rattle.macsec_rx.specs.declared.RxOptions.{RxOptions}
-use Rattle.macsec_rx.specs.declared.RxRow.{RxRow}
-use Rattle.macsec_rx.specs.declared.Verdict.TheVariants.{NoTag, Untagged, Reserved, NoSa, NoSaError, Late, NotValid, Unchecked, Delayed, Invalid}
-use Rattle.macsec_rx.specs.Judge.{Judgement, at_row, bare_frame, in_use, is_disabled, is_strict, judge_number, judge_opened, judge_row, judge_validated, number_of_frame, plaintext_of, sci_of, without_row}
-use Rattle.macsec_secy.specs.declared.fault.FrameFault.{FrameFault}
-use Rattle.macsec_secy.specs.Commands.{refusal, state_after_command}
-use Rattle.macsec_secy.specs.Reception.{judge_reading, judgement_of, state_after_receiving}
-use Rattle.macsec_secy.specs.State.{State, rx_options}
-use Rattle.macsec_secy.specs.Step.{client_frame, command_output, frame_fault, leaves, link_frame, operator_command, received_output, sending_of, sent_output, state_after_sending, uncontrolled_frame, unless_fault}
-use Rattle.macsec_reserve.specs.Keeping.{Keeping, KeepingInput, KeepingOutput, endpoint_input, endpoint_output, is_below_floor, may_go, now_durable}
-use Rattle.macsec_reserve.proofs.Steps.{by_tests, received_step}
-use Rattle.macsec_restarts.specs.Delivered.{DeliversFromSas, IsFromSa}
+use Rattle.macsec_restarts.{
+  proofs.Names.{◌&&◌, ◌||◌, ◌≡◌, at_row, bad, bare_frame, Bool, by_tests, client_frame, command_output, Delayed},
+  proofs.Names.{endpoint_input, endpoint_output, false, frame_fault, FrameFault, if◌then◌else◌, in_use, InstalledKey},
+  proofs.Names.{Invalid, is_below_floor, is_disabled, is_late, is_strict, IsFromSa, judge_number, judge_opened},
+  proofs.Names.{judge_reading, judge_row, judge_validated, Judgement, judgement_of, Keeping, KeepingInput, Late},
+  proofs.Names.{leaves, Leaving, link_frame, List, may_go, MpduParts, no_sa, None, NoSa, NoSaError, not, NoTag},
+  proofs.Names.{NotValid, now_durable, number_of_frame, operator_command, Option, plain, plaintext_of, protected},
+  proofs.Names.{Reading, reading, received_output, received_step, Refusal, refusal, Reserved, rx_options, RxOptions},
+  proofs.Names.{RxRow, sci_of, sending_of, sent_output, Some, State, state_after_command, state_after_receiving},
+  proofs.Names.{state_after_sending, tagged, the_key, too_long, true, Unchecked, uncontrolled_frame, unless_fault},
+  proofs.Names.{Untagged, untagged, without_row, ℕ},
+  specs.Delivered.DeliversFromSas,
+}
 
 -- ---- outputs that are no frame from the link
 
@@ -104,5 +97,5 @@ delivers_from_sas k (endpoint_input (client_frame frame)) strict =
     by_leaving k frame (state_after_sending k.secy frame (sending_of k.secy frame)) (may_go k (client_frame frame)) (frame_fault frame) (sending_of k.secy frame).leaving
 delivers_from_sas k (endpoint_input (uncontrolled_frame frame)) strict = by_plain k frame (may_go k (uncontrolled_frame frame)) (frame_fault frame)
 delivers_from_sas k (endpoint_input (link_frame frame)) strict =
-    subst (λ (a : KeepingOutput × Keeping). IsFromSa a.0) (sym (received_step k frame))
-    (by_fault k.secy frame (state_after_receiving k.secy frame (judgement_of k.secy frame)) (frame_fault frame) (by_reading k.secy frame (ap is_strict strict) (reading frame)))
+    rw (received_step k frame) (by_fault k.secy frame (state_after_receiving k.secy frame (judgement_of k.secy frame))
+    (frame_fault frame) (by_reading k.secy frame (rw strict) (reading frame)))

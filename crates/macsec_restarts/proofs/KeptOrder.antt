@@ -1,75 +1,52 @@
 -- Order, and each frame at most once, of endpoints that forget keys, if each later run reads what was sent and
 -- delivered before: the other end sent what is delivered, and both numbers rise.
-use Rattle.std.proofs.Common.{◌≡◌, ℕ, Bool, true, false, cond, List, [], ◌∷◌, ◌++◌, map, take, inl, inr, refl, ap, ap₂, sym, subst, ◌∙◌, All, AllPairs, Contains, append-nil, append_assoc, get_or, arith, ◌≤◌}
-use Rattle.std.specs.Prelude.{◌&&◌, ◌==◌, if◌then◌else◌, unwrap_or, Option, Some, None, IfSome}
-use Rattle.std.proofs.lemmas.Bool.{and_parts}
-use Rattle.std.proofs.lemmas.List.{map-append}
-use Rattle.std.proofs.lemmas.List.Elements.{All-append, All-cons, All-contains, All-head, All-map, All-nil, All-tail, All-weaker, filter-append}
-use Rattle.std.proofs.lemmas.Slice.Eq.{bytes_eq-Decides}
-use Rattle.macsec_gcm.specs.Octets.{same_octets}
-use Rattle.macsec_tag.specs.Table.{Reading, bad, reading, tagged, untagged}
-use Rattle.macsec_tag.specs.declared.identifiers.Sci.{Sci}
-use Rattle.macsec_suite.specs.CipherUses.{CipherUse}
-use Rattle.macsec_suite.specs.KeyRows.{InstalledKey, no_key, the_key}
-use Rattle.macsec_commands.specs.declared.event.End.{End}
-use Rattle.macsec_commands.specs.declared.event.End.TheVariants.{A, B}
-use Rattle.macsec_rx.specs.declared.RxRow.{RxRow}
-use Rattle.macsec_rx.specs.Channels.{same_sci}
-use Rattle.macsec_rx.specs.Judge.{Judgement, use_to_open}
-use Rattle.macsec_secy.specs.declared.fault.FrameFault.{FrameFault}
-use Rattle.macsec_secy.specs.Reception.{judgement_of}
-use Rattle.macsec_secy.specs.State.{State}
-use Rattle.macsec_secy.specs.Step.{client_frame, frame_fault, link_frame, operator_command, uncontrolled_frame}
-use Rattle.macsec_link.specs.Genuine.{use_opened, use_opened_in}
-use Rattle.macsec_link.specs.World.{other_end}
-use Rattle.macsec_link.proofs.Deliveries.{Grammar}
-use Rattle.macsec_link.proofs.EndpointLaws.{EndpointLaws}
-use Rattle.macsec_link.proofs.Members.{IsMember, contained, member}
-use Rattle.macsec_link.proofs.Subsequences.{is_subsequence}
-use Rattle.macsec_reserve.specs.Forgotten.{AreSameBut}
-use Rattle.macsec_reserve.specs.Histories.{AgreeOnKeys, closing, sealed_in_all, reported}
-use Rattle.macsec_reserve.specs.Keeping.{KeepingInput, endpoint_input, now_durable}
-use Rattle.macsec_restarts.specs.AheadRuns.{newly_delivered_with}
-use Rattle.macsec_restarts.specs.Delivered.{Delivery, delivered_at, delivered_by, newly_delivered}
-use Rattle.macsec_restarts.specs.Happenings.{AtEach, Happening, begins, comes_in, last_run, same_end}
-use Rattle.macsec_restarts.specs.Kept.{ComesInOrderIfRead, ReadsDelivered, ReadsDurable, ReadsSent}
-use Rattle.macsec_restarts.specs.Kept.{ArePeerRuns, ComesInOrderAt, ComesInOrderIfKept, IsFair, IsFairHere, IsSoundWith, KeepsDelivered, KeepsSent, RunWith, closing_of, delivered_of_all}
-use Rattle.macsec_restarts.specs.Kept.{delivered_of, from_sa, inside_of, last_of, runs_at, sent_of, sent_of_all, under_key}
-use Rattle.macsec_restarts.specs.Order.{HasStrictOrder, numbered_delivery, numbered_sent}
-use Rattle.macsec_restarts.specs.Origin.{WasSent}
-use Rattle.macsec_restarts.specs.Sent.{SentIn, newly_sent, sent_in_all, sent_under}
-use Rattle.macsec_restarts.specs.Used.{seal_of}
-use Rattle.macsec_restarts.proofs.AheadForgets.{KeepersAlike}
-use Rattle.macsec_restarts.proofs.AheadOrder.{cut, first_moments}
-use Rattle.macsec_restarts.proofs.InOrder.{Fresh, each_found, same_is}
-use Rattle.macsec_restarts.proofs.KeptRises.{RunNow, begins_now, delivered_rise, one_more, sent_rise, IsReserved}
-use Rattle.macsec_restarts.proofs.Lists.{in_front}
-use Rattle.macsec_restarts.proofs.Origins.{AreRuns, comes, swapped, turned}
-use Rattle.macsec_restarts.proofs.Pushed.{run_with}
-use Rattle.macsec_restarts.proofs.RetiredUnused.{AreUnused}
-use Rattle.macsec_restarts.proofs.RunsWith.{Goes, Grows, IsHereditary, begins_run, delivered_by_last, delivered_of-push, delivered_of_all-new, delivered_of_all-push, gets_input, goes, grows, nothing, pairs_first, passes_it}
-use Rattle.macsec_restarts.proofs.RunsWith.{push, push_last, same_beside, sends_more, sent_of-push, sent_of_all_same, sound_first, sound_inside, stays_as_it_is, unused_beside}
-use Rattle.macsec_restarts.proofs.SameBut.{judged_same, row_there, rx_key}
-use Rattle.macsec_restarts.proofs.Sends.{seals_of_runs}
-use Rattle.macsec_restarts.proofs.SoundRuns.{IsSoundRun}
-use Rattle.macsec_reserve.specs.Journal.{highest, receiving_name, reservations, salt_of, sending_name}
-use Rattle.macsec_restarts.proofs.KeptWeaker.{is_weaker_to_send}
+use Rattle.macsec_restarts.proofs.{
+  Names.{[], ◌&&◌, ◌++◌, ◌==◌, ◌∙◌, ◌∷◌, ◌≡◌, ◌≤◌, A, AgreeOnKeys, All, All-append, All-cons, All-contains, All-head},
+  Names.{All-nil, All-tail, AllPairs, ap, append-nil, append_assoc, ap₂, ArePeerRuns, AreSameBut, arith, AtEach, B},
+  Names.{bad, begins, Bool, CipherUse, closing, closing_of, comes_in, contained, Contains, delivered_at, delivered_of},
+  Names.{delivered_of_all, Delivery, End, EndpointLaws, filter-append, from_sa, get_or, Grammar, Happening},
+  Names.{HasStrictOrder, highest, IfSome, inl, inr, inside_of, is_subsequence, IsFair, IsFairHere, IsMember},
+  Names.{IsSoundWith, Judgement, judgement_of, KeepingInput, KeepsDelivered, KeepsSent, last_run, List, map},
+  Names.{map-append, member, newly_delivered_with, newly_sent, None, numbered_delivery, numbered_sent, Option},
+  Names.{other_end, Reading, reading, receiving_name, refl, reported, runs_at, RunWith, RxRow, salt_of, same_octets},
+  Names.{same_sci, Sci, seal_of, sealed_in_all, sending_name, sent_of, sent_of_all, sent_under, SentIn, Some, State},
+  Names.{subst, sym, tagged, take, true, under_key, untagged, unwrap_or, use_opened, use_opened_in, WasSent, ℕ},
+  AheadForgets.KeepersAlike,
+  AheadOrder.{cut, first_moments},
+  InOrder.each_found,
+  KeptRises.{RunNow, begins_now, delivered_rise, one_more, sent_rise, IsReserved},
+  KeptWeaker.is_weaker_to_send,
+  Lists.in_front,
+  Origins.{AreRuns, comes, sent_more, swapped, turned},
+  Placed.{Fresh, IsGiven, is_given, is_ours, of_ours},
+  Pushed.{run_with, same_own},
+  RetiredUnused.AreUnused,
+  RunsWith.{Goes, Grows, IsHereditary, begins_run, delivered_by_last, delivered_of-push, delivered_of_all-new},
+  RunsWith.{delivered_of_all-push, gets_input, goes, grows, nothing, pairs_first, passes_it, push, push_last},
+  RunsWith.{same_beside, sends_more, sent_of-push, sent_of_all_same, sound_first, sounds_inside, stays_as_it_is},
+  RunsWith.unused_beside,
+  SameBut.{judged_same, row_there, rx_key},
+  Sends.seals_of_runs,
+}
+use Rattle.macsec_restarts.specs.Kept.{ComesInOrderIfRead, ReadsDelivered, ReadsDurable, ReadsSent, ComesInOrderAt}
+use Rattle.macsec_restarts.specs.Kept.{ComesInOrderIfKept, last_of}
 
 -- ---- what is opened does not depend on retired keys
 
 opened_same : (s t : State) → AreSameBut s t → AreUnused s → (frame : List ℕ) → use_opened t frame ≡ use_opened s frame
 opened_same s t same unused frame =
-    ap (λ (j : Judgement). use_opened_in t j j.row (reading frame)) (judged_same s t same unused frame)
-    ∙ by_row (judgement_of s frame) (judgement_of s frame).row (reading frame) (λ row is. row_there s frame row is)
+    rw (
+      judged_same s t same unused frame,
+      by_row (judgement_of s frame) (judgement_of s frame).row (reading frame)
+          (λ row is. row_there s frame row is),
+    )
   where
     by_row : (j : Judgement) (o : Option RxRow) (r : Reading) →
         ((row : RxRow) → o ≡ Some row → IsMember s.rx.rows row) → use_opened_in t j o r ≡ use_opened_in s j o r
     by_row j None r there = refl
     by_row j (Some row) untagged there = refl
     by_row j (Some row) (bad fault) there = refl
-    by_row j (Some row) (tagged p) there =
-        ap (λ (k : Option InstalledKey). if j.step == 13 then Some (use_to_open (unwrap_or k no_key) row j.number p)
-        else None) (rx_key s t same unused row (there row refl))
+    by_row j (Some row) (tagged p) there = rw (rx_key s t same unused row (there row refl))
 
 -- ---- the runs of the endpoints that forget none
 
@@ -85,13 +62,9 @@ last_there (p ∷ []) r last = inl cc
 last_there (p ∷ q ∷ more) r last = inr (last_there (q ∷ more) r last)
 
 module _ (alike : KeepersAlike) where
-  sounds_inside : (rs : List RunWith) → All IsSoundWith rs → All IsSoundRun (map inside_of rs)
-  sounds_inside rs sounds = All-map IsSoundRun inside_of rs
-      (All-weaker IsSoundWith (λ r. IsSoundRun (inside_of r)) (sound_inside alike) rs sounds)
-
   seals_same : (rs : List RunWith) → All IsSoundWith rs →
       map seal_of (sent_of_all rs) ≡ sealed_in_all (map inside_of rs)
-  seals_same rs sounds = ap (map seal_of) (sent_of_all_same alike rs sounds) ∙ seals_of_runs (map inside_of rs)
+  seals_same rs sounds = rw (sent_of_all_same alike rs sounds, seals_of_runs (map inside_of rs))
 
   seals_of_both : (ra rb : List RunWith) → All IsSoundWith ra → All IsSoundWith rb →
       map seal_of (sent_of_all ra ++ sent_of_all rb) ≡
@@ -102,8 +75,8 @@ module _ (alike : KeepersAlike) where
   at_a : (ra rb : List RunWith) → All IsSoundWith ra → All IsSoundWith rb → ArePeerRuns ra rb →
       AreRuns (map inside_of ra) (map inside_of rb)
   at_a ra rb sa sb peers = record {
-    own = record { sound = sounds_inside ra sa; agree = peers.agree_a };
-    other = record { sound = sounds_inside rb sb; agree = peers.agree_b };
+    own = record { sound = sounds_inside alike ra sa; agree = peers.agree_a };
+    other = record { sound = sounds_inside alike rb sb; agree = peers.agree_b };
     one = peers.one_a;
     agree = λ run there q there' x y here here' bytes.
         let both : AgreeOnKeys run q =
@@ -117,8 +90,8 @@ module _ (alike : KeepersAlike) where
   at_b : (ra rb : List RunWith) → All IsSoundWith ra → All IsSoundWith rb → ArePeerRuns ra rb →
       AreRuns (map inside_of rb) (map inside_of ra)
   at_b ra rb sa sb peers = record {
-    own = record { sound = sounds_inside rb sb; agree = peers.agree_b };
-    other = record { sound = sounds_inside ra sa; agree = peers.agree_a };
+    own = record { sound = sounds_inside alike rb sb; agree = peers.agree_b };
+    other = record { sound = sounds_inside alike ra sa; agree = peers.agree_a };
     one = peers.one_b;
     agree = λ run there q there' x y here here' bytes.
         let both : AgreeOnKeys q run =
@@ -133,9 +106,6 @@ module _ (alike : KeepersAlike) where
 
 module _ (alike : KeepersAlike) (laws : EndpointLaws) (grammar : Grammar) (fresh : Fresh) (ahead : End → ℕ → Bool)
     (e : End) (bytes : List ℕ) (sci : Sci) (an : ℕ) where
-  abbrev is_ours : Delivery → Bool
-  is_ours g = same_octets g.bytes bytes && same_sci g.sci sci && g.an == an
-
   abbrev own : List Happening → List RunWith
   own before = runs_at ahead e before
 
@@ -151,21 +121,12 @@ module _ (alike : KeepersAlike) (laws : EndpointLaws) (grammar : Grammar) (fresh
   abbrev WasSentBy : List Happening → Delivery → Type 0
   WasSentBy before d = WasSent (sent_of_all (others before)) bytes d.frame d.number
 
-  still_sent : (before : List Happening) (h : Happening) (g : Delivery) → WasSentBy before g →
-      WasSentBy (before ++ h ∷ []) g
-  still_sent before h g it =
-      let more = sends_more (others before) h (other_end e) (others (before ++ h ∷ []))
+  still_sent : (before : List Happening) (h : Happening) (ds : List Delivery) → All (WasSentBy before) ds →
+      All (WasSentBy (before ++ h ∷ [])) ds
+  still_sent before h ds all i d within =
+      let more = sends_more (other_end e) (others before) h (others (before ++ h ∷ []))
       (grows ahead (other_end e) before h) in
-      record {
-        send = it.send;
-        among = subst (λ (xs : List SentIn). Contains xs it.send) (sym more.more)
-            (contained (sent_of_all (others before) ++ more.added) it.send
-            (in_front (sent_of_all (others before)) more.added it.send
-            (member (sent_of_all (others before)) it.send it.among)));
-        of_frame = it.of_frame;
-        under = it.under;
-        of_number = it.of_number;
-      }
+      rw more.more (sent_more (sent_of_all (others before)) more.added (all i d within))
 
   -- ---- origin
 
@@ -179,83 +140,36 @@ module _ (alike : KeepersAlike) (laws : EndpointLaws) (grammar : Grammar) (fresh
   by_end A before sounds peers r last frame u genuine =
       let ra = runs_at ahead A before in
       let rb = runs_at ahead B before in
-      (at_a alike ra rb (sounds A) (sounds B) peers, subst (λ (us : List CipherUse). IfSome u (Contains us)) (seals_of_both alike ra rb (sounds A) (sounds B)) genuine)
+      (at_a alike ra rb (sounds A) (sounds B) peers, rw (seals_of_both alike ra rb (sounds A) (sounds B)) at genuine)
   by_end B before sounds peers r last frame u genuine =
       let ra = runs_at ahead A before in
       let rb = runs_at ahead B before in (
         at_b alike ra rb (sounds A) (sounds B) peers,
         swapped (sealed_in_all (map inside_of ra)) (sealed_in_all (map inside_of rb)) u
-            (subst (λ (us : List CipherUse). IfSome u (Contains us))
-            (seals_of_both alike ra rb (sounds A) (sounds B)) genuine),
+            (rw (seals_of_both alike ra rb (sounds A) (sounds B)) at genuine),
       )
 
+  -- the ends are fair where the input delivers this
+  abbrev Fair : List Happening → KeepingInput → RunWith → Delivery → Type 0
+  Fair before input r d = Contains (delivered_at bytes sci an (newly_delivered_with (closing_of r) input)) d →
+      IsFair (runs_at ahead A before) (runs_at ahead B before) (closing_of r) (comes_in e input) input
+
   origin : (before : List Happening) → Sounds before → (r : RunWith) → last_of (own before) ≡ Some r →
-      (input : KeepingInput) →
-      ((d : Delivery) → Contains (delivered_at bytes sci an (newly_delivered (closing (inside_of r)) input)) d →
-      IsFair (runs_at ahead A before) (runs_at ahead B before) (closing_of r) (comes_in e input) input) →
-      All (WasSentBy before) (delivered_at bytes sci an (newly_delivered (closing (inside_of r)) input))
-  origin before sounds r last (now_durable q) fair = All-nil (WasSentBy before)
-  origin before sounds r last (endpoint_input (operator_command c)) fair = All-nil (WasSentBy before)
-  origin before sounds r last (endpoint_input (client_frame frame)) fair = All-nil (WasSentBy before)
-  origin before sounds r last (endpoint_input (uncontrolled_frame frame)) fair = All-nil (WasSentBy before)
-  origin before sounds r last (endpoint_input (link_frame frame)) fair =
-      by_delivery (frame_fault frame) (judgement_of s frame).row refl (judgement_of s frame).delivered refl fair
-    where
-      s : State
-      s = (closing (inside_of r)).secy
-
-      by_delivery : (f : Option FrameFault) → (o : Option RxRow) → (judgement_of s frame).row ≡ o →
-          (d : Option (List ℕ)) → (judgement_of s frame).delivered ≡ d →
-          ((g : Delivery) → Contains (delivered_at bytes sci an (delivered_by s (judgement_of s frame) f o d)) g →
-          IsFair (runs_at ahead A before) (runs_at ahead B before) (closing_of r)
-          (comes_in e (endpoint_input (link_frame frame))) (endpoint_input (link_frame frame))) →
-          All (WasSentBy before) (delivered_at bytes sci an (delivered_by s (judgement_of s frame) f o d))
-      by_delivery (Some f) o of_row d delivers fair' = All-nil (WasSentBy before)
-      by_delivery None None of_row d delivers fair' = All-nil (WasSentBy before)
-      by_delivery None (Some row) of_row None delivers fair' = All-nil (WasSentBy before)
-      by_delivery None (Some row) of_row (Some delivered) delivers fair' = by_test (is_ours g) refl fair'
-        where
-          g : Delivery
-          g = record {
-            bytes = (the_key s.keys row.key).bytes;
-            sci = row.sci;
-            an = row.an;
-            number = (judgement_of s frame).number;
-            frame = delivered;
-          }
-
-          sound : IsSoundWith r
-          sound = All-contains IsSoundWith (own before) r (sounds e)
-              (contained (own before) r (last_there (own before) r last))
-
-          by_test : (b : Bool) → is_ours g ≡ b → ((x : Delivery) → Contains (cond b (g ∷ []) []) x →
-              IsFair (runs_at ahead A before) (runs_at ahead B before) (closing_of r)
-              (comes_in e (endpoint_input (link_frame frame))) (endpoint_input (link_frame frame))) →
-              All (WasSentBy before) (cond b (g ∷ []) [])
-          by_test false is fair'' = All-nil (WasSentBy before)
-          by_test true is fair'' =
-              let parts = and_parts (same_octets g.bytes bytes && same_sci g.sci sci) (g.an == an) is in
-              let octets = and_parts (same_octets g.bytes bytes) (same_sci g.sci sci) parts.0 in
-              let key : g.bytes ≡ bytes = (bytes_eq-Decides g.bytes bytes).0 octets.0 in
-              let it = fair'' g (contained (g ∷ []) g (inl refl)) in
-              let beside = same_beside alike r sound in
-              let order = subst HasStrictOrder beside.same it.order in
-              let opened : use_opened (closing_of r).k.secy frame ≡ use_opened s frame =
-              opened_same s (closing_of r).k.secy beside (unused_beside alike r) frame in
-              let there = by_end e before sounds it.peers r last frame (use_opened s frame)
-              (subst (λ (u : Option CipherUse). IfSome u (Contains
-              (map seal_of (sent_of_all (runs_at ahead A before) ++ sent_of_all (runs_at ahead B before))))) opened
-              it.genuine) in
-              let sent : WasSent (sent_in_all (map inside_of (others before))) g.bytes delivered
-              (judgement_of s frame).number =
-              comes laws grammar (map inside_of (own before)) (map inside_of (others before)) there.0 (inside_of r)
-              (last_inside (own before) r last)
-              frame it.octets row delivered there.1 order.mode of_row delivers in
-              All-cons (WasSentBy before) g []
-              (subst (λ (xs : List SentIn). WasSent xs bytes delivered (judgement_of s frame).number)
-              (sym (sent_of_all_same alike (others before) (sounds (other_end e))))
-              (subst (λ (b : List ℕ). WasSent (sent_in_all (map inside_of (others before))) b delivered
-              (judgement_of s frame).number) key sent)) (All-nil (WasSentBy before))
+      (input : KeepingInput) (g : Delivery) →
+      IsFair (runs_at ahead A before) (runs_at ahead B before) (closing_of r) (comes_in e input) input →
+      IsGiven (closing (inside_of r)).secy input g → g.bytes ≡ bytes → WasSentBy before g
+  origin before sounds r last _ _ it (is_given frame row delivered fits of_row delivers) key =
+      let s = (closing (inside_of r)).secy in
+      let sound : IsSoundWith r = All-contains IsSoundWith (own before) r (sounds e)
+      (contained (own before) r (last_there (own before) r last)) in
+      let beside = same_beside alike r sound in
+      let order = rw beside.same at it.order in
+      let opened : use_opened (closing_of r).k.secy frame ≡ use_opened s frame =
+      opened_same s (closing_of r).k.secy beside (unused_beside alike r) frame in
+      let there = by_end e before sounds it.peers r last frame (use_opened s frame) (rw opened at it.genuine) in
+      rw (sent_of_all_same alike (others before) (sounds (other_end e)))
+      (rw key at (comes laws grammar (map inside_of (own before)) (map inside_of (others before)) there.0 (inside_of r)
+      (last_inside (own before) r last) frame it.octets row delivered there.1 order.mode of_row delivers))
 
   -- ---- one more happening
 
@@ -290,10 +204,7 @@ module _ (alike : KeepersAlike) (laws : EndpointLaws) (grammar : Grammar) (fresh
 
   new_sent : (before : List Happening) → Sounds before → (input : KeepingInput) →
       All IsSoundWith (push_last input (own before)) →
-      (o : Option RunWith) → last_of (own before) ≡ o →
-      IfSome o (λ r. (d : Delivery) → Contains (delivered_at bytes sci an (newly_delivered_with (closing_of r) input))
-      d →
-      IsFair (runs_at ahead A before) (runs_at ahead B before) (closing_of r) (comes_in e input) input) →
+      (o : Option RunWith) → last_of (own before) ≡ o → IfSome o (λ r. (d : Delivery) → Fair before input r d) →
       All (WasSentBy before) (delivered_at bytes sci an (delivered_by_last o input))
   new_sent before sounds input sounds' None last fair = All-nil (WasSentBy before)
   new_sent before sounds input sounds' (Some r) last fair = by_goes (goes alike r input sound sound')
@@ -310,80 +221,55 @@ module _ (alike : KeepersAlike) (laws : EndpointLaws) (grammar : Grammar) (fresh
 
       by_goes : Goes alike r input → All (WasSentBy before)
           (delivered_at bytes sci an (newly_delivered_with (closing_of r) input))
-      by_goes (nothing still gives) = subst (λ (ds : List Delivery). All (WasSentBy before)
-          (delivered_at bytes sci an ds)) (sym gives) (All-nil (WasSentBy before))
+      by_goes (nothing still gives) = rw gives (All-nil (WasSentBy before))
       by_goes (passes_it step lets gives) =
-          subst (λ (ds : List Delivery). All (WasSentBy before) (delivered_at bytes sci an ds)) (sym gives)
-          (origin before sounds r last input (λ d there. fair d
-          (subst (λ (ds : List Delivery). Contains (delivered_at bytes sci an ds) d) (sym gives) there)))
+          rw gives (of_ours bytes sci an (WasSentBy before) (closing (inside_of r)) input
+          (λ g there it is_bytes is_sci is_an.
+          origin before sounds r last input g (fair g (rw gives there)) it is_bytes))
 
   record After (before : List Happening) (h : Happening) (rs : List RunWith) : Type 0 where
     runs : All Is rs
     sent : All (WasSentBy (before ++ h ∷ [])) (ours rs)
 
-  all_still : (before : List Happening) (h : Happening) (ds : List Delivery) → All (WasSentBy before) ds →
-      All (WasSentBy (before ++ h ∷ [])) ds
-  all_still before h ds all = All-weaker (WasSentBy before) (WasSentBy (before ++ h ∷ [])) (still_sent before h) ds all
-
-  next_by : (before : List Happening) (h : Happening) (rs : List RunWith) → rs ≡ own before → (d : End) → d ≡ e →
-      (after : List RunWith) → Grows rs h d after → All IsSoundWith after →
+  next_by : (before : List Happening) (h : Happening) (rs : List RunWith) → rs ≡ own before →
+      (after : List RunWith) → Grows e rs h after → All IsSoundWith after →
       Sounds before → IsFairHere ahead e bytes sci an before h → Now before → After before h after
-  next_by before h rs are d is _ (stays_as_it_is h' d') sounds' sounds fair now =
-      record {
-        runs = subst (All Is) (sym are) now.runs;
-        sent = subst (λ (x : List RunWith). All (WasSentBy (before ++ h ∷ [])) (ours x)) (sym are)
-            (all_still before h (ours (own before)) now.sent);
-      }
-  next_by before _ rs are d is _ (begins_run d' f config journal b) sounds' sounds fair now =
+  next_by before _ rs are _ (stays_as_it_is h) sounds' sounds fair now =
+      record { runs = rw are now.runs; sent = rw are (still_sent before h (ours (own before)) now.sent) }
+  next_by before _ rs are _ (begins_run config journal b) sounds' sounds fair now =
       let new : RunWith = record { ahead = b; run = run_with config journal [] } in
-      let h : Happening = begins f config journal in
-      let same : ours (rs ++ new ∷ []) ≡ ours (own before) =
-      ap (delivered_at bytes sci an) (delivered_of_all-new rs new refl) ∙ ap ours are in
+      let same : ours (rs ++ new ∷ []) ≡ ours (own before) = rw (delivered_of_all-new rs new refl, are) in
       record {
-        runs = All-append Is rs (new ∷ []) (subst (All Is) (sym are) now.runs)
+        runs = All-append Is rs (new ∷ []) (rw are now.runs)
             (All-cons Is new [] (begins_now alike laws fresh bytes sci an new refl) (All-nil Is));
-        sent = subst (All (WasSentBy (before ++ h ∷ []))) (sym same) (all_still before h (ours (own before)) now.sent);
+        sent = rw same (still_sent before (begins e config journal) (ours (own before)) now.sent);
       }
-  next_by before _ rs are d is _ (gets_input d' f input same) sounds' sounds fair now =
-      let h : Happening = comes_in f input in
-      let ours_too : same_end e f ≡ true = subst (λ (x : End). same_end x f ≡ true) is same in
-      let one : f ≡ e = same_is e f ours_too in
-      let here : IfSome (last_of (own before)) (λ r. (g : Delivery) →
-      Contains (delivered_at bytes sci an (newly_delivered_with (closing_of r) input)) g →
-      IsFair (runs_at ahead A before) (runs_at ahead B before) (closing_of r) (comes_in e input) input) =
-      subst (λ (x : End). IfSome (last_of (own before))
-      (λ r. (g : Delivery) → Contains (delivered_at bytes sci an (newly_delivered_with (closing_of r) input)) g →
-      IsFair (runs_at ahead A before) (runs_at ahead B before) (closing_of r) (comes_in x input) input)) one
-      (fair ours_too) in
-      let sounds_own : All IsSoundWith (push_last input (own before)) =
-      subst (λ (x : List RunWith). All IsSoundWith (push_last input x)) are sounds' in
-      let whole : ours (push_last input rs) ≡ ours (own before)
-      ++ delivered_at bytes sci an (delivered_by_last (last_of (own before)) input) =
-      ap (λ (x : List RunWith). ours (push_last input x)) are
-      ∙ ap (delivered_at bytes sci an) (delivered_of_all-push input (own before))
-      ∙ filter-append is_ours (delivered_of_all (own before)) (delivered_by_last (last_of (own before)) input) in
+  next_by before _ rs are _ (gets_input input) sounds' sounds fair now =
+      let here : IfSome (last_of (own before)) (λ r. (g : Delivery) → Fair before input r g) = fair (same_own e) in
+      let sounds_own : All IsSoundWith (push_last input (own before)) = rw are at sounds' in
+      let news = delivered_at bytes sci an (delivered_by_last (last_of (own before)) input) in
+      let whole : ours (push_last input rs) ≡ ours (own before) ++ news =
+      rw (
+        are,
+        delivered_of_all-push input (own before),
+        filter-append (is_ours bytes sci an) (delivered_of_all (own before))
+            (delivered_by_last (last_of (own before)) input),
+      ) in
       record {
-        runs = subst (λ (x : List RunWith). All Is (push_last input x)) (sym are)
-            (all_push input (own before) (sounds e) sounds_own now.runs
+        runs = rw are (all_push input (own before) (sounds e) sounds_own now.runs
             (λ r last g there.
-            let it = subst (λ (o : Option RunWith). IfSome o
-            (λ r'. (x : Delivery) → Contains (delivered_at bytes sci an
-            (newly_delivered_with (closing_of r') input)) x →
-            IsFair (runs_at ahead A before) (runs_at ahead B before) (closing_of r')
-            (comes_in e input) input)) last here g there in
+            let it = subst (λ (o : Option RunWith). IfSome o (λ r'. (x : Delivery) → Fair before input r' x)) last here
+            g there in
             it.order));
-        sent = subst (All (WasSentBy (before ++ h ∷ []))) (sym whole)
-            (all_still before h (ours (own before) ++ delivered_at bytes sci an
-            (delivered_by_last (last_of (own before)) input))
-            (All-append (WasSentBy before) (ours (own before))
-            (delivered_at bytes sci an (delivered_by_last (last_of (own before)) input)) now.sent
+        sent = rw whole (still_sent before (comes_in e input) (ours (own before) ++ news)
+            (All-append (WasSentBy before) (ours (own before)) news now.sent
             (new_sent before sounds input sounds_own (last_of (own before)) refl here)));
       }
 
   next : (before : List Happening) (h : Happening) → Sounds before → Sounds (before ++ h ∷ []) →
       IsFairHere ahead e bytes sci an before h → Now before → Now (before ++ h ∷ [])
   next before h sounds sounds' fair now =
-      let it = next_by before h (own before) refl e refl (own (before ++ h ∷ [])) (grows ahead e before h)
+      let it = next_by before h (own before) refl (own (before ++ h ∷ [])) (grows ahead e before h)
       (sounds' e) sounds fair now in
       record { runs = it.runs; sent = it.sent }
 
@@ -393,9 +279,8 @@ module _ (alike : KeepersAlike) (laws : EndpointLaws) (grammar : Grammar) (fresh
       AtEach (IsFairHere ahead e bytes sci an) before more → Now before → Now (before ++ more)
   always before [] sounds each now = subst Now (sym (append-nil before)) now
   always before (h ∷ more) sounds each now =
-      let whole : Sounds ((before ++ h ∷ []) ++ more) = subst Sounds (sym (append_assoc before (h ∷ []) more)) sounds in
-      subst Now (append_assoc before (h ∷ []) more)
-      (always (before ++ h ∷ []) more whole each.1
+      let whole : Sounds ((before ++ h ∷ []) ++ more) = rw (append_assoc before (h ∷ []) more) sounds in
+      rw (append_assoc before (h ∷ []) more) at (always (before ++ h ∷ []) more whole each.1
       (next before h (λ f. sound_first ahead f (h ∷ more) before (sounds f))
       (λ f. sound_first ahead f more (before ++ h ∷ []) (whole f)) each.0 now))
 
@@ -414,8 +299,7 @@ module _ (alike : KeepersAlike) (laws : EndpointLaws) (grammar : Grammar) (fresh
       let name : List ℕ → List ℕ = λ salt. receiving_name (sending_name salt bytes) sci an in
       let within : d.number ≤ highest (reported r.run) (name (salt_of r.run.journal)) =
       All-contains (IsReserved alike laws fresh bytes sci an r) (from_sa bytes sci an r) d (now.reserved on) here in
-      subst (λ (s : List ℕ). d.number ≤ highest (reservations later.run.journal) (name s)) (sym reads.0)
-      (omega (arith, within, reads.1 (name (salt_of r.run.journal))))
+      rw reads.0 (omega (arith, within, reads.1 (name (salt_of r.run.journal))))
 
   delivered_is_kept : (rs : List RunWith) → All Is rs → AllPairs (ReadsDelivered bytes sci an) rs →
       AllPairs (KeepsDelivered bytes sci an) rs
@@ -446,10 +330,9 @@ kept_sent : (bytes : List ℕ) → IsHereditary (KeepsSent bytes)
 kept_sent bytes = record {
   less = λ input r later keeps x y here there.
       keeps x y here
-      (subst (λ (xs : List SentIn). Contains (sent_under bytes xs) y) (sym (sent_of-push input later))
-      (subst (λ (xs : List SentIn). Contains xs y)
-      (sym (filter-append (λ z. same_octets z.seal.key bytes) (sent_of later) (newly_sent (closing_of later).k input)))
-      (contained (under_key bytes later ++ sent_under bytes (newly_sent (closing_of later).k input)) y
+      (rw (sent_of-push input later) (rw (filter-append (λ z. same_octets z.seal.key bytes) (sent_of later)
+      (newly_sent (closing_of later).k input)) (contained (under_key bytes later ++ sent_under bytes
+      (newly_sent (closing_of later).k input)) y
       (in_front (under_key bytes later) (sent_under bytes (newly_sent (closing_of later).k input)) y
       (member (under_key bytes later) y there)))));
 }
@@ -458,11 +341,10 @@ kept_delivered : (bytes : List ℕ) (sci : Sci) (an : ℕ) → IsHereditary (Kee
 kept_delivered bytes sci an = record {
   less = λ input r later keeps d g here there.
       keeps d g here
-      (subst (λ (ds : List Delivery). Contains (delivered_at bytes sci an ds) g) (sym (delivered_of-push input later))
-      (subst (λ (ds : List Delivery). Contains ds g)
-      (sym (filter-append (λ z. same_octets z.bytes bytes && same_sci z.sci sci && z.an == an) (delivered_of later)
-      (newly_delivered_with (closing_of later) input)))
-      (contained (from_sa bytes sci an later ++ delivered_at bytes sci an
+      (rw (delivered_of-push input later)
+      (rw (filter-append (λ z. same_octets z.bytes bytes && same_sci z.sci sci && z.an == an) (delivered_of later)
+      (newly_delivered_with (closing_of later) input)) (contained (from_sa bytes sci an later ++ delivered_at bytes sci
+      an
       (newly_delivered_with (closing_of later) input)) g
       (in_front (from_sa bytes sci an later) (delivered_at bytes sci an (newly_delivered_with (closing_of later) input))
       g (member (from_sa bytes sci an later) g there)))));
@@ -490,15 +372,13 @@ comes_in_order_if_read alike laws grammar fresh ahead events e bytes sci an soun
     let it = cut k events in
     let first : List Happening = take k events in
     in_order_now alike laws grammar fresh ahead e bytes sci an first
-    (λ f. sound_first ahead f it.rest first (subst (λ (hs : List Happening). All IsSoundWith (runs_at ahead f hs))
-    (sym it.is) (sounds f)))
+    (λ f. sound_first ahead f it.rest first (rw it.is (sounds f)))
     (first_moments (IsFairHere ahead e bytes sci an) [] first it.rest
-    (subst (AtEach (IsFairHere ahead e bytes sci an) []) (sym it.is) each))
+    (rw it.is each))
     (pairs_first (ReadsSent bytes) (reads_sent bytes) ahead (other_end e) it.rest first
-    (subst (λ (hs : List Happening). AllPairs (ReadsSent bytes) (runs_at ahead (other_end e) hs)) (sym it.is) sent))
+    (rw it.is sent))
     (pairs_first (ReadsDelivered bytes sci an) (reads_delivered bytes sci an) ahead e it.rest first
-    (subst (λ (hs : List Happening). AllPairs (ReadsDelivered bytes sci an) (runs_at ahead e hs))
-    (sym it.is) delivered))
+    (rw it.is delivered))
 
 pub comes_in_order_if_kept : KeepersAlike → EndpointLaws → Grammar → Fresh →
     (ahead : End → ℕ → Bool) (events : List Happening) → ComesInOrderIfKept ahead events

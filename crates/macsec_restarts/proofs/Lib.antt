@@ -1,3 +1,4 @@
+mod Names
 mod Lists
 mod OneUse
 mod Listed
@@ -11,6 +12,7 @@ mod SendsRise
 mod NextNumbers
 mod InOrder
 mod RowSteps
+mod Placed
 mod AheadInside
 mod AheadAccepts
 mod AheadReserved

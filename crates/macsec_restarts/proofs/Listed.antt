@@ -1,19 +1,14 @@
 -- What is delivered from an SA is in the list: by the cases of the outputs.
-use Rattle.std.proofs.Common.{◌≡◌, ℕ, Bool, true, false, List, [], refl, ap, sym, subst, ◌∙◌}
-use Rattle.std.specs.Prelude.{option_map, Option, Some, None}
-use Rattle.macsec_suite.specs.declared.refusal.Refusal.{Refusal}
-use Rattle.macsec_suite.specs.KeyRows.{the_key}
-use Rattle.macsec_tx.specs.Transmit.{Leaving, plain, protected, no_sa, too_long}
-use Rattle.macsec_rx.specs.declared.RxRow.{RxRow}
-use Rattle.macsec_rx.specs.Judge.{Judgement, place_of}
-use Rattle.macsec_secy.specs.declared.fault.FrameFault.{FrameFault}
-use Rattle.macsec_secy.specs.Commands.{refusal, state_after_command}
-use Rattle.macsec_secy.specs.Reception.{judgement_of, state_after_receiving}
-use Rattle.macsec_secy.specs.State.{State}
-use Rattle.macsec_secy.specs.Step.{client_frame, command_output, frame_fault, leaves, link_frame, operator_command, received, sending_of, sent_output, state_after_sending, uncontrolled_frame, unless_fault}
-use Rattle.macsec_reserve.specs.Keeping.{Keeping, KeepingInput, KeepingOutput, endpoint_input, endpoint_output, now_durable, is_below_floor, may_go}
-use Rattle.macsec_reserve.proofs.Steps.{by_tests, received_step}
-use Rattle.macsec_restarts.specs.Delivered.{DeliversEachListed, MatchesDeliveries, delivered_by, newly_delivered}
+use Rattle.macsec_rx.specs.Judge.{place_of}
+use Rattle.macsec_restarts.{
+  proofs.Names.{[], ◌≡◌, Bool, by_tests, client_frame, command_output, delivered_by, endpoint_input, endpoint_output},
+  proofs.Names.{false, frame_fault, FrameFault, is_below_floor, Judgement, judgement_of, Keeping, KeepingInput, leaves},
+  proofs.Names.{Leaving, link_frame, List, MatchesDeliveries, may_go, newly_delivered, no_sa, None, now_durable},
+  proofs.Names.{operator_command, Option, option_map, plain, protected, received, received_step, refl, Refusal},
+  proofs.Names.{refusal, RxRow, sending_of, sent_output, Some, State, state_after_command, state_after_receiving},
+  proofs.Names.{state_after_sending, the_key, too_long, true, uncontrolled_frame, unless_fault, ℕ},
+  specs.Delivered.DeliversEachListed,
+}
 
 by_refusal : (k : Keeping) (input : KeepingInput) (after : State) → newly_delivered k input ≡ [] → (below go : Bool) (r : Option Refusal) →
     MatchesDeliveries k input (by_tests below go k (command_output r, after)).0
@@ -39,8 +34,8 @@ by_leaving k input frame after none true None too_long = none
 
 by_link : (k : Keeping) (frame : List ℕ) → DeliversEachListed k (endpoint_input (link_frame frame))
 by_link k frame =
-    subst (λ (a : KeepingOutput × Keeping). MatchesDeliveries k (endpoint_input (link_frame frame)) a.0) (sym (received_step k frame))
-    (by_parts (frame_fault frame) refl (judgement_of k.secy frame).row refl (judgement_of k.secy frame).delivered refl)
+    rw (received_step k frame) (by_parts (frame_fault frame) refl (judgement_of k.secy frame).row refl
+    (judgement_of k.secy frame).delivered refl)
   where
     s : State
     s = k.secy
@@ -50,10 +45,7 @@ by_link k frame =
 
     these : (f : Option FrameFault) (o : Option RxRow) (d : Option (List ℕ)) → frame_fault frame ≡ f → j.row ≡ o → j.delivered ≡ d →
         newly_delivered k (endpoint_input (link_frame frame)) ≡ delivered_by s j f o d
-    these f o d fits of_row delivers =
-        ap (λ (x : Option FrameFault). delivered_by s j x j.row j.delivered) fits
-        ∙ ap (λ (x : Option RxRow). delivered_by s j f x j.delivered) of_row
-        ∙ ap (λ (x : Option (List ℕ)). delivered_by s j f o x) delivers
+    these f o d fits of_row delivers = rw (fits, of_row, delivers)
 
     by_parts : (f : Option FrameFault) → frame_fault frame ≡ f → (o : Option RxRow) → j.row ≡ o → (d : Option (List ℕ)) → j.delivered ≡ d →
         MatchesDeliveries k (endpoint_input (link_frame frame)) (endpoint_output (unless_fault f s (received j.verdict (option_map place_of o) frame d, state_after_receiving s frame j)).0)

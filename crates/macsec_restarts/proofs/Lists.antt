@@ -1,6 +1,5 @@
 -- The members of two lists, one after the other.
-use Rattle.std.proofs.Common.{◌⊎◌, inl, inr, List, [], ◌∷◌, ◌++◌}
-use Rattle.macsec_link.proofs.Members.{IsMember}
+use Rattle.macsec_restarts.proofs.Names.{[], ◌++◌, ◌∷◌, ◌⊎◌, inl, inr, IsMember, List}
 
 pub in_front : {X : Type 0} (ps qs : List X) (x : X) → IsMember ps x → IsMember (ps ++ qs) x
 in_front [] qs x there = absurd there

@@ -1,25 +1,16 @@
 -- The next packet number of a receive SA does not fall while the SA exists. So a number below it stays below it, if
 -- each SA that is created begins above the number.
-use Rattle.std.proofs.Common.{◌≡◌, ℕ, ◌+◌, ◌<◌, ◌≤◌, Bool, true, false, cond, List, [], ◌∷◌, filter, refl, ap, sym, subst, ◌∙◌, arith}
-use Rattle.std.specs.Prelude.{◌&&◌, ◌==◌, not, if◌then◌else◌, unwrap_or, Option, Some, None}
-use Rattle.std.proofs.lemmas.Bool.{and_parts, eqb-true}
-use Rattle.std.proofs.lemmas.Slice.Eq.{bytes_eq-Decides}
-use Rattle.macsec_gcm.specs.Octets.{same_octets}
-use Rattle.macsec_tag.specs.declared.identifiers.Sci.{Sci}
-use Rattle.macsec_suite.specs.KeyRows.{the_key}
-use Rattle.macsec_suite.specs.declared.refusal.Refusal.{Refusal}
-use Rattle.macsec_commands.specs.declared.command.Command.{Command}
-use Rattle.macsec_commands.specs.declared.command.Command.TheVariants.{RxScDel, RxDel}
-use Rattle.macsec_rx.specs.declared.RxRow.{RxRow}
-use Rattle.macsec_rx.specs.Channels.{is_at, rx_row, same_sci}
-use Rattle.macsec_secy.specs.Commands.{refusal, unless_refused}
-use Rattle.macsec_secy.specs.Kept.{IsAbove, RxRowStays, deletes, is_deleting}
-use Rattle.macsec_secy.specs.State.{State}
-use Rattle.macsec_secy.specs.Step.{Input, Output, operator_command, step}
-use Rattle.macsec_secy.proofs.Sums.{one_sci}
-use Rattle.macsec_reserve.specs.Keeping.{Keeping, KeepingInput, endpoint_input, is_below_floor, keeping_step, may_go, now_durable}
-use Rattle.macsec_reserve.proofs.Steps.{by_tests}
-use Rattle.macsec_restarts.specs.Order.{IsUnder}
+use Rattle.{
+  macsec_secy.{proofs.Sums.one_sci, specs.Kept.{RxRowStays, deletes, is_deleting}},
+  macsec_restarts.proofs.{
+    Names.{[], ◌&&◌, ◌+◌, ◌<◌, ◌==◌, ◌∙◌, ◌∷◌, ◌≡◌, ◌≤◌, and_parts, ap, arith, Bool, bytes_eq-Decides, Command, cond},
+    Names.{endpoint_input, eqb-true, false, filter, if◌then◌else◌, Input, is_at, IsAbove, IsUnder, Keeping},
+    Names.{keeping_step, KeepingInput, List, None, not, now_durable, operator_command, Option, refl, Refusal, refusal},
+    Names.{rx_row, RxDel, RxRow, RxScDel, same_octets, same_sci, Sci, Some, State, step, sym, the_key, true},
+    Names.{unless_refused, unwrap_or, ℕ},
+    SoundRuns.by_keeping,
+  },
+}
 
 abbrev pub RowsStay : Type 0
 RowsStay = (s : State) (input : Input) (sci : Sci) (an n : ℕ) → RxRowStays s input sci an n
@@ -38,7 +29,7 @@ pub below_above : (s : State) (bytes : List ℕ) (sci : Sci) (an n : ℕ) → Is
     IsBelowNext s bytes sci an n
 below_above s bytes sci an n it row there under =
     let one : it.row ≡ row = ap (λ (r : Option RxRow). unwrap_or r row) (sym it.there ∙ there) in
-    subst (λ (r : RxRow). n + 1 ≤ r.next) one it.above
+    rw one at it.above
 
 -- ---- a deleted SA is not there
 
@@ -68,7 +59,7 @@ by_refusal : (r : Option Refusal) (s : State) (c : Command) (sci : Sci) (an : �
 by_refusal None s c sci an row later there none there' = let no = sym none ∙ there' in cc
 by_refusal (Some r) s c sci an row later there none there' =
     let one : row ≡ later = ap (λ (o : Option RxRow). unwrap_or o later) (sym there ∙ there') in
-    subst (λ (x : RxRow). row.next ≤ x.next) one (omega arith)
+    rw (← one) (omega arith)
 
 by_command : (s : State) (c : Command) (sci : Sci) (an : ℕ) (row later : RxRow) → deletes sci an c ≡ true →
     rx_row s.rx.rows sci an ≡ Some row →
@@ -77,13 +68,12 @@ by_command s (RxScDel of_sci) sci an row later deleted there there' =
     by_refusal (refusal s (RxScDel of_sci)) s (RxScDel of_sci) sci an row later there
     (none_left sci an (λ r. not (same_sci r.sci of_sci))
     (λ r here. not_true (same_sci r.sci of_sci)
-    (ap (λ (x : Sci). same_sci x of_sci) (same_place r.sci sci r.an an here).0 ∙ deleted)) s.rx.rows) there'
+    (rw ((same_place r.sci sci r.an an here).0, deleted))) s.rx.rows) there'
 by_command s (RxDel of_sci of_an) sci an row later deleted there there' =
     let same = same_place sci of_sci an of_an deleted in
     by_refusal (refusal s (RxDel of_sci of_an)) s (RxDel of_sci of_an) sci an row later there
     (none_left sci an (λ r. not (is_at of_sci of_an r))
-    (λ r here. not_true (is_at of_sci of_an r) (ap (λ (x : Sci). is_at x of_an r) (sym same.0)
-    ∙ ap (λ (n : ℕ). is_at sci n r) (sym same.1) ∙ here)) s.rx.rows) there'
+    (λ r here. not_true (is_at of_sci of_an r) (rw (← same.0, ← same.1, here))) s.rx.rows) there'
 by_command s c sci an row later deleted there there' = cc
 
 -- ---- a step
@@ -92,7 +82,7 @@ still : (row later : RxRow) (rows : List RxRow) (sci : Sci) (an : ℕ) → rx_ro
     rx_row rows sci an ≡ Some later → row.next ≤ later.next
 still row later rows sci an there there' =
     let one : row ≡ later = ap (λ (o : Option RxRow). unwrap_or o later) (sym there ∙ there') in
-    subst (λ (x : RxRow). row.next ≤ x.next) one (omega arith)
+    rw (← one) (omega arith)
 
 by_input : RowsStay → (s : State) (input : Input) (sci : Sci) (an : ℕ) (row later : RxRow) → (b : Bool) →
     is_deleting sci an input ≡ b → rx_row s.rx.rows sci an ≡ Some row →
@@ -100,26 +90,19 @@ by_input : RowsStay → (s : State) (input : Input) (sci : Sci) (an : ℕ) (row 
 by_input stay s input sci an row later false kept there there' =
     let it = stay s input sci an row.next kept (record { row = row; there = there; above = omega arith }) in
     let one : it.row ≡ later = ap (λ (o : Option RxRow). unwrap_or o later) (sym it.there ∙ there') in
-    subst (λ (x : RxRow). row.next ≤ x.next) one it.above
+    rw one at it.above
 by_input stay s (operator_command c) sci an row later true deleted there there' =
     by_command s c sci an row later deleted there there'
 by_input stay s input sci an row later true deleted there there' = cc
 
-by_both : (below go : Bool) (k : Keeping) (answer : Output × State) (sci : Sci) (an : ℕ) (row later : RxRow) →
-    rx_row k.secy.rx.rows sci an ≡ Some row →
-    (rx_row answer.1.rx.rows sci an ≡ Some later → row.next ≤ later.next) →
-    rx_row (by_tests below go k answer).1.secy.rx.rows sci an ≡ Some later → row.next ≤ later.next
-by_both true go k answer sci an row later there stepped there' = still row later k.secy.rx.rows sci an there there'
-by_both false true k answer sci an row later there stepped there' = stepped there'
-by_both false false k answer sci an row later there stepped there' = still row later k.secy.rx.rows sci an there there'
-
 next_stays : RowsStay → (k : Keeping) (input : KeepingInput) (sci : Sci) (an : ℕ) (row later : RxRow) →
     rx_row k.secy.rx.rows sci an ≡ Some row →
     rx_row (keeping_step k input).1.secy.rx.rows sci an ≡ Some later → row.next ≤ later.next
-next_stays stay k (now_durable r) sci an row later there there' = still row later k.secy.rx.rows sci an there there'
-next_stays stay k (endpoint_input input) sci an row later there there' =
-    by_both (is_below_floor k input) (may_go k input) k (step k.secy input) sci an row later there
-    (by_input stay k.secy input sci an row later (is_deleting sci an input) refl there) there'
+next_stays stay k (now_durable r) sci an row later there = still row later k.secy.rx.rows sci an there
+next_stays stay k (endpoint_input input) sci an row later there =
+    by_keeping (λ (s : State). rx_row s.rx.rows sci an ≡ Some later → row.next ≤ later.next) k input
+    (still row later k.secy.rx.rows sci an there)
+    (by_input stay k.secy input sci an row later (is_deleting sci an input) refl there)
 
 pub below_after : RowsStay → (k : Keeping) (input : KeepingInput) (bytes : List ℕ) (sci : Sci) (an n : ℕ) →
     IsBelowNext k.secy bytes sci an n →
@@ -146,6 +129,6 @@ below_after stay k input bytes sci an n below creates later there' under = by_ro
                   let one : row ≡ earlier = ap (λ (o : Option RxRow). unwrap_or o earlier) (sym there ∙ at) in
                   let same : same_octets (the_key k.secy.keys row.key).bytes bytes ≡ true =
                   (bytes_eq-Decides (the_key k.secy.keys row.key).bytes bytes).1
-                  (ap (λ (x : RxRow). (the_key k.secy.keys x.key).bytes) one ∙ under') in
+                  (rw (one, under')) in
                   let no = sym same ∙ other in cc),
             )

@@ -1,20 +1,14 @@
 -- Each protected frame is one use of the cipher: by the cases of what is sent.
-use Rattle.std.proofs.Common.{◌≡◌, ℕ, Bool, true, false, List, [], refl, ap, sym, subst, ◌∙◌}
-use Rattle.std.specs.Prelude.{◌+◌, length, nat_lt, if◌then◌else◌, Option, Some, None}
-use Rattle.macsec_suite.specs.declared.refusal.Refusal.{Refusal}
-use Rattle.macsec_suite.specs.KeyRows.{the_key}
-use Rattle.macsec_suite.specs.Suites.{last_of}
-use Rattle.macsec_tx.specs.declared.TxRow.{TxRow}
-use Rattle.macsec_tx.specs.Transmit.{Leaving, plain, protected, no_sa, too_long, Sending, not_protected, octets_added, protected_frame, row_on, sending_by, tag_sent}
-use Rattle.macsec_secy.specs.declared.fault.FrameFault.{FrameFault}
-use Rattle.macsec_secy.specs.Commands.{refusal, state_after_command}
-use Rattle.macsec_secy.specs.Reception.{judgement_of, state_after_receiving}
-use Rattle.macsec_secy.specs.State.{State, tx_options}
-use Rattle.macsec_secy.specs.Step.{client_frame, command_output, frame_fault, leaves, link_frame, operator_command, received_output, sending_of, sent_output, state_after_sending, uncontrolled_frame, unless_fault}
-use Rattle.macsec_reserve.specs.Histories.{newly_sealed, sealed_by, sealed_if}
-use Rattle.macsec_reserve.specs.Keeping.{Keeping, KeepingInput, endpoint_input, endpoint_output, now_durable, is_below_floor, may_go}
-use Rattle.macsec_reserve.proofs.Steps.{by_tests}
-use Rattle.macsec_restarts.specs.Sent.{MatchesUses, SealsEachFrame}
+use Rattle.macsec_restarts.{
+  proofs.Names.{[], ◌+◌, ◌∙◌, ◌≡◌, Bool, by_tests, client_frame, command_output, endpoint_input, endpoint_output},
+  proofs.Names.{false, frame_fault, FrameFault, if◌then◌else◌, is_below_floor, judgement_of, Keeping, KeepingInput},
+  proofs.Names.{last_of, leaves, Leaving, length, link_frame, List, may_go, nat_lt, newly_sealed, no_sa, None},
+  proofs.Names.{not_protected, now_durable, octets_added, operator_command, Option, plain, protected, protected_frame},
+  proofs.Names.{received_output, refl, Refusal, refusal, row_on, sealed_if, Sending, sending_by, sending_of},
+  proofs.Names.{sent_output, Some, State, state_after_command, state_after_receiving, state_after_sending, tag_sent},
+  proofs.Names.{the_key, too_long, true, tx_options, TxRow, uncontrolled_frame, unless_fault, ℕ},
+  specs.Sent.{MatchesUses, SealsEachFrame},
+}
 
 none_if : (go : Bool) → sealed_if go [] ≡ []
 none_if true = refl
@@ -77,28 +71,20 @@ is_sending s frame = by_protect (tx_options s).protect (nat_lt (tx_options s).ma
 sends : (k : Keeping) (frame : List ℕ) → (go : Bool) → may_go k (client_frame frame) ≡ go → (f : Option FrameFault) → frame_fault frame ≡ f →
     (sent : Sending) → sending_of k.secy frame ≡ sent → IsSending k.secy frame sent →
     MatchesUses k (endpoint_input (client_frame frame)) (by_tests false go k (unless_fault f k.secy (sent_output frame sent.leaving, state_after_sending k.secy frame sent))).0
-sends k frame false goes f fits sent is it = ap (λ b. sealed_if b (sealed_by k.secy frame (frame_fault frame) (sending_of k.secy frame).by)) goes
-sends k frame true goes (Some f) fits sent is it =
-    ap (λ b. sealed_if b (sealed_by k.secy frame (frame_fault frame) (sending_of k.secy frame).by)) goes
-    ∙ ap (λ g. sealed_by k.secy frame g (sending_of k.secy frame).by) fits
+sends k frame false goes f fits sent is it = rw goes
+sends k frame true goes (Some f) fits sent is it = rw (goes, fits)
 sends k frame true goes None fits sent is (by_none leaving none matches) =
-    subst (λ (x : Sending). MatchesUses k (endpoint_input (client_frame frame)) (endpoint_output (sent_output frame x.leaving))) (sym none)
-    (matches k (endpoint_input (client_frame frame))
-    (ap (λ b. sealed_if b (sealed_by k.secy frame (frame_fault frame) (sending_of k.secy frame).by)) goes
-    ∙ ap (λ g. sealed_by k.secy frame g (sending_of k.secy frame).by) fits
-    ∙ ap (λ (x : Sending). sealed_by k.secy frame None x.by) (is ∙ none)))
+    rw none (matches k (endpoint_input (client_frame frame))
+    (rw (goes, fits, (is ∙ none))))
 sends k frame true goes None fits sent is (by_sa row one) =
-    subst (λ (x : Sending). MatchesUses k (endpoint_input (client_frame frame)) (endpoint_output (sent_output frame x.leaving))) (sym one)
-    (record {
+    rw one (record {
       client = frame;
       came = refl;
       row = row;
-      by = ap (λ (x : Sending). x.by) (is ∙ one);
+      by = rw (is ∙ one);
       of_key = refl;
       octets_are = refl;
-      uses = ap (λ b. sealed_if b (sealed_by k.secy frame (frame_fault frame) (sending_of k.secy frame).by)) goes
-          ∙ ap (λ g. sealed_by k.secy frame g (sending_of k.secy frame).by) fits
-          ∙ ap (λ (x : Sending). sealed_by k.secy frame None x.by) (is ∙ one);
+      uses = rw (goes, fits, (is ∙ one));
     })
 
 pub seals_each_frame : (k : Keeping) (input : KeepingInput) → SealsEachFrame k input

@@ -1,48 +1,44 @@
 -- Origin: the other end sent what a strictly validating end delivers, in one of its runs.
-use Rattle.std.proofs.Common.{◌≡◌, ◌⊎◌, inl, inr, ℕ, ◌≤◌, true, List, [], ◌++◌, map, refl, ap, sym, subst, ◌∙◌, All, AllPairs, Contains}
-use Rattle.std.specs.Prelude.{take, if◌then◌else◌, Option, Some, None, IfSome}
-use Rattle.std.proofs.lemmas.List.{map-append}
-use Rattle.std.proofs.lemmas.List.Elements.{All-contains}
-use Rattle.macsec_tag.specs.Frame.{IsTagged, MpduParts}
-use Rattle.macsec_tag.specs.Laws.{AreOctets}
-use Rattle.macsec_tag.specs.Table.{reading}
-use Rattle.macsec_suite.specs.CipherUses.{CipherUse, plaintext_of_use}
-use Rattle.macsec_suite.specs.IvLaws.{IvParts, iv_of_parts}
-use Rattle.macsec_suite.specs.KeyRows.{InstalledKey, the_key}
-use Rattle.macsec_suite.specs.Suites.{is_xpn, iv_of, last_of}
-use Rattle.macsec_suite.specs.declared.suite.Suite.{Suite}
-use Rattle.macsec_commands.specs.declared.config.EndConfig.{EndConfig}
-use Rattle.macsec_commands.specs.declared.event.End.{End}
-use Rattle.macsec_commands.specs.declared.event.End.TheVariants.{A, B}
-use Rattle.macsec_commands.specs.declared.mode.Mode.TheVariants.{Strict}
-use Rattle.macsec_rx.specs.declared.RxRow.{RxRow}
-use Rattle.macsec_secy.specs.Delivers.{IsDeliveredFrom, IsOfOtherSender, IsOpened}
-use Rattle.macsec_secy.specs.Reception.{judgement_of}
-use Rattle.macsec_secy.specs.Sound.{IsSound}
-use Rattle.macsec_secy.specs.State.{State}
-use Rattle.macsec_secy.specs.Step.{link_frame}
-use Rattle.macsec_link.specs.Genuine.{use_opened, use_opened_in}
-use Rattle.macsec_link.specs.Trace.{Sent, use_to_open_by}
-use Rattle.macsec_link.proofs.Deliveries.{Grammar}
-use Rattle.macsec_link.proofs.EndpointLaws.{EndpointLaws, differ, key_row_facts}
-use Rattle.macsec_link.proofs.Members.{IsMember, contained, from_map, member}
-use Rattle.macsec_link.proofs.Reflections.{not_of_own_end, recovered_most, same_number_asked}
-use Rattle.macsec_link.proofs.Seals.{IsFrom}
-use Rattle.macsec_reserve.specs.Histories.{IsHistory, AgreeOnKey, AgreeOnKeys, Run, closing, opening, sealed_in_all}
-use Rattle.macsec_reserve.specs.Keeping.{endpoint_input}
-use Rattle.macsec_restarts.specs.Happenings.{Happening, comes_in, last_run, runs_of}
-use Rattle.macsec_restarts.specs.Origin.{AlwaysComesFromOther, ComesFromOther, WasSent}
-use Rattle.macsec_restarts.specs.Peers.{ArePeers, IsGenuineAt, IsSameEnd}
-use Rattle.macsec_restarts.specs.Sent.{SentIn, sent_in_all}
-use Rattle.macsec_restarts.specs.Used.{ArePeersAtAll, ComesFromOtherAtAll, IsSoundHistory}
-use Rattle.macsec_restarts.proofs.Lists.{at_end, either_list, in_front}
-use Rattle.macsec_restarts.proofs.Prefixes.{peers_taken}
-use Rattle.macsec_restarts.proofs.Sends.{IsSentIn, by_runs, last_member, last_or_before, seal_of_sent, seals_of_runs}
-use Rattle.macsec_restarts.proofs.SoundRuns.{IsSoundRun, closing_sound, stay_after}
+use Rattle.{
+  macsec_tag.specs.Frame.IsTagged,
+  macsec_secy.specs.Delivers.{IsOfOtherSender, IsOpened},
+  macsec_link.{
+    proofs.{EndpointLaws.differ, Members.from_map, Reflections.{not_of_own_end, recovered_most, same_number_asked}},
+    specs.Trace.{Sent, use_to_open_by},
+  },
+  macsec_restarts.proofs.{
+    Names.{[], ◌++◌, ◌∙◌, ◌≡◌, ◌≤◌, ◌⊎◌, A, AgreeOnKey, AgreeOnKeys, All, All-contains, AllPairs, ap, AreOctets},
+    Names.{ArePeers, B, closing, comes_in, contained, Contains, End, EndConfig, endpoint_input, EndpointLaws, Grammar},
+    Names.{Happening, IfSome, if◌then◌else◌, inl, inr, InstalledKey, is_xpn, IsDeliveredFrom, IsFrom, IsGenuineAt},
+    Names.{IsHistory, IsMember, IsSameEnd, IsSound, iv_of, iv_of_parts, IvParts, judgement_of, key_row_facts, last_of},
+    Names.{last_run, link_frame, List, map, map-append, member, MpduParts, None, opening, Option, reading, refl, Run},
+    Names.{runs_of, RxRow, sealed_in_all, sent_in_all, SentIn, Some, State, Strict, sym, take, the_key, true},
+    Names.{use_opened, use_opened_in, WasSent, ℕ},
+    Lists.{at_end, either_list, in_front},
+    Prefixes.peers_taken,
+    Sends.{IsSentIn, by_runs, last_member, last_or_before, seal_of_sent, seals_of_runs},
+    SoundRuns.{IsSoundRun, closing_sound, stay_after},
+  },
+  macsec_restarts.specs.{
+    Origin.{AlwaysComesFromOther, ComesFromOther},
+    Used.{ArePeersAtAll, ComesFromOtherAtAll, IsSoundHistory},
+  },
+}
 
 -- as macsec_link has it
 abbrev in_link : SentIn → Sent
 in_link x = record { at = A; key = 0; number = x.number; frame = x.frame; seal = x.seal }
+
+-- what was sent stays sent
+pub sent_more : (sends added : List SentIn) {bytes frame : List ℕ} {number : ℕ} → WasSent sends bytes frame number →
+    WasSent (sends ++ added) bytes frame number
+sent_more sends added it = record {
+  send = it.send;
+  among = contained (sends ++ added) it.send (in_front sends added it.send (member sends it.send it.among));
+  of_frame = it.of_frame;
+  under = it.under;
+  of_number = it.of_number;
+}
 
 -- ---- an earlier run of the own end
 
@@ -53,8 +49,10 @@ record AreOneKey (s t : State) (x y : InstalledKey) : Type 0 where
   salt : is_xpn y.suite ≡ true → x.salt ≡ y.salt
   ssci : is_xpn y.suite ≡ true → x.ssci ≡ y.ssci
 
-not_of_earlier_run : EndpointLaws → (s t : State) (row : RxRow) (number : ℕ) (p : MpduParts) (x : SentIn) → IsSound s → IsSound t → IsOfOtherSender t row →
-    number ≤ last_of (the_key t.keys row.key).suite → (from : IsFrom s x.seal x.number) → AreOneKey s t from.key (the_key t.keys row.key) →
+not_of_earlier_run : EndpointLaws → (s t : State) (row : RxRow) (number : ℕ) (p : MpduParts) (x : SentIn) → IsSound s →
+    IsSound t → IsOfOtherSender t row →
+    number ≤ last_of (the_key t.keys row.key).suite → (from : IsFrom s x.seal x.number) →
+    AreOneKey s t from.key (the_key t.keys row.key) →
     x.seal ≡ use_to_open_by t row number p → ⊥
 not_of_earlier_run laws s t row number p x sound sound' of most from one asked =
     let key = the_key t.keys row.key in
@@ -62,28 +60,39 @@ not_of_earlier_run laws s t row number p x sound sound' of most from one asked =
     let facts' = key_row_facts laws s from.key sound from.there in
     let own : IvParts = record { sci = s.config.sci; ssci = from.key.ssci; salt = from.key.salt; pn = x.number } in
     let other : IvParts = record { sci = row.sci; ssci = row.ssci; salt = key.salt; pn = number } in
-    let iv : iv_of_parts key.suite own ≡ iv_of_parts key.suite other = ap (λ u. iv_of_parts u own) (sym one.suite) ∙ sym from.iv ∙ ap (λ u. u.iv) asked in
+    let iv : iv_of_parts key.suite own ≡ iv_of_parts key.suite other = ap (λ u. iv_of_parts u own) (sym one.suite) ∙
+    sym from.iv ∙ ap (λ u. u.iv) asked in
     differ key.suite own other (laws.equal_ivs key.suite own other
-    (record { sci = sound.own_sci.count; ssci = facts'.ssci; salt = facts'.salt; pn = subst (λ (u : Suite). x.number ≤ last_of u) one.suite from.most })
+    (record { sci = sound.own_sci.count; ssci = facts'.ssci; salt = facts'.salt; pn = rw one.suite at from.most })
     (record { sci = of.sci_count; ssci = of.ssci; salt = facts.salt; pn = most }) one.salt iv)
     (λ xpn same. of.other_ssci xpn (sym (one.ssci xpn) ∙ same)) (λ same. of.other_sci (sym one.sci ∙ same))
 
 -- ---- what was opened was sent in a run of one of the ends
 
-sealed_before : (runs others : List Run) (s : State) (frame : List ℕ) (row : RxRow) (delivered : List ℕ) → (judgement_of s frame).row ≡ Some row →
-    (it : IsOpened s frame row delivered) → IfSome (use_opened s frame) (Contains (sealed_in_all runs ++ sealed_in_all others)) →
-    (x : SentIn) × IsMember (sent_in_all runs ++ sent_in_all others) x × (x.seal ≡ use_to_open_by s row (judgement_of s frame).number it.p)
+sealed_before : (runs others : List Run) (s : State) (frame : List ℕ) (row : RxRow) (delivered : List ℕ) →
+    (judgement_of s frame).row ≡ Some row →
+    (it : IsOpened s frame row delivered) →
+    IfSome (use_opened s frame) (Contains (sealed_in_all runs ++ sealed_in_all others)) →
+    (x : SentIn) × IsMember (sent_in_all runs ++ sent_in_all others) x ×
+    (x.seal ≡ use_to_open_by s row (judgement_of s frame).number it.p)
 sealed_before runs others s frame row delivered of_row it genuine =
     let j = judgement_of s frame in
     let opening' = use_to_open_by s row j.number it.p in
     let opened : use_opened s frame ≡ Some opening' =
-    ap (λ o. use_opened_in s j o (reading frame)) of_row ∙ ap (λ r. use_opened_in s j (Some row) r) it.reads ∙ ap (λ b. if b then Some opening' else None) it.thirteen in
-    let there : Contains (sealed_in_all runs ++ sealed_in_all others) opening' = subst (λ o. IfSome o (Contains (sealed_in_all runs ++ sealed_in_all others))) opened genuine in
+    ap (λ o. use_opened_in s j o (reading frame)) of_row ∙ ap (λ r. use_opened_in s j (Some row) r) it.reads ∙
+    ap (λ b. if b then Some opening' else None) it.thirteen in
+    let there : Contains (sealed_in_all runs ++ sealed_in_all others) opening' = rw opened at genuine in
     from_map seal_of_sent (sent_in_all runs ++ sent_in_all others) opening'
-    (subst (λ (us : List CipherUse). IsMember us opening') (sym (seals_of_both runs others)) (member (sealed_in_all runs ++ sealed_in_all others) opening' there))
+    (rw (seals_of_both runs others) (member (sealed_in_all runs ++ sealed_in_all others) opening' there))
   where
-    seals_of_both : (ps qs : List Run) → map seal_of_sent (sent_in_all ps ++ sent_in_all qs) ≡ sealed_in_all ps ++ sealed_in_all qs
-    seals_of_both ps qs = rw (map-append seal_of_sent (sent_in_all ps) (sent_in_all qs), seals_of_runs ps, seals_of_runs qs) refl
+    seals_of_both : (ps qs : List Run) → map seal_of_sent (sent_in_all ps ++ sent_in_all qs) ≡ sealed_in_all ps ++
+        sealed_in_all qs
+    seals_of_both ps qs = rw (
+      map-append seal_of_sent (sent_in_all ps) (sent_in_all qs),
+      seals_of_runs ps,
+      seals_of_runs
+          qs,
+    ) refl
 
 -- ---- one end, and the other
 
@@ -98,13 +107,16 @@ pub record AreRuns (runs others : List Run) : Type 0 where
 abbrev IsPair : Run → Run → Type 0
 IsPair run later = AgreeOnKeys run later × IsSameEnd run later
 
-pub comes : EndpointLaws → Grammar → (runs others : List Run) → AreRuns runs others → (run : Run) → last_run runs ≡ Some run →
+pub comes : EndpointLaws → Grammar → (runs others : List Run) → AreRuns runs others → (run : Run) →
+    last_run runs ≡ Some run →
     (frame : List ℕ) → AreOctets frame → (row : RxRow) (delivered : List ℕ) →
     let s = (closing run).secy in
     IfSome (use_opened s frame) (Contains (sealed_in_all runs ++ sealed_in_all others)) →
-    s.options.mode ≡ Strict → (judgement_of s frame).row ≡ Some row → (judgement_of s frame).delivered ≡ Some delivered →
+    s.options.mode ≡ Strict → (judgement_of s frame).row ≡ Some row → (judgement_of s frame).delivered ≡ Some
+    delivered →
     WasSent (sent_in_all others) (the_key s.keys row.key).bytes delivered (judgement_of s frame).number
-comes laws grammar runs others are run last frame octets row delivered genuine strict of_row delivers = by_side (either_list (sent_in_all runs) (sent_in_all others) x found.1)
+comes laws grammar runs others are run last frame octets row delivered genuine strict of_row delivers = by_side
+    (either_list (sent_in_all runs) (sent_in_all others) x found.1)
   where
     s : State
     s = (closing run).secy
@@ -133,7 +145,8 @@ comes laws grammar runs others are run last frame octets row delivered genuine s
     opened : IsOpened s frame row delivered
     opened = tells.opened strict
 
-    found : (x : SentIn) × IsMember (sent_in_all runs ++ sent_in_all others) x × (x.seal ≡ use_to_open_by s row number opened.p)
+    found : (x : SentIn) × IsMember (sent_in_all runs ++ sent_in_all others) x ×
+        (x.seal ≡ use_to_open_by s row number opened.p)
     found = sealed_before runs others s frame row delivered of_row opened genuine
 
     x : SentIn
@@ -149,52 +162,62 @@ comes laws grammar runs others are run last frame octets row delivered genuine s
     most = recovered_most key.suite row.lowest opened.p.tag.pn number is_tagged.tag.pn opened.number
 
     bytes : x.seal.key ≡ key.bytes
-    bytes = ap (λ (u : CipherUse). u.key) asked
+    bytes = rw asked
 
     own_config : (q : Run) → IsSoundRun q → (closing q).secy.config ≡ q.config
     own_config q sound' = (stay_after laws q.inputs (opening q) sound').config
 
     -- an own one: of this run, or of an earlier one
     not_own : IsSentIn runs x → ⊥
-    not_own is = by_run (last_or_before IsPair runs run last (λ i j d less within. (are.own.agree i j d less within, are.one i j d less within)) is.run is.among)
+    not_own is = by_run (last_or_before IsPair runs run last
+        (λ i j d less within. (are.own.agree i j d less within, are.one i j d less within)) is.run is.among)
       where
         by_run : (is.run ≡ run) ⊎ IsPair is.run run → ⊥
         by_run (inl same) =
-            let from : IsFrom s x.seal x.number = subst (λ (q : Run). IsFrom (closing q).secy x.seal x.number) same is.it.from in
+            let from : IsFrom s x.seal x.number = rw same at is.it.from in
             not_of_own_end laws s row number opened.p (in_link x) sound of most from asked
         by_run (inr pair) =
             let from = is.it.from in
             let agree = pair.0 from.key key from.there of.key.there (sym from.bytes ∙ bytes) in
-            not_of_earlier_run laws (closing is.run).secy s row number opened.p x (closing_sound is.run is.sound) sound of most from
+            not_of_earlier_run laws (closing is.run).secy s row number opened.p x (closing_sound is.run is.sound) sound
+            of most from
             (record {
-              sci = ap (λ (c : EndConfig). c.sci) (own_config is.run is.sound) ∙ pair.1.sci ∙ ap (λ (c : EndConfig). c.sci) (sym (own_config run sound_run));
+              sci = ap (λ (c : EndConfig). c.sci) (own_config is.run is.sound) ∙ pair.1.sci ∙
+                  ap (λ (c : EndConfig). c.sci) (sym (own_config run sound_run));
               suite = agree.suite;
-              salt = λ xpn. agree.salt (ap is_xpn agree.suite ∙ xpn);
-              ssci = λ xpn. pair.1.ssci from.key key from.there of.key.there (sym from.bytes ∙ bytes) (ap is_xpn agree.suite ∙ xpn);
+              salt = λ xpn. agree.salt (rw (agree.suite, xpn));
+              ssci = λ xpn. pair.1.ssci from.key key from.there of.key.there (sym from.bytes ∙ bytes)
+                  (rw (agree.suite, xpn));
             }) asked
 
-    by_side : IsMember (sent_in_all runs) x ⊎ IsMember (sent_in_all others) x → WasSent (sent_in_all others) key.bytes delivered number
-    by_side (inl own) = absurd (not_own (All-contains (IsSentIn runs) (sent_in_all runs) x (by_runs laws runs are.own.sound) (contained (sent_in_all runs) x own)))
+    by_side : IsMember (sent_in_all runs) x ⊎ IsMember (sent_in_all others) x → WasSent (sent_in_all others) key.bytes
+        delivered number
+    by_side (inl own) = absurd
+        (not_own (All-contains (IsSentIn runs) (sent_in_all runs) x (by_runs laws runs are.own.sound)
+        (contained (sent_in_all runs) x own)))
     by_side (inr theirs) =
         let among = contained (sent_in_all others) x theirs in
         let is = All-contains (IsSentIn others) (sent_in_all others) x (by_runs laws others are.other.sound) among in
         let from = is.it.from in
-        let agree = are.agree run there_run is.run is.among key from.key of.key.there from.there (sym bytes ∙ from.bytes) in
+        let agree = are.agree run there_run is.run is.among key from.key of.key.there from.there (sym bytes ∙
+        from.bytes) in
         let lengths = is_tagged.lengths in
         record {
           send = x;
           among = among;
-          of_frame = sym (is.it.opens key (iv_of key.suite row.sci row.ssci key.salt number) opened.p opened.plaintext is_tagged.tag lengths.da lengths.sa (sym asked)
-              (ap plaintext_of_use asked ∙ opened.opens)) ∙ opened.gives;
+          of_frame = sym (is.it.opens key (iv_of key.suite row.sci row.ssci key.salt number) opened.p opened.plaintext
+              is_tagged.tag lengths.da lengths.sa (sym asked)
+              (rw (asked, opened.opens))) ∙ opened.gives;
           under = bytes;
-          of_number = same_number_asked laws s (closing is.run).secy row number opened.p (in_link x) sound (closing_sound is.run is.sound) of from
-              agree.suite (λ xpn. agree.salt (ap is_xpn agree.suite ∙ xpn)) most asked;
+          of_number = same_number_asked laws s (closing is.run).secy row number opened.p (in_link x) sound
+              (closing_sound is.run is.sound) of from
+              agree.suite (λ xpn. agree.salt (rw (agree.suite, xpn))) most asked;
         }
 
 -- ---- both ends
 
 pub turned : {x y : InstalledKey} → AgreeOnKey x y → AgreeOnKey y x
-turned it = record { suite = sym it.suite; salt = λ xpn. sym (it.salt (ap is_xpn it.suite ∙ xpn)) }
+turned it = record { suite = sym it.suite; salt = λ xpn. sym (it.salt (rw (it.suite, xpn))) }
 
 at_a : (before : List Happening) → ArePeersAtAll before → AreRuns (runs_of A before) (runs_of B before)
 at_a before peers = record {
@@ -204,7 +227,8 @@ at_a before peers = record {
   agree = λ run there q there' x y here here' bytes.
       let both : AgreeOnKeys run q =
       All-contains (AgreeOnKeys run) (runs_of B before) q
-      (All-contains (λ p. All (AgreeOnKeys p) (runs_of B before)) (runs_of A before) run peers.agree (contained (runs_of A before) run there))
+      (All-contains (λ p. All (AgreeOnKeys p) (runs_of B before)) (runs_of A before) run peers.agree
+      (contained (runs_of A before) run there))
       (contained (runs_of B before) q there') in
       turned (both x y here here' bytes);
 }
@@ -217,13 +241,15 @@ at_b before peers = record {
   agree = λ run there q there' x y here here' bytes.
       let both : AgreeOnKeys q run =
       All-contains (AgreeOnKeys q) (runs_of B before) run
-      (All-contains (λ p. All (AgreeOnKeys p) (runs_of B before)) (runs_of A before) q peers.agree (contained (runs_of A before) q there'))
+      (All-contains (λ p. All (AgreeOnKeys p) (runs_of B before)) (runs_of A before) q peers.agree
+      (contained (runs_of A before) q there'))
       (contained (runs_of B before) run there) in
       both y x here' here (sym bytes);
 }
 
 -- what was sealed at either end, in the other order
-pub swapped : {X : Type 0} (xs ys : List X) (o : Option X) → IfSome o (Contains (xs ++ ys)) → IfSome o (Contains (ys ++ xs))
+pub swapped : {X : Type 0} (xs ys : List X) (o : Option X) → IfSome o (Contains (xs ++ ys)) →
+    IfSome o (Contains (ys ++ xs))
 swapped xs ys None there = there
 swapped xs ys (Some x) there = contained (ys ++ xs) x (by_list (either_list xs ys x (member (xs ++ ys) x there)))
   where
@@ -231,17 +257,20 @@ swapped xs ys (Some x) there = contained (ys ++ xs) x (by_list (either_list xs y
     by_list (inl here) = at_end ys xs x here
     by_list (inr here) = in_front ys xs x here
 
-genuine_now : (before : List Happening) (e : End) (run : Run) (frame : List ℕ) → last_run (runs_of e before) ≡ Some run → IsGenuineAt before (comes_in e (endpoint_input (link_frame frame))) →
-    IfSome (use_opened (closing run).secy frame) (Contains (sealed_in_all (runs_of A before) ++ sealed_in_all (runs_of B before)))
-genuine_now before e run frame last genuine =
-    subst (λ (o : Option Run). IfSome o (λ q. IfSome (use_opened (closing q).secy frame) (Contains (sealed_in_all (runs_of A before) ++ sealed_in_all (runs_of B before))))) last genuine
+genuine_now : (before : List Happening) (e : End) (run : Run) (frame : List ℕ) → last_run (runs_of e before) ≡ Some
+    run → IsGenuineAt before (comes_in e (endpoint_input (link_frame frame))) →
+    IfSome (use_opened (closing run).secy frame)
+    (Contains (sealed_in_all (runs_of A before) ++ sealed_in_all (runs_of B before)))
+genuine_now before e run frame last genuine = rw last at genuine
 
 pub comes_from_other_at_all : EndpointLaws → Grammar → (before : List Happening) → ComesFromOtherAtAll before
 comes_from_other_at_all laws grammar before peers A run frame row delivered octets genuine last strict of_row delivers =
-    comes laws grammar (runs_of A before) (runs_of B before) (at_a before peers) run last frame octets row delivered (genuine_now before A run frame last genuine) strict of_row delivers
+    comes laws grammar (runs_of A before) (runs_of B before) (at_a before peers) run last frame octets row delivered
+    (genuine_now before A run frame last genuine) strict of_row delivers
 comes_from_other_at_all laws grammar before peers B run frame row delivered octets genuine last strict of_row delivers =
     comes laws grammar (runs_of B before) (runs_of A before) (at_b before peers) run last frame octets row delivered
-    (swapped (sealed_in_all (runs_of A before)) (sealed_in_all (runs_of B before)) (use_opened (closing run).secy frame) (genuine_now before B run frame last genuine)) strict of_row delivers
+    (swapped (sealed_in_all (runs_of A before)) (sealed_in_all (runs_of B before)) (use_opened (closing run).secy frame)
+    (genuine_now before B run frame last genuine)) strict of_row delivers
 
 without_journal : (runs : List Run) → IsHistory runs → IsSoundHistory runs
 without_journal runs is = record { sound = is.sound; agree = is.agree }
@@ -259,6 +288,7 @@ pub comes_from_other : EndpointLaws → Grammar → (before : List Happening) �
 comes_from_other laws grammar before peers = comes_from_other_at_all laws grammar before (at_all before peers)
 
 pub always_comes_from_other : EndpointLaws → Grammar → (events : List Happening) → AlwaysComesFromOther events
-always_comes_from_other laws grammar events genuine peers k e run frame row delivered octets happens last strict of_row delivers =
+always_comes_from_other laws grammar events genuine peers k e run frame row delivered octets happens last strict of_row
+    delivers =
     comes_from_other laws grammar (take k events) (peers_taken laws k [] events peers) e run frame row delivered octets
-    (subst (λ (o : Option Happening). IfSome o (IsGenuineAt (take k events))) happens (genuine k)) last strict of_row delivers
+    (rw happens at (genuine k)) last strict of_row delivers

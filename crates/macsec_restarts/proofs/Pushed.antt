@@ -1,18 +1,11 @@
 -- One more happening: the runs of an end, and what they sent and delivered.
-use Rattle.std.proofs.Common.{◌≡◌, ℕ, Bool, true, false, List, [], ◌∷◌, ◌++◌, refl, ap, sym, ◌∙◌, append_assoc, append-nil}
-use Rattle.std.specs.Prelude.{◌&&◌, ◌==◌, if◌then◌else◌, option_map, Option, Some, None}
-use Rattle.std.proofs.lemmas.List.Elements.{filter-append}
-use Rattle.macsec_gcm.specs.Octets.{same_octets}
-use Rattle.macsec_tag.specs.declared.identifiers.Sci.{Sci}
-use Rattle.macsec_rx.specs.Channels.{same_sci}
-use Rattle.macsec_commands.specs.declared.config.EndConfig.{EndConfig}
-use Rattle.macsec_commands.specs.declared.event.End.{End}
-use Rattle.macsec_reserve.specs.Histories.{Run, closing, opening}
-use Rattle.macsec_reserve.specs.Keeping.{Keeping, KeepingInput, keeping_after, keeping_step}
-use Rattle.macsec_restarts.specs.Delivered.{Delivery, delivered_at, delivered_from, delivered_in_all, newly_delivered}
-use Rattle.macsec_restarts.specs.Happenings.{Happening, begins, comes_in, inputs_until, last_run, runs_of, same_end}
-use Rattle.macsec_restarts.specs.Order.{delivered_in}
-use Rattle.macsec_restarts.specs.Sent.{SentIn, newly_sent, sent_from, sent_in_all}
+use Rattle.macsec_restarts.proofs.Names.{[], ◌&&◌, ◌++◌, ◌==◌, ◌∙◌, ◌∷◌, ◌≡◌, A, ap, append-nil, append_assoc, B}
+use Rattle.macsec_restarts.proofs.Names.{begins, Bool, closing, comes_in, delivered_at, delivered_from, delivered_in}
+use Rattle.macsec_restarts.proofs.Names.{delivered_in_all, Delivery, End, EndConfig, false, filter-append, Happening}
+use Rattle.macsec_restarts.proofs.Names.{if◌then◌else◌, inputs_until, Keeping, keeping_after, keeping_step}
+use Rattle.macsec_restarts.proofs.Names.{KeepingInput, last_run, List, newly_delivered, newly_sent, None, opening}
+use Rattle.macsec_restarts.proofs.Names.{Option, option_map, refl, Run, runs_of, same_end, same_octets, same_sci, Sci}
+use Rattle.macsec_restarts.proofs.Names.{sent_from, sent_in_all, SentIn, Some, sym, true, ℕ}
 
 -- a run with one more input
 abbrev pub with_input : KeepingInput → Run → Run
@@ -29,7 +22,7 @@ with_last input (run ∷ later ∷ more) = run ∷ with_last input (later ∷ mo
 -- if no run begins later
 until_open : (e f : End) (input : KeepingInput) (more : List Happening) → runs_of e more ≡ [] → same_end e f ≡ true →
     inputs_until e (more ++ comes_in f input ∷ []) ≡ inputs_until e more ++ input ∷ []
-until_open e f input [] none same = ap (λ (b : Bool). if b then input ∷ [] else []) same
+until_open e f input [] none same = rw same
 until_open e f input (begins g config journal ∷ more) none same =
     by_end (same_end e g) none (λ none'. until_open e f input more none' same)
   where
@@ -62,17 +55,14 @@ until_closed e h (begins g config journal ∷ more) run runs some =
         (if b then [] else inputs_until e (more ++ h ∷ [])) ≡ (if b then [] else inputs_until e more)
     by_end true some' later = refl
     by_end false some' later = later some'
-until_closed e h (comes_in g i ∷ more) run runs some =
-    ap (λ is. if same_end e g then i ∷ is else is) (until_closed e h more run runs some)
+until_closed e h (comes_in g i ∷ more) run runs some = rw (until_closed e h more run runs some)
 
 -- what happens at the other end
 until_other : (e f : End) (input : KeepingInput) (more : List Happening) → same_end e f ≡ false →
     inputs_until e (more ++ comes_in f input ∷ []) ≡ inputs_until e more
-until_other e f input [] other = ap (λ (b : Bool). if b then input ∷ [] else []) other
-until_other e f input (begins g config journal ∷ more) other =
-    ap (λ is. if same_end e g then [] else is) (until_other e f input more other)
-until_other e f input (comes_in g i ∷ more) other =
-    ap (λ is. if same_end e g then i ∷ is else is) (until_other e f input more other)
+until_other e f input [] other = rw other
+until_other e f input (begins g config journal ∷ more) other = rw (until_other e f input more other)
+until_other e f input (comes_in g i ∷ more) other = rw (until_other e f input more other)
 
 either_way : (b : Bool) (is : List KeepingInput) → (if b then is else is) ≡ is
 either_way true is = refl
@@ -82,10 +72,8 @@ either_way false is = refl
 until_begins : (e f : End) (config : EndConfig) (journal : List ℕ) (more : List Happening) →
     inputs_until e (more ++ begins f config journal ∷ []) ≡ inputs_until e more
 until_begins e f config journal [] = either_way (same_end e f) []
-until_begins e f config journal (begins g config' journal' ∷ more) =
-    ap (λ is. if same_end e g then [] else is) (until_begins e f config journal more)
-until_begins e f config journal (comes_in g i ∷ more) =
-    ap (λ is. if same_end e g then i ∷ is else is) (until_begins e f config journal more)
+until_begins e f config journal (begins g config' journal' ∷ more) = rw (until_begins e f config journal more)
+until_begins e f config journal (comes_in g i ∷ more) = rw (until_begins e f config journal more)
 
 -- ---- the runs
 
@@ -134,10 +122,7 @@ pub runs_of-other_input : (e f : End) (input : KeepingInput) (before : List Happ
 runs_of-other_input e f input [] other = refl
 runs_of-other_input e f input (comes_in g i ∷ more) other = runs_of-other_input e f input more other
 runs_of-other_input e f input (begins g config journal ∷ more) other =
-    ap (λ is. if same_end e g then run_with config journal is ∷ runs_of e (more ++ comes_in f input ∷ [])
-    else runs_of e (more ++ comes_in f input ∷ [])) (until_other e f input more other)
-    ∙ ap (λ rs. if same_end e g then run_with config journal (inputs_until e more) ∷ rs else rs)
-    (runs_of-other_input e f input more other)
+    rw (until_other e f input more other, runs_of-other_input e f input more other)
 
 -- a beginning at this end or at the other one
 pub runs_of-begins : (e f : End) (config : EndConfig) (journal : List ℕ) (before : List Happening) →
@@ -160,6 +145,41 @@ runs_of-begins e f config journal (begins g config' journal' ∷ more) =
         (until_begins e f config journal more)
         ∙ ap (λ rs. run_with config' journal' (inputs_until e more) ∷ rs) later
     by_end false later = later
+
+pub same_is : (e f : End) → same_end e f ≡ true → f ≡ e
+same_is A A same = refl
+same_is B B same = refl
+same_is A B same = cc
+same_is B A same = cc
+
+pub same_own : (e : End) → same_end e e ≡ true
+same_own A = refl
+same_own B = refl
+
+-- the runs of an end after one more happening
+pub data IsNext (e : End) (runs : List Run) : Happening → List Run → Type 0 where
+  same_runs : (h : Happening) → IsNext e runs h runs
+  new_run : (config : EndConfig) (journal : List ℕ) →
+      IsNext e runs (begins e config journal) (runs ++ run_with config journal [] ∷ [])
+  new_input : (input : KeepingInput) → IsNext e runs (comes_in e input) (with_last input runs)
+
+pub is_next : (e : End) (before : List Happening) (h : Happening) →
+    IsNext e (runs_of e before) h (runs_of e (before ++ h ∷ []))
+is_next e before (begins f config journal) = by_end (same_end e f) refl
+  where
+    by_end : (b : Bool) → same_end e f ≡ b → IsNext e (runs_of e before) (begins f config journal)
+        (runs_of e (before ++ begins f config journal ∷ []))
+    by_end true same =
+        rw (runs_of-begins e f config journal before, same, same_is e f same) (new_run config journal)
+    by_end false other =
+        rw (runs_of-begins e f config journal before, other, append-nil (runs_of e before))
+        (same_runs (begins f config journal))
+is_next e before (comes_in f input) = by_end (same_end e f) refl
+  where
+    by_end : (b : Bool) → same_end e f ≡ b → IsNext e (runs_of e before) (comes_in f input)
+        (runs_of e (before ++ comes_in f input ∷ []))
+    by_end true same = rw (runs_of-input e f input before same, same_is e f same) (new_input input)
+    by_end false other = rw (runs_of-other_input e f input before other) (same_runs (comes_in f input))
 
 -- ---- the last run
 
@@ -189,25 +209,34 @@ pub delivered_from-push : (inputs : List KeepingInput) (k : Keeping) (input : Ke
     delivered_from k (inputs ++ input ∷ []) ≡ delivered_from k inputs ++ newly_delivered (keeping_after k inputs) input
 delivered_from-push [] k input = append-nil (newly_delivered k input)
 delivered_from-push (i ∷ inputs) k input =
-    ap (λ gs. newly_delivered k i ++ gs) (delivered_from-push inputs (keeping_step k i).1 input)
-    ∙ sym (append_assoc (newly_delivered k i) (delivered_from (keeping_step k i).1 inputs)
-    (newly_delivered (keeping_after (keeping_step k i).1 inputs) input))
+    rw (
+      delivered_from-push inputs (keeping_step k i).1 input,
+      ← append_assoc (newly_delivered k i)
+          (delivered_from (keeping_step k i).1 inputs)
+          (newly_delivered (keeping_after (keeping_step k i).1 inputs) input),
+    )
 
 sent_from-push : (inputs : List KeepingInput) (k : Keeping) (input : KeepingInput) →
     sent_from k (inputs ++ input ∷ []) ≡ sent_from k inputs ++ newly_sent (keeping_after k inputs) input
 sent_from-push [] k input = append-nil (newly_sent k input)
 sent_from-push (i ∷ inputs) k input =
-    ap (λ gs. newly_sent k i ++ gs) (sent_from-push inputs (keeping_step k i).1 input)
-    ∙ sym (append_assoc (newly_sent k i) (sent_from (keeping_step k i).1 inputs)
-    (newly_sent (keeping_after (keeping_step k i).1 inputs) input))
+    rw (
+      sent_from-push inputs (keeping_step k i).1 input,
+      ← append_assoc (newly_sent k i)
+          (sent_from (keeping_step k i).1 inputs)
+          (newly_sent (keeping_after (keeping_step k i).1 inputs) input),
+    )
 
 pub delivered_in-input : (bytes : List ℕ) (sci : Sci) (an : ℕ) (input : KeepingInput) (run : Run) →
     delivered_in (with_input input run) bytes sci an ≡
     delivered_in run bytes sci an ++ delivered_at bytes sci an (newly_delivered (closing run) input)
 delivered_in-input bytes sci an input run =
-    ap (delivered_at bytes sci an) (delivered_from-push run.inputs (opening run) input)
-    ∙ filter-append (λ d. same_octets d.bytes bytes && same_sci d.sci sci && d.an == an)
-    (delivered_from (opening run) run.inputs) (newly_delivered (closing run) input)
+    rw (
+      delivered_from-push run.inputs (opening run) input,
+      filter-append (λ d. same_octets d.bytes bytes && same_sci
+          d.sci sci && d.an == an)
+          (delivered_from (opening run) run.inputs) (newly_delivered (closing run) input),
+    )
 
 -- what the last run adds, if there is one
 abbrev pub delivered_by_last : Option Run → KeepingInput → List Delivery
@@ -226,9 +255,12 @@ delivered_in_all-with_last input (run ∷ []) =
     ∙ delivered_from-push run.inputs (opening run) input
     ∙ ap (λ gs. gs ++ newly_delivered (closing run) input) (sym (append-nil (delivered_from (opening run) run.inputs)))
 delivered_in_all-with_last input (run ∷ later ∷ more) =
-    ap (λ gs. delivered_from (opening run) run.inputs ++ gs) (delivered_in_all-with_last input (later ∷ more))
-    ∙ sym (append_assoc (delivered_from (opening run) run.inputs) (delivered_in_all (later ∷ more))
-    (delivered_by_last (last_run (later ∷ more)) input))
+    rw (
+      delivered_in_all-with_last input (later ∷ more),
+      ← append_assoc (delivered_from (opening run) run.inputs)
+          (delivered_in_all (later ∷ more))
+          (delivered_by_last (last_run (later ∷ more)) input),
+    )
 
 pub sent_in_all-with_last : (input : KeepingInput) (runs : List Run) →
     sent_in_all (with_last input runs) ≡ sent_in_all runs ++ sent_by_last (last_run runs) input
@@ -238,21 +270,23 @@ sent_in_all-with_last input (run ∷ []) =
     ∙ sent_from-push run.inputs (opening run) input
     ∙ ap (λ gs. gs ++ newly_sent (closing run) input) (sym (append-nil (sent_from (opening run) run.inputs)))
 sent_in_all-with_last input (run ∷ later ∷ more) =
-    ap (λ gs. sent_from (opening run) run.inputs ++ gs) (sent_in_all-with_last input (later ∷ more))
-    ∙ sym (append_assoc (sent_from (opening run) run.inputs) (sent_in_all (later ∷ more))
-    (sent_by_last (last_run (later ∷ more)) input))
+    rw (
+      sent_in_all-with_last input (later ∷ more),
+      ← append_assoc (sent_from (opening run) run.inputs)
+          (sent_in_all (later ∷ more))
+          (sent_by_last (last_run (later ∷ more)) input),
+    )
 
 -- a run without inputs adds nothing
 pub delivered_in_all-new : (runs : List Run) (run : Run) → run.inputs ≡ [] →
     delivered_in_all (runs ++ run ∷ []) ≡ delivered_in_all runs
-delivered_in_all-new [] run none = ap (λ is. delivered_from (opening run) is ++ []) none
-delivered_in_all-new (p ∷ ps) run none = ap (λ gs. delivered_from (opening p) p.inputs ++ gs)
-    (delivered_in_all-new ps run none)
+delivered_in_all-new [] run none = rw none
+delivered_in_all-new (p ∷ ps) run none = rw (delivered_in_all-new ps run none)
 
 pub sent_in_all-new : (runs : List Run) (run : Run) → run.inputs ≡ [] →
     sent_in_all (runs ++ run ∷ []) ≡ sent_in_all runs
-sent_in_all-new [] run none = ap (λ is. sent_from (opening run) is ++ []) none
-sent_in_all-new (p ∷ ps) run none = ap (λ gs. sent_from (opening p) p.inputs ++ gs) (sent_in_all-new ps run none)
+sent_in_all-new [] run none = rw none
+sent_in_all-new (p ∷ ps) run none = rw (sent_in_all-new ps run none)
 
 -- ---- what an end sent so far it has sent later
 pub record SendsMore (e : End) (before : List Happening) (h : Happening) : Type 0 where
@@ -260,25 +294,13 @@ pub record SendsMore (e : End) (before : List Happening) (h : Happening) : Type 
   pub more : sent_in_all (runs_of e (before ++ h ∷ [])) ≡ sent_in_all (runs_of e before) ++ added
 
 pub sends_more : (e : End) (before : List Happening) (h : Happening) → SendsMore e before h
-sends_more e before (comes_in f input) = by_end (same_end e f) refl
+sends_more e before h =
+    let it = by_next (runs_of e before) h (runs_of e (before ++ h ∷ [])) (is_next e before h) in
+    record { added = it.0; more = it.1 }
   where
-    by_end : (b : Bool) → same_end e f ≡ b → SendsMore e before (comes_in f input)
-    by_end true same = record {
-      added = sent_by_last (last_run (runs_of e before)) input;
-      more = ap sent_in_all (runs_of-input e f input before same) ∙ sent_in_all-with_last input (runs_of e before);
-    }
-    by_end false other = record {
-      added = [];
-      more = ap sent_in_all (runs_of-other_input e f input before other)
-          ∙ sym (append-nil (sent_in_all (runs_of e before)));
-    }
-sends_more e before (begins f config journal) = record {
-  added = [];
-  more = ap sent_in_all (runs_of-begins e f config journal before) ∙ by_end (same_end e f)
-      ∙ sym (append-nil (sent_in_all (runs_of e before)));
-}
-  where
-    by_end : (b : Bool) → sent_in_all (runs_of e before ++ (if b then run_with config journal [] ∷ [] else [])) ≡
-        sent_in_all (runs_of e before)
-    by_end true = sent_in_all-new (runs_of e before) (run_with config journal []) refl
-    by_end false = ap sent_in_all (append-nil (runs_of e before))
+    by_next : (runs : List Run) (h' : Happening) (after : List Run) → IsNext e runs h' after →
+        (added : List SentIn) × (sent_in_all after ≡ sent_in_all runs ++ added)
+    by_next runs _ _ (same_runs h') = ([], sym (append-nil (sent_in_all runs)))
+    by_next runs _ _ (new_run config journal) =
+        ([], sent_in_all-new runs (run_with config journal []) refl ∙ sym (append-nil (sent_in_all runs)))
+    by_next runs _ _ (new_input input) = (sent_by_last (last_run runs) input, sent_in_all-with_last input runs)

@@ -1,29 +1,28 @@
 -- What a step does to the receive SA at a place: the SA stays with its key, and its lowest acceptable packet number
 -- does not fall; or it is deleted; or a command creates it.
-use Rattle.std.proofs.Common.{◌≡◌, inl, inr, ℕ, ◌≤◌, Bool, true, false, cond, List, [], ◌∷◌, ◌++◌, map, filter, refl, ap, sym, subst, ◌∙◌, arith}
-use Rattle.std.specs.Prelude.{◌==◌, ◌&&◌, not, nat_lt, if◌then◌else◌, option_map, Option, Some, None}
-use Rattle.std.proofs.lemmas.Bool.{eqb-false, ltb-false, or_parts}
-use Rattle.macsec_tag.specs.declared.identifiers.Sci.{Sci}
-use Rattle.macsec_suite.specs.declared.refusal.Refusal.{Refusal}
-use Rattle.macsec_suite.specs.KeyRows.{the_key}
-use Rattle.macsec_suite.specs.Refusals.{holds_of, is_outside}
-use Rattle.macsec_suite.specs.Suites.{last_of}
-use Rattle.macsec_rx.specs.declared.RxRow.{RxRow}
-use Rattle.macsec_rx.specs.Channels.{at_place, is_at, rx_row, same_sci}
-use Rattle.macsec_rx.specs.Commands.{is_below_lowest, row_narrowed, row_raised, row_switched, rx_low_refusals, rx_sa_refusals}
-use Rattle.macsec_rx.specs.Judge.{accepted_number, row_accepting, rows_accepting}
-use Rattle.macsec_commands.specs.declared.command.Command.{Command}
-use Rattle.macsec_commands.specs.declared.command.Command.TheVariants.{Replay}
-use Rattle.macsec_commands.specs.declared.command.Command.TheVariants.{RxScDel, RxSa, RxOn, RxOff, RxLow, RxDel}
-use Rattle.macsec_secy.specs.declared.fault.FrameFault.{FrameFault}
-use Rattle.macsec_secy.specs.Commands.{effect, refusal, unless_refused}
-use Rattle.macsec_secy.specs.Reception.{judgement_of, state_after_receiving}
-use Rattle.macsec_secy.specs.State.{State}
-use Rattle.macsec_secy.specs.Step.{Input, Output, client_frame, frame_fault, leaves, link_frame, operator_command, received_output, sending_of, sent_output, state_after_sending, step, uncontrolled_frame, unless_fault}
-use Rattle.macsec_secy.proofs.AfterCommands.{none_hold}
-use Rattle.macsec_secy.proofs.RxRowsStay.{KeepsPlace, accepts, at_one_place, narrows, raises, rx_row-map, switches}
-use Rattle.macsec_link.proofs.Members.{IsMember}
-use Rattle.macsec_restarts.proofs.NextNumbers.{same_place}
+use Rattle.{
+  std.proofs.lemmas.Bool.eqb-false,
+  macsec_suite.specs.Refusals.is_outside,
+  macsec_commands.specs.declared.command.Command.TheVariants.{RxOff, RxLow},
+  macsec_rx.specs.{
+    Channels.at_place,
+    Commands.{is_below_lowest, row_narrowed, row_raised, row_switched, rx_low_refusals, rx_sa_refusals},
+    Judge.{accepted_number, row_accepting, rows_accepting},
+  },
+  macsec_secy.proofs.{
+    AfterCommands.none_hold,
+    RxRowsStay.{KeepsPlace, accepts, at_one_place, narrows, raises, rx_row-map, switches},
+  },
+  macsec_restarts.proofs.{
+    Names.{[], ◌&&◌, ◌++◌, ◌==◌, ◌∙◌, ◌∷◌, ◌≡◌, ◌≤◌, ap, arith, Bool, client_frame, Command, cond, effect, false},
+    Names.{filter, frame_fault, FrameFault, holds_of, if◌then◌else◌, inl, Input, inr, is_at, IsMember, judgement_of},
+    Names.{last_of, leaves, link_frame, List, ltb-false, map, nat_lt, None, not, operator_command, Option, option_map},
+    Names.{or_parts, Output, received_output, refl, Refusal, refusal, Replay, rx_row, RxDel, RxOn, RxRow, RxSa},
+    Names.{RxScDel, same_sci, Sci, sending_of, sent_output, Some, State, state_after_receiving, state_after_sending},
+    Names.{step, subst, sym, the_key, true, uncontrolled_frame, unless_fault, unless_refused, ℕ},
+    NextNumbers.same_place,
+  },
+}
 
 -- it has the same key, and its lowest acceptable PN has not fallen
 pub record IsLaterRow (row later : RxRow) : Type 0 where
@@ -72,7 +71,7 @@ mapped : (input : Input) (f : RxRow → RxRow) → KeepsPlace f → (rows : List
     ((row : RxRow) → rx_row rows sci an ≡ Some row → IsLaterRow row (f row)) →
     RowStep input (rx_row rows sci an) (rx_row (map f rows) sci an)
 mapped input f keeps rows sci an later =
-    subst (RowStep input (rx_row rows sci an)) (sym (rx_row-map f keeps rows sci an)) (by_row (rx_row rows sci an) refl)
+    rw (rx_row-map f keeps rows sci an) (by_row (rx_row rows sci an) refl)
   where
     by_row : (o : Option RxRow) → rx_row rows sci an ≡ o → RowStep input o (option_map f o)
     by_row None none = tt
@@ -121,8 +120,7 @@ kept_or_none keep b (r ∷ rows) sci an same =
 filtered : (input : Input) (keep : RxRow → Bool) (b : Bool) (rows : List RxRow) (sci : Sci) (an : ℕ) →
     ((r : RxRow) → is_at sci an r ≡ true → keep r ≡ b) →
     RowStep input (rx_row rows sci an) (rx_row (filter keep rows) sci an)
-filtered input keep b rows sci an same = subst (RowStep input (rx_row rows sci an))
-    (sym (kept_or_none keep b rows sci an same)) (by_test b)
+filtered input keep b rows sci an same = rw (kept_or_none keep b rows sci an same) (by_test b)
   where
     by_test : (b' : Bool) → RowStep input (rx_row rows sci an) (if b' then rx_row rows sci an else None)
     by_test true = still input (rx_row rows sci an)
@@ -157,9 +155,7 @@ raised : (rows : List RxRow) (of_sci : Sci) (of_an pn : ℕ) → is_below_lowest
 raised rows of_sci of_an pn above sci an row there here =
     let own = same_place row.sci sci row.an an (found_at rows sci an row there) in
     let other = same_place row.sci of_sci row.an of_an here in
-    let found : rx_row rows of_sci of_an ≡ Some row =
-    ap (λ (x : Sci). rx_row rows x of_an) (sym other.0 ∙ own.0)
-    ∙ ap (λ (n : ℕ). rx_row rows sci n) (sym other.1 ∙ own.1) ∙ there in
+    let found : rx_row rows of_sci of_an ≡ Some row = rw ((sym other.0 ∙ own.0), (sym other.1 ∙ own.1), there) in
     let not_below : nat_lt pn row.lowest ≡ false = ap (holds_of (λ (r : RxRow). nat_lt pn r.lowest)) (sym found)
     ∙ above in
     record { key = refl; lowest = ltb-false pn row.lowest not_below }
@@ -172,7 +168,7 @@ by_effect s (Replay protect window) sci an none =
 by_effect s (RxScDel of_sci) sci an none =
     filtered (operator_command (RxScDel of_sci)) (λ r. not (same_sci r.sci of_sci))
     (not (same_sci sci of_sci)) s.rx.rows sci an
-    (λ r here. ap (λ (x : Sci). not (same_sci x of_sci)) (same_place r.sci sci r.an an here).0)
+    (λ r here. rw ((same_place r.sci sci r.an an here).0))
 by_effect s (RxSa of_sci of_an key ssci lowest) sci an none =
     appended (operator_command (RxSa of_sci of_an key ssci lowest)) s.rx.rows
     (record { sci = of_sci; an = of_an; key = key; ssci = ssci; next = lowest; lowest = lowest; on = false }) sci an
@@ -197,8 +193,7 @@ by_effect s (RxDel of_sci of_an) sci an none =
     (not (same_sci sci of_sci && an == of_an)) s.rx.rows sci an
     (λ r here.
     let same = same_place r.sci sci r.an an here in
-    ap (λ (x : Sci). not (same_sci x of_sci && r.an == of_an)) same.0
-    ∙ ap (λ (n : ℕ). not (same_sci sci of_sci && n == of_an)) same.1)
+    rw (same.0, same.1))
 by_effect s c sci an none = still (operator_command c) (rx_row s.rx.rows sci an)
 
 by_command : (s : State) (c : Command) (sci : Sci) (an : ℕ) (r : Option Refusal) → refusal s c ≡ r →

@@ -1,43 +1,26 @@
 -- Two endpoints that are the same except for their retired keys judge, deliver and send the same, since no SA uses a
 -- retired key.
-use Rattle.std.proofs.Common.{◌≡◌, ◌⊎◌, inl, inr, ℕ, Bool, true, false, List, [], ◌∷◌, refl, ap, sym, ◌∙◌}
-use Rattle.std.specs.Prelude.{◌+◌, ◌==◌, ◌&&◌, ◌||◌, not, nat_lt, find, length, if◌then◌else◌, unwrap_or, Option, Some, None}
-use Rattle.std.proofs.lemmas.Bool.{eq-eqb, or_parts}
-use Rattle.macsec_tag.specs.declared.identifiers.Sci.{Sci}
-use Rattle.macsec_tag.specs.Frame.{MpduParts}
-use Rattle.macsec_tag.specs.Table.{Reading, bad, reading, tagged, untagged}
-use Rattle.macsec_pn.specs.Numbers.{is_late}
-use Rattle.macsec_suite.specs.KeyRows.{InstalledKey, key_row, no_key, the_key}
-use Rattle.macsec_suite.specs.Refusals.{is_retired}
-use Rattle.macsec_suite.specs.Suites.{last_of}
-use Rattle.macsec_tx.specs.declared.TxOptions.{TxOptions}
-use Rattle.macsec_tx.specs.declared.TxRow.{TxRow}
-use Rattle.macsec_tx.specs.Commands.{tx_uses}
-use Rattle.macsec_tx.specs.Transmit.{Sending, no_sa, not_protected, octets_added, plain, protected, protected_frame, row_on, sending_by, tag_sent, too_long, use_sent}
-use Rattle.macsec_rx.specs.declared.RxOptions.{RxOptions}
-use Rattle.macsec_rx.specs.declared.RxRow.{RxRow}
-use Rattle.macsec_rx.specs.declared.Verdict.TheVariants.{Delayed, Invalid, Late, NoSa, NoSaError, NoTag, NotValid, Reserved, Unchecked, Untagged}
-use Rattle.macsec_rx.specs.Channels.{is_at}
-use Rattle.macsec_rx.specs.Commands.{rx_uses}
-use Rattle.macsec_rx.specs.Judge.{Judgement, at_row, bare_frame, in_use, is_disabled, is_strict, judge_number, judge_opened, judge_row, judge_tagged_row, judge_validated, number_of_frame, plaintext_of, sci_of, without_row}
-use Rattle.macsec_secy.specs.declared.fault.FrameFault.{FrameFault}
-use Rattle.macsec_secy.specs.Reception.{judge_reading, judgement_of}
-use Rattle.macsec_secy.specs.State.{State, rx_options, tx_options}
-use Rattle.macsec_secy.specs.Step.{Output, client_frame, frame_fault, link_frame, sending_of, step}
-use Rattle.macsec_secy.proofs.OtherOctets.{found_unused}
-use Rattle.macsec_secy.proofs.UsedNumbers.{sent_by as by_none_or_on}
-use Rattle.macsec_link.proofs.Members.{IsMember}
-use Rattle.macsec_reserve.specs.Forgetting.{forgetting_step}
-use Rattle.macsec_reserve.specs.Forgotten.{AreAlike, AreSameBut, RefusesRetired}
-use Rattle.macsec_reserve.specs.Journal.{receiving_name, sending_name}
-use Rattle.macsec_reserve.specs.Keeping.{Keeping, KeepingInput, dropped_no_reservation, endpoint_input, keeping_step, may_go, now_durable}
-use Rattle.macsec_reserve.specs.Replay.{row_name}
-use Rattle.macsec_reserve.proofs.Steps.{by_tests}
-use Rattle.macsec_restarts.specs.AheadRuns.{is_valid}
-use Rattle.macsec_restarts.specs.Delivered.{Delivery, delivered_by, newly_delivered}
-use Rattle.macsec_restarts.specs.Sent.{SentIn, newly_sent, sent_by}
-use Rattle.macsec_restarts.proofs.AheadPast.{not_used}
-use Rattle.macsec_restarts.proofs.RetiredUnused.{AreUnused}
+use Rattle.{
+  std.proofs.Common.find,
+  macsec_suite.specs.KeyRows.key_row,
+  macsec_rx.specs.Judge.judge_tagged_row,
+  macsec_secy.proofs.{OtherOctets.found_unused, UsedNumbers.{sent_by as by_none_or_on}},
+  macsec_restarts.proofs.{
+    Names.{[], ◌&&◌, ◌+◌, ◌==◌, ◌||◌, ◌∙◌, ◌∷◌, ◌≡◌, ◌⊎◌, ap, AreAlike, AreSameBut, at_row, bad, bare_frame, Bool},
+    Names.{by_tests, client_frame, Delayed, delivered_by, Delivery, dropped_no_reservation, endpoint_input, eq-eqb},
+    Names.{false, forgetting_step, frame_fault, FrameFault, if◌then◌else◌, in_use, inl, inr, InstalledKey, Invalid},
+    Names.{is_at, is_disabled, is_late, is_retired, is_strict, is_valid, IsMember, judge_number, judge_opened},
+    Names.{judge_reading, judge_row, judge_validated, Judgement, judgement_of, Keeping, keeping_step, KeepingInput},
+    Names.{last_of, Late, length, link_frame, List, may_go, MpduParts, nat_lt, newly_delivered, newly_sent, no_sa},
+    Names.{None, NoSa, NoSaError, not, not_protected, NoTag, NotValid, now_durable, number_of_frame, octets_added},
+    Names.{Option, or_parts, Output, plaintext_of, protected, protected_frame, Reading, reading, refl, RefusesRetired},
+    Names.{Reserved, row_name, row_on, rx_options, rx_uses, RxOptions, RxRow, Sci, sci_of, Sending, sending_by},
+    Names.{sending_of, sent_by, SentIn, Some, State, step, sym, tag_sent, tagged, the_key, too_long, true, tx_options},
+    Names.{tx_uses, TxOptions, TxRow, Unchecked, Untagged, untagged, use_sent, without_row, ℕ},
+    AheadPast.not_used,
+    RetiredUnused.AreUnused,
+  },
+}
 
 -- ---- the SA of a judgement
 
@@ -165,8 +148,7 @@ module _ (s t : State) (same : AreSameBut s t) (unused : AreUnused s) where
   judged_row : (p : MpduParts) (o : Option RxRow) → ((row : RxRow) → o ≡ Some row → IsMember s.rx.rows row) →
       judge_tagged_row (rx_options s) t.keys p o ≡ judge_tagged_row (rx_options s) s.keys p o
   judged_row p None there = refl
-  judged_row p (Some row) there = ap (λ (o : Option InstalledKey). judged_by (rx_options s) p row (unwrap_or o no_key))
-      (rx_key row (there row refl))
+  judged_row p (Some row) there = rw (rx_key row (there row refl))
 
   read_same : (frame : List ℕ) (r : Reading) →
       judge_reading (record s { keys = t.keys }) frame r ≡ judge_reading s frame r
@@ -177,7 +159,7 @@ module _ (s t : State) (same : AreSameBut s t) (unused : AreUnused s) where
       (λ row is. in_use_there s.rx.rows p.tag.an (sci_of s.rx.scis p) row is)
 
   pub judged_same : (frame : List ℕ) → judgement_of t frame ≡ judgement_of s frame
-  judged_same frame = ap (λ (x : State). judgement_of x frame) same.same ∙ read_same frame (reading frame)
+  judged_same frame = rw (same.same, read_same frame (reading frame))
 
   delivered_same : (j : Judgement) (f : Option FrameFault) (o : Option RxRow) (delivered : Option (List ℕ)) →
       ((row : RxRow) → o ≡ Some row → IsMember s.rx.rows row) →
@@ -185,13 +167,10 @@ module _ (s t : State) (same : AreSameBut s t) (unused : AreUnused s) where
   delivered_same j (Some f) o delivered there = refl
   delivered_same j None None delivered there = refl
   delivered_same j None (Some row) None there = refl
-  delivered_same j None (Some row) (Some delivered) there =
-      ap (λ (o : Option InstalledKey). a_delivery row j.number delivered (unwrap_or o no_key) ∷ [])
-      (rx_key row (there row refl))
+  delivered_same j None (Some row) (Some delivered) there = rw (rx_key row (there row refl))
 
   pub name_same : (salt : List ℕ) (row : RxRow) → IsMember s.rx.rows row → row_name salt t row ≡ row_name salt s row
-  name_same salt row there = ap (λ (o : Option InstalledKey). receiving_name
-      (sending_name salt (unwrap_or o no_key).bytes) row.sci row.an) (rx_key row there)
+  name_same salt row there = rw (rx_key row there)
 
   -- ---- sending
 
@@ -199,30 +178,27 @@ module _ (s t : State) (same : AreSameBut s t) (unused : AreUnused s) where
       ((row : TxRow) → o ≡ Some row → key_row t.keys row.key ≡ key_row s.keys row.key) →
       sending_by (tx_options s) t.keys frame o ≡ sending_by (tx_options s) s.keys frame o
   by_row frame None keys = refl
-  by_row frame (Some row) keys = ap (λ (o : Option InstalledKey). sends_by (tx_options s) frame row
-      (unwrap_or o no_key)) (keys row refl)
+  by_row frame (Some row) keys = rw (keys row refl)
 
   sending_same : (frame : List ℕ) → sending_of t frame ≡ sending_of s frame
-  sending_same frame =
-      ap (λ (x : State). sending_of x frame) same.same
-      ∙ ap (λ (sent : Sending). if s.options.protect then sent
-      else not_protected (if nat_lt (tx_options s).max_frame (length frame) then too_long else plain))
-      (by_row frame (row_on s.tx) tx_key)
+  sending_same frame = rw (same.same, by_row frame (row_on s.tx) tx_key)
 
   sealed_same : (frame : List ℕ) (f : Option FrameFault) (by : Option TxRow) → (by ≡ None) ⊎ (by ≡ row_on s.tx) →
       sent_by (record s { keys = t.keys }) frame f by ≡ sent_by s frame f by
   sealed_same frame (Some f) by is = refl
   sealed_same frame None None is = refl
   sealed_same frame None (Some row) (inl none) = cc
-  sealed_same frame None (Some row) (inr on) =
-      ap (λ (o : Option InstalledKey). a_send (tx_options s) row frame (unwrap_or o no_key) ∷ []) (tx_key row (sym on))
+  sealed_same frame None (Some row) (inr on) = rw (tx_key row (sym on))
 
   pub sent_same : (frame : List ℕ) → sent_by t frame (frame_fault frame) (sending_of t frame).by ≡
       sent_by s frame (frame_fault frame) (sending_of s frame).by
   sent_same frame =
-      ap (λ (sent : Sending). sent_by t frame (frame_fault frame) sent.by) (sending_same frame)
-      ∙ ap (λ (x : State). sent_by x frame (frame_fault frame) (sending_of s frame).by) same.same
-      ∙ sealed_same frame (frame_fault frame) (sending_of s frame).by (by_none_or_on (tx_options s) s.keys s.tx frame)
+      rw (
+        sending_same frame,
+        same.same,
+        sealed_same frame (frame_fault frame) (sending_of s frame).by
+            (by_none_or_on (tx_options s) s.keys s.tx frame),
+      )
 
 -- ---- the keeping endpoints
 

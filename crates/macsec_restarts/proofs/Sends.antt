@@ -1,28 +1,21 @@
 -- What an end sent in its runs: each protected frame is by a key of its run, and whoever opens it gets the client
 -- frame.
-use Rattle.std.proofs.Common.{◌≡◌, ◌⊎◌, inl, inr, ℕ, suc, Bool, true, false, List, [], ◌∷◌, ◌++◌, map, refl, ap, sym, subst, ◌∙◌, All, AllPairs}
-use Rattle.std.specs.Prelude.{if◌then◌else◌, Option, Some, None}
-use Rattle.std.proofs.lemmas.List.{map-append}
-use Rattle.std.proofs.lemmas.List.Elements.{All-append, All-contains, All-cons, All-head, All-nil, All-tail, All-weaker}
-use Rattle.macsec_suite.specs.CipherUses.{CipherUse}
-use Rattle.macsec_suite.specs.KeyRows.{the_key}
-use Rattle.macsec_tx.specs.declared.TxRow.{TxRow}
-use Rattle.macsec_tx.specs.Transmit.{use_sent}
-use Rattle.macsec_secy.specs.declared.fault.FrameFault.{FrameFault}
-use Rattle.macsec_secy.specs.Kept.{KeysStay}
-use Rattle.macsec_secy.specs.Protects.{OpensAs}
-use Rattle.macsec_secy.specs.Sound.{IsSound}
-use Rattle.macsec_secy.specs.State.{State, tx_options}
-use Rattle.macsec_secy.specs.Step.{operator_command, client_frame, uncontrolled_frame, link_frame, frame_fault, sending_of, step}
-use Rattle.macsec_link.proofs.EndpointLaws.{EndpointLaws}
-use Rattle.macsec_link.proofs.Members.{IsMember, contained}
-use Rattle.macsec_link.proofs.Seals.{IsFrom, from_later, sealed_from as from_new}
-use Rattle.macsec_reserve.specs.Keeping.{Keeping, KeepingInput, endpoint_input, now_durable, dropped_no_reservation, keeping_after, keeping_step, may_go, with_step}
-use Rattle.macsec_reserve.specs.Histories.{Run, StaysSound, closing, newly_sealed, opening, sealed_by, sealed_from, sealed_if, sealed_in, sealed_in_all}
-use Rattle.macsec_reserve.proofs.Pairs.{pairs-head, pairs-tail}
-use Rattle.macsec_restarts.specs.Happenings.{last_run}
-use Rattle.macsec_restarts.specs.Sent.{ListsEachUse, SentIn, newly_sent, sent_by, sent_from, sent_in_all}
-use Rattle.macsec_restarts.proofs.SoundRuns.{IsSoundRun, stay_after}
+use Rattle.{
+  macsec_secy.specs.Protects.OpensAs,
+  macsec_reserve.specs.{Histories.{sealed_from}},
+  macsec_link.proofs.Seals.sealed_from as from_new,
+  macsec_restarts.proofs.{
+    Names.{[], ◌∙◌, ◌∷◌, ◌≡◌, ◌⊎◌, All, All-append, All-cons, All-contains, All-head, All-nil, All-tail, All-weaker},
+    Names.{AllPairs, Bool, CipherUse, client_frame, closing, contained, endpoint_input, EndpointLaws, false},
+    Names.{frame_fault, FrameFault, from_later, get_or, if◌then◌else◌, inl, inr, IsFrom, IsMember, IsSound, Keeping},
+    Names.{keeping_after, keeping_step, KeepingInput, KeysStay, last_run, link_frame, List, map, map-append, may_go},
+    Names.{newly_sent, None, now_durable, opening, operator_command, Option, pairs-head, pairs-tail, refl, Run},
+    Names.{sealed_by, sealed_if, sealed_in_all, sending_of, sent_by, sent_from, sent_in_all, SentIn, Some, State},
+    Names.{StaysSound, step, suc, sym, the_key, true, tx_options, TxRow, uncontrolled_frame, use_sent, ℕ},
+    SoundRuns.{IsSoundRun, stay_after},
+  },
+  macsec_restarts.specs.Sent.ListsEachUse,
+}
 
 -- ---- one input
 
@@ -37,37 +30,40 @@ abbrev pub sent_at : State → List ℕ → TxRow → SentIn
 sent_at s frame row =
     record { seal = use_sent (tx_options s) (the_key s.keys row.key) row frame; number = row.next; frame = frame }
 
-by_frame : EndpointLaws → (k : Keeping) (frame : List ℕ) → IsSound k.secy → (fault : Option FrameFault) →
-    frame_fault frame ≡ fault → (by : Option TxRow) →
-    (sending_of k.secy frame).by ≡ by → (go : Bool) → may_go k (client_frame frame) ≡ go →
-    All (IsSentBy (keeping_step k (endpoint_input (client_frame frame))).1.secy)
-    (if go then sent_by k.secy frame fault by else [])
-by_frame laws k frame sound fault fits by sent false go =
-    All-nil (IsSentBy (keeping_step k (endpoint_input (client_frame frame))).1.secy)
-by_frame laws k frame sound (Some f) fits by sent true go =
-    All-nil (IsSentBy (keeping_step k (endpoint_input (client_frame frame))).1.secy)
-by_frame laws k frame sound None fits None sent true go =
-    All-nil (IsSentBy (keeping_step k (endpoint_input (client_frame frame))).1.secy)
-by_frame laws k frame sound None fits (Some row) sent true go =
-    let after = (keeping_step k (endpoint_input (client_frame frame))).1.secy in
-    let same : after ≡ (step k.secy (client_frame frame)).1 =
-    ap (λ (b : Bool). (if b then with_step k (step k.secy (client_frame frame))
-    else (dropped_no_reservation, k)).1.secy) go in
+-- what an input sends, with the client frame and the SA
+pub data IsNew (k : Keeping) : KeepingInput → SentIn → Type 0 where
+  is_new : (frame : List ℕ) (row : TxRow) → frame_fault frame ≡ None → (sending_of k.secy frame).by ≡ Some row →
+      may_go k (client_frame frame) ≡ true →
+      IsNew k (endpoint_input (client_frame frame)) (sent_at k.secy frame row)
+
+pub each_new : (k : Keeping) (input : KeepingInput) → All (IsNew k input) (newly_sent k input)
+each_new k (endpoint_input (client_frame frame)) =
+    by_tests (may_go k (client_frame frame)) refl (frame_fault frame) refl (sending_of k.secy frame).by refl
+  where
+    P : SentIn → Type 0
+    P = IsNew k (endpoint_input (client_frame frame))
+
+    by_tests : (go : Bool) → may_go k (client_frame frame) ≡ go → (f : Option FrameFault) → frame_fault frame ≡ f →
+        (by : Option TxRow) → (sending_of k.secy frame).by ≡ by → All P (if go then sent_by k.secy frame f by else [])
+    by_tests true go None fits (Some row) sent =
+        All-cons P (sent_at k.secy frame row) [] (is_new frame row fits sent go) (All-nil P)
+    by_tests b go f fits by sent = All-nil P
+each_new k input = All-nil (IsNew k input)
+
+sent_new : EndpointLaws → (k : Keeping) (input : KeepingInput) (x : SentIn) → IsSound k.secy → IsNew k input x →
+    IsSentBy (keeping_step k input).1.secy x
+sent_new laws k _ _ sound (is_new frame row fits sent go) =
     let it : IsSentBy (step k.secy (client_frame frame)).1 (sent_at k.secy frame row) =
     record {
       from = from_new laws k.secy frame row sound fits sent;
       opens = (laws.protects k.secy frame row sound fits sent).opens;
     } in
-    All-cons (IsSentBy after) (sent_at k.secy frame row) []
-    (subst (λ (t : State). IsSentBy t (sent_at k.secy frame row)) (sym same) it) (All-nil (IsSentBy after))
+    rw go it
 
 pub by_input : EndpointLaws → (k : Keeping) (input : KeepingInput) → IsSound k.secy →
     All (IsSentBy (keeping_step k input).1.secy) (newly_sent k input)
-by_input laws k (now_durable r) sound = All-nil (IsSentBy (keeping_step k (now_durable r)).1.secy)
-by_input laws k (endpoint_input (client_frame frame)) sound =
-    by_frame laws k frame sound (frame_fault frame) refl (sending_of k.secy frame).by refl
-    (may_go k (client_frame frame)) refl
-by_input laws k input sound = All-nil (IsSentBy (keeping_step k input).1.secy)
+by_input laws k input sound i d within =
+    sent_new laws k input (get_or (newly_sent k input) i d) sound (each_new k input i d within)
 
 -- ---- a run
 
@@ -133,16 +129,22 @@ seals_of_inputs : (inputs : List KeepingInput) (k : Keeping) →
     map seal_of_sent (sent_from k inputs) ≡ sealed_from k inputs
 seals_of_inputs [] k = refl
 seals_of_inputs (input ∷ inputs) k =
-    map-append seal_of_sent (newly_sent k input) (sent_from (keeping_step k input).1 inputs)
-    ∙ ap (λ us. us ++ map seal_of_sent (sent_from (keeping_step k input).1 inputs)) (seals_of_input k input)
-    ∙ ap (λ us. newly_sealed k input ++ us) (seals_of_inputs inputs (keeping_step k input).1)
+    rw (
+      map-append seal_of_sent (newly_sent k input) (sent_from (keeping_step k input).1 inputs),
+      seals_of_input k
+          input,
+      seals_of_inputs inputs (keeping_step k input).1,
+    )
 
 pub seals_of_runs : (runs : List Run) → map seal_of_sent (sent_in_all runs) ≡ sealed_in_all runs
 seals_of_runs [] = refl
 seals_of_runs (run ∷ runs) =
-    map-append seal_of_sent (sent_from (opening run) run.inputs) (sent_in_all runs)
-    ∙ ap (λ us. us ++ map seal_of_sent (sent_in_all runs)) (seals_of_inputs run.inputs (opening run))
-    ∙ ap (λ us. sealed_in run ++ us) (seals_of_runs runs)
+    rw (
+      map-append seal_of_sent (sent_from (opening run) run.inputs) (sent_in_all runs),
+      seals_of_inputs run.inputs
+          (opening run),
+      seals_of_runs runs,
+    )
 
 -- ---- the last run
 
@@ -158,7 +160,7 @@ last_or_before R [] run last pairs q there = absurd there
 last_or_before R (p ∷ []) run last pairs q (inl here) = inl (sym here ∙ cc)
 last_or_before R (p ∷ []) run last pairs q (inr there) = absurd there
 last_or_before R (p ∷ next ∷ more) run last pairs q (inl here) =
-    inr (subst (λ (x : Run). R x run) here (All-contains (R p) (next ∷ more) run (pairs-head R p (next ∷ more) pairs)
+    inr (rw here at (All-contains (R p) (next ∷ more) run (pairs-head R p (next ∷ more) pairs)
     (contained (next ∷ more) run (last_member (next ∷ more) run last))))
 last_or_before R (p ∷ next ∷ more) run last pairs q (inr there) =
     last_or_before R (next ∷ more) run last (pairs-tail R p (next ∷ more) pairs) q there

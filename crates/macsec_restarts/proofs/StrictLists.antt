@@ -1,16 +1,18 @@
 -- What endpoints deliver that can reserve ahead of receiving, and those that forget keys, by the outputs of the keeping
 -- endpoint.
-use Rattle.std.proofs.Common.{◌≡◌, ℕ, Bool, true, false, refl, sym, subst, ◌∙◌}
-use Rattle.std.specs.Prelude.{Option, Some, None}
-use Rattle.macsec_secy.specs.Step.{Input, operator_command, received}
-use Rattle.macsec_reserve.specs.Forgetting.{command_taken, forgetting_step, retired_by, taken, then_forget}
-use Rattle.macsec_reserve.specs.Keeping.{Keeping, KeepingInput, KeepingOutput, endpoint_input, endpoint_output, keeping_step, now_durable}
-use Rattle.macsec_ahead.specs.Ahead.{Ahead, Standing, ahead_by, before_this_run, begins_again, not_yet, passes, standing}
-use Rattle.macsec_restarts.specs.Delivered.{IsFromSa, MatchesDeliveries, newly_delivered}
-use Rattle.macsec_restarts.specs.StrictLists.{DeliversEachListedForgetting, DeliversFromSasForgetting, DeliversFromSasWith, IsFromSaWith}
-use Rattle.macsec_restarts.proofs.AheadInside.{delivers_each_listed_with, matches_by}
-use Rattle.macsec_restarts.proofs.FromSas.{delivers_from_sas}
-use Rattle.macsec_restarts.proofs.Listed.{delivers_each_listed}
+use Rattle.macsec_reserve.specs.Forgetting.{command_taken}
+use Rattle.macsec_restarts.{
+  proofs.{
+    Names.{◌∙◌, ◌≡◌, Ahead, ahead_by, before_this_run, begins_again, Bool, endpoint_input, endpoint_output, false},
+    Names.{forgetting_step, Input, IsFromSa, Keeping, keeping_step, KeepingInput, KeepingOutput, MatchesDeliveries},
+    Names.{newly_delivered, None, not_yet, now_durable, operator_command, Option, passes, received, refl, retired_by},
+    Names.{Some, Standing, standing, taken, then_forget, true, ℕ},
+    AheadInside.{delivers_each_listed_with, matches_by},
+    FromSas.delivers_from_sas,
+    Listed.delivers_each_listed,
+  },
+  specs.StrictLists.{DeliversEachListedForgetting, DeliversFromSasForgetting, DeliversFromSasWith, IsFromSaWith},
+}
 
 -- forgetting changes no output
 same_output : (o : Option ℕ) (answer : KeepingOutput × Keeping) → (then_forget o answer).0 ≡ answer.0
@@ -37,7 +39,7 @@ delivers_from_sas_forgetting a (now_durable r) = delivers_from_sas_with a (now_d
 delivers_from_sas_forgetting a (endpoint_input (operator_command c)) = λ strict.
     let command = endpoint_input (operator_command c) in
     from_sa_by (begins_again a (operator_command c)) passes a (operator_command c) (forgetting_step a.k command)
-    (subst IsFromSa (sym (same_output (retired_by command) (keeping_step a.k (taken a.k command))))
+    (rw (same_output (retired_by command) (keeping_step a.k (taken a.k command)))
     (delivers_from_sas a.k (taken a.k command) strict))
 delivers_from_sas_forgetting a input = delivers_from_sas_with a input
 
@@ -57,7 +59,7 @@ delivers_each_listed_forgetting a (endpoint_input (operator_command c)) =
     let told = endpoint_input (operator_command (command_taken a.k c)) in
     matches_by a command (operator_command c) (begins_again a (operator_command c)) passes
     (forgetting_step a.k command) refl
-    (subst (MatchesDeliveries a.k command) (sym (same_output (retired_by command)
-    (keeping_step a.k (taken a.k command))))
-    (recast a.k command told refl (keeping_step a.k told).0 (delivers_each_listed a.k told)))
+    (rw (same_output (retired_by command)
+    (keeping_step a.k (taken a.k command))) (recast a.k command told refl (keeping_step a.k told).0
+    (delivers_each_listed a.k told)))
 delivers_each_listed_forgetting a input = delivers_each_listed_with a input

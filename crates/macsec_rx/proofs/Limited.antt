@@ -1,18 +1,18 @@
 -- The limits of the SA that was found are those at its index.
-use Rattle.std.proofs.Common.{◌≡◌, ℕ, zero, suc, Bool, true, false, List, [], ◌∷◌, map, refl, ap, sym, ◌∙◌}
-use Rattle.std.specs.Prelude.{if◌then◌else◌, slice_get, IfSome, Option, None, Some, option_map}
-use Rattle.macsec_tag.specs.declared.identifiers.Sci.{Sci}
-use Rattle.macsec_rx.specs.declared.RxRow.{RxRow}
-use Rattle.macsec_rx.specs.declared.channels.Found.{Found}
-use Rattle.macsec_rx.specs.declared.within.PnLimits.{PnLimits}
-use Rattle.macsec_rx.specs.declared.within.OutsidePn.{OutsidePn}
-use Rattle.macsec_rx.specs.Channels.{is_at, rx_row}
-use Rattle.macsec_rx.specs.Index.{row_of_found}
-use Rattle.macsec_rx.specs.Judge.{Judgement, accepted_number}
-use Rattle.macsec_rx.specs.Rows.{AreRxRows}
-use Rattle.macsec_rx.specs.Within.{limits_of, outside, outside_by, outside_found, outside_row, pn_of}
-use Rattle.macsec_rx.proofs.RowIndex.{is_at-own, other_row}
-use Rattle.macsec_rx.proofs.RxRows.{is_at-swapped}
+use Rattle.{
+  std.proofs.Common.{◌≡◌, ℕ, zero, suc, Bool, true, false, List, [], ◌∷◌, map, refl, ap, sym, ◌∙◌, if◌then◌else◌},
+  std.proofs.Common.{slice_get, IfSome, Option, None, Some, option_map},
+  macsec_tag.specs.declared.identifiers.Sci.Sci,
+  macsec_rx.proofs.{RowIndex.{is_at-own, other_row}, RxRows.is_at-swapped},
+  macsec_rx.specs.{
+    Channels.{is_at, rx_row},
+    Index.row_of_found,
+    Judge.{Judgement, accepted_number},
+    Rows.AreRxRows,
+    Within.{limits_of, outside, outside_by, outside_found, outside_row, pn_of},
+    declared.{RxRow.RxRow, channels.Found.Found, within.{OutsidePn.OutsidePn, PnLimits.PnLimits}},
+  },
+}
 
 -- no two SAs have the same SCI and number, so the SA at an index has the limits at that index
 limits_at : (scis : List Sci) (limits : List PnLimits) (rows : List RxRow) (i : ℕ) (row : RxRow) → AreRxRows scis rows → slice_get rows i ≡ Some row →

@@ -1,17 +1,20 @@
 -- A frame validated in place, as its parts.
-use Rattle.std.proofs.Common.{◌≡◌, ℕ, ◌+◌, Bool, List, [], ◌++◌, length, take, drop, refl, ap, sym, ◌∙◌, arith, append_assoc, append-nil, length-append}
-use Rattle.std.specs.Prelude.{Option, Some, None, option_map}
-use Rattle.std.proofs.Math.Seq.{take-append_seam, drop-append_seam}
-use Rattle.std.proofs.lemmas.List.{take-append-drop}
-use Rattle.macsec_gcm.specs.Gcm.{open_of}
-use Rattle.macsec_gcm.specs.Laws.{OpenUndoesSeal, SealedLengths}
-use Rattle.macsec_tag.specs.Tag.{Tag, encoding}
-use Rattle.macsec_tag.specs.Frame.{MpduParts}
-use Rattle.macsec_suite.specs.Keys.{PreparedKey}
-use Rattle.macsec_suite.specs.Parts.{aad_and_plaintext, clear_length}
-use Rattle.macsec_suite.specs.InPlace.{clear_and_rest, validated_octets}
-use Rattle.macsec_suite.specs.Laws.{PartsInPlace}
-use Rattle.macsec_rx.specs.Delivered.{HasFixedLengths, frame_with, opened_under, received_octets}
+use Rattle.{
+  std.proofs.{
+    Common.{◌≡◌, ℕ, ◌+◌, Bool, List, [], ◌++◌, length, take, drop, refl, ap, sym, ◌∙◌, arith, append_assoc, append-nil},
+    Common.{length-append, Option, Some, None, option_map, take-append-drop},
+    Math.Seq.{take-append_seam, drop-append_seam},
+  },
+  macsec_gcm.specs.{Gcm.open_of, Laws.{OpenUndoesSeal, SealedLengths}},
+  macsec_tag.specs.{Frame.MpduParts, Tag.{Tag, encoding}},
+  macsec_suite.specs.{
+    InPlace.{clear_and_rest, validated_octets},
+    Keys.PreparedKey,
+    Laws.PartsInPlace,
+    Parts.{aad_and_plaintext, clear_length},
+  },
+  macsec_rx.specs.Delivered.{HasFixedLengths, frame_with, opened_under, received_octets},
+}
 
 -- the laws of the lower layers, as their calls give them
 pub record LowerLaws : Type 0 where

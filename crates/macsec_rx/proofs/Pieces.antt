@@ -1,15 +1,20 @@
 -- The index of an SC: the search for it piece by piece, and the SC that is there.
-use Rattle.std.proofs.Common.{◌≡◌, ◌∙◌, ◌≤◌, ◌+◌, ℕ, zero, suc, Bool, true, false, List, [], ◌∷◌, length, take, drop, drop-drop, length-drop, refl, sym, ap, arith}
-use Rattle.std.specs.Prelude.{◌||◌, if◌then◌else◌, slice_get, option_map, Option, Some, None, IfSome}
-use Rattle.std.proofs.lemmas.Bool.{or_parts}
+use Rattle.std.proofs.{
+  Common.{◌≡◌, ◌∙◌, ◌≤◌, ◌+◌, ℕ, zero, suc, Bool, true, false, List, [], ◌∷◌, length, take, drop, drop-drop},
+  Common.{length-drop, refl, sym, ap, arith, ◌||◌, if◌then◌else◌, slice_get, option_map, Option, Some, None, IfSome},
+  lemmas.Bool.or_parts,
+}
 use Rattle.macsec_tag.specs.declared.identifiers.Sci.{Sci}
-use Rattle.macsec_rx.specs.declared.RxRow.{RxRow}
-use Rattle.macsec_rx.specs.declared.channels.Found.{Found}
-use Rattle.macsec_rx.specs.Channels.{same_sci}
-use Rattle.macsec_rx.specs.Commands.{has_channel}
-use Rattle.macsec_rx.specs.Index.{channel_place, row_of_found}
-use Rattle.macsec_rx.specs.Judge.{place_of}
-use Rattle.macsec_rx.proofs.Scis.{one_sci}
+use Rattle.macsec_rx.{
+  proofs.Scis.one_sci,
+  specs.{
+    Channels.same_sci,
+    Commands.has_channel,
+    Index.{channel_place, row_of_found},
+    Judge.place_of,
+    declared.{RxRow.RxRow, channels.Found.Found},
+  },
+}
 
 -- an SCI that the first n SCs do not have is looked for after them
 pub past_piece : (scis : List Sci) (sci : Sci) (n : ℕ) → n ≤ length scis → has_channel (take n scis) sci ≡ false →

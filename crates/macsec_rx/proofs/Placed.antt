@@ -1,8 +1,10 @@
 -- Parts of a frame in a slice.
-use Rattle.std.proofs.Common.{◌≡◌, ℕ, ◌+◌, ◌-◌, List, ◌++◌, length, take, drop, ap, sym, ◌∙◌, arith, append_assoc}
-use Rattle.std.specs.Prelude.{slice_range}
-use Rattle.std.proofs.Math.Seq.{take-append-add, drop-append_seam}
-use Rattle.std.proofs.lemmas.List.{take-append-drop, drop-take}
+use Rattle.std.proofs.{
+  Common.{◌≡◌, ℕ, ◌+◌, ◌-◌, List, ◌++◌, length, take, drop, ap, sym, ◌∙◌, arith, append_assoc, slice_range},
+  Common.take-append-drop,
+  Math.Seq.{take-append-add, drop-append_seam},
+  lemmas.List.drop-take,
+}
 
 -- the octets after the first n of a slice are the part, and the next m octets after it
 pub placed : (out front part behind : List ℕ) (n k m : ℕ) → length front ≡ n → length part ≡ k → take (n + k) out ≡ front ++ part → drop (n + k) out ≡ behind

@@ -1,16 +1,18 @@
 -- The judgement under the key that is found, with the recovered packet number.
-use Rattle.std.proofs.Common.{◌≡◌, ℕ, List, ap, sym, ◌∙◌, refl}
-use Rattle.std.specs.Prelude.{Option, None, Some, option_map, unwrap_or}
+use Rattle.std.proofs.Common.{◌≡◌, ℕ, List, ap, sym, ◌∙◌, refl, Option, None, Some, option_map, unwrap_or}
 use Rattle.macsec_tag.specs.Frame.{MpduParts}
-use Rattle.macsec_suite.specs.declared.key_row.KeyRow.{KeyRow}
-use Rattle.macsec_suite.specs.Suites.{iv_of}
-use Rattle.macsec_suite.specs.KeyRows.{InstalledKey, key_row, no_key, the_key}
-use Rattle.macsec_suite.specs.KeyTables.{HasOwnKey, row_shown}
-use Rattle.macsec_rx.specs.declared.RxRow.{RxRow}
-use Rattle.macsec_rx.specs.declared.RxOptions.{RxOptions}
-use Rattle.macsec_rx.specs.Judge.{judge_number, judge_row, number_of_frame, plaintext_of}
-use Rattle.macsec_rx.specs.Delivered.{frame_with, opened_under}
-use Rattle.macsec_rx.specs.Opened.{job_number, job_row}
+use Rattle.macsec_suite.specs.{
+  KeyRows.{InstalledKey, key_row, no_key, the_key},
+  KeyTables.{HasOwnKey, row_shown},
+  Suites.iv_of,
+  declared.key_row.KeyRow.KeyRow,
+}
+use Rattle.macsec_rx.specs.{
+  Delivered.{frame_with, opened_under},
+  Judge.{judge_number, judge_row, number_of_frame, plaintext_of},
+  Opened.{job_number, job_row},
+  declared.{RxOptions.RxOptions, RxRow.RxRow},
+}
 
 pub judged : (options : RxOptions) (keys : List InstalledKey) (p : MpduParts) (row : RxRow) (key : KeyRow) (first_unused number : ℕ) →
     key_row keys row.key ≡ Some (row_shown key first_unused) →

@@ -1,13 +1,15 @@
 -- What was opened with the key of its number was opened with the key that was found.
-use Rattle.std.proofs.Common.{◌≡◌, ℕ, Bool, true, false, List, [], ◌∷◌, refl, ap, sym, subst, ◌∙◌}
-use Rattle.std.specs.Prelude.{◌==◌, if◌then◌else◌, Option, Some, None}
-use Rattle.std.proofs.lemmas.Bool.{eqb-true}
-use Rattle.macsec_tag.specs.Frame.{MpduParts}
-use Rattle.macsec_suite.specs.declared.key_row.KeyRow.{KeyRow}
-use Rattle.macsec_suite.specs.KeyRows.{InstalledKey, key_row}
-use Rattle.macsec_suite.specs.KeyTables.{HasOwnKey, row_shown}
-use Rattle.macsec_rx.specs.declared.OpenedFrame.{OpenedFrame}
-use Rattle.macsec_rx.specs.Opened.{IfOpened, IfOpenedUnder, IsOpenedBy}
+use Rattle.{
+  std.proofs.Common.{◌≡◌, ℕ, Bool, true, false, List, [], ◌∷◌, refl, ap, sym, subst, ◌∙◌, ◌==◌, if◌then◌else◌, Option},
+  std.proofs.Common.{Some, None, eqb-true},
+  macsec_tag.specs.Frame.MpduParts,
+  macsec_suite.specs.{
+    KeyRows.{InstalledKey, key_row},
+    KeyTables.{HasOwnKey, row_shown},
+    declared.key_row.KeyRow.KeyRow,
+  },
+  macsec_rx.specs.{Opened.{IfOpened, IfOpenedUnder, IsOpenedBy}, declared.OpenedFrame.OpenedFrame},
+}
 
 -- a key found by a number has that number
 key_number : (keys : List InstalledKey) (n : ℕ) (key : InstalledKey) → key_row keys n ≡ Some key → key.number ≡ n

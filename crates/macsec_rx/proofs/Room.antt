@@ -1,18 +1,22 @@
 -- There is space for an SA whose association number is free. Its SC's index and its number give a position below four
 -- times the number of SCs, and no two SAs have the same position.
-use Rattle.std.proofs.Common.{◌≡◌, ◌∙◌, ℕ, suc, ◌+◌, ◌*◌, ◌<◌, ◌≤◌, Bool, true, false, cond, ◌||◌, List, [], ◌∷◌, map, length, refl, arith, eqb, sym, ap, inl, inr}
-use Rattle.std.specs.Prelude.{Option, Some, None, if◌then◌else◌}
-use Rattle.std.specs.List.{IsDistinct, AllByRecursion, list_any}
-use Rattle.std.proofs.lemmas.Map.Steps.{length-le_from_distinct_below}
-use Rattle.std.proofs.lemmas.Bool.{ne_eqb, eq-eqb}
-use Rattle.std.proofs.lemmas.Bool.Decides.{eqb_tells}
-use Rattle.macsec_tag.specs.declared.identifiers.Sci.{Sci}
-use Rattle.macsec_rx.specs.declared.RxRow.{RxRow}
-use Rattle.macsec_rx.specs.Channels.{rx_row, same_sci, is_at}
-use Rattle.macsec_rx.specs.Commands.{has_channel}
-use Rattle.macsec_rx.specs.Index.{channel_place, slot}
-use Rattle.macsec_rx.specs.Rows.{AreRxRows}
-use Rattle.macsec_rx.proofs.Scis.{one_sci, same_sci-refl}
+use Rattle.{
+  std.proofs.{
+    Common.{◌≡◌, ◌∙◌, ℕ, suc, ◌+◌, ◌*◌, ◌<◌, ◌≤◌, Bool, true, false, cond, ◌||◌, List, [], ◌∷◌, map, length, refl},
+    Common.{arith, eqb, sym, ap, inl, inr, Option, Some, None, if◌then◌else◌, ne_eqb, eq-eqb},
+    lemmas.{Bool.Decides.eqb_tells, Map.Steps.length-le_from_distinct_below},
+  },
+  std.specs.List.{IsDistinct, AllByRecursion, list_any},
+  macsec_tag.specs.declared.identifiers.Sci.Sci,
+  macsec_rx.proofs.Scis.{one_sci, same_sci-refl},
+  macsec_rx.specs.{
+    Channels.{rx_row, same_sci, is_at},
+    Commands.has_channel,
+    Index.{channel_place, slot},
+    Rows.AreRxRows,
+    declared.RxRow.RxRow,
+  },
+}
 
 pub cond_none : {A : Type 0} (b : Bool) (x : A) (r : Option A) → cond b (Some x) r ≡ None → (b ≡ false) × (r ≡ None)
 cond_none true x r h = cc

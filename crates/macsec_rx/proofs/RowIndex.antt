@@ -1,23 +1,27 @@
 -- The index of the SAs, and changing the one row that it finds.
-use Rattle.std.proofs.Common.{◌≡◌, ◌∙◌, ℕ, zero, suc, ◌+◌, ◌*◌, ◌<◌, ◌≤◌, Bool, true, false, cond, ◌&&◌, ◌||◌, List, [], ◌∷◌, ◌++◌, map, length}
-use Rattle.std.proofs.Common.{take, get_or, refl, sym, ap, subst, arith, inl, inr, get_or-set_other, get_or-set_same, length-append}
-use Rattle.std.specs.Prelude.{IsSomeAnd, Option, Some, None, option_map, slice_get, if◌then◌else◌, ◌==◌}
-use Rattle.std.proofs.Math.ListN.{set}
-use Rattle.std.proofs.lemmas.List.{length-map, length-set}
-use Rattle.std.proofs.lemmas.Option.{slice_get-map, slice_get_past}
-use Rattle.std.proofs.lemmas.Bool.{and_parts, eq-eqb, eqb-true}
-use Rattle.std.proofs.lemmas.Bool.Decides.{eqb_tells}
+use Rattle.std.proofs.{
+  Common.{◌≡◌, ◌∙◌, ℕ, zero, suc, ◌+◌, ◌*◌, ◌<◌, ◌≤◌, Bool, true, false, cond, ◌&&◌, ◌||◌, List, [], ◌∷◌, ◌++◌, map},
+  Common.{length, take, get_or, refl, sym, ap, subst, arith, inl, inr, get_or-set_other, get_or-set_same},
+  Common.{length-append, IsSomeAnd, Option, Some, None, option_map, slice_get, if◌then◌else◌, ◌==◌, length-set, eq-eqb},
+  Common.eqb-true,
+  Math.ListN.set,
+  lemmas.{Bool.{and_parts, Decides.eqb_tells}, List.length-map, Option.{slice_get-map, slice_get_past}},
+}
 use Rattle.macsec_tag.specs.declared.identifiers.Sci.{Sci}
-use Rattle.macsec_rx.specs.declared.RxRow.{RxRow}
-use Rattle.macsec_rx.specs.Channels.{at_place, is_at, rx_row, same_sci, with_rx}
-use Rattle.macsec_rx.specs.Commands.{has_channel}
-use Rattle.macsec_rx.specs.Index.{IsIndex, channel_place, slot}
-use Rattle.macsec_rx.specs.Judge.{in_use}
-use Rattle.macsec_rx.specs.Limits.{max_association_count, max_channel_count, max_row_count}
-use Rattle.macsec_rx.specs.Rows.{AreRxRows, IsRxRow}
-use Rattle.macsec_rx.proofs.Room.{cond_none, one_place, same_slot, slot_below}
-use Rattle.macsec_rx.proofs.RxRows.{AreRxRows-map, IsRxRow-at_place, KeepsPlace, is_at-swapped}
-use Rattle.macsec_rx.proofs.Scis.{one_sci, same_sci-refl}
+use Rattle.macsec_rx.proofs.{
+  Room.{cond_none, one_place, same_slot, slot_below},
+  RxRows.{AreRxRows-map, IsRxRow-at_place, KeepsPlace, is_at-swapped},
+  Scis.{one_sci, same_sci-refl},
+}
+use Rattle.macsec_rx.specs.{
+  Channels.{at_place, is_at, rx_row, same_sci, with_rx},
+  Commands.has_channel,
+  Index.{IsIndex, channel_place, slot},
+  Judge.in_use,
+  Limits.{max_association_count, max_channel_count, max_row_count},
+  Rows.{AreRxRows, IsRxRow},
+  declared.RxRow.RxRow,
+}
 
 -- ---- SAs and their positions
 

@@ -1,18 +1,22 @@
 -- Lemmas on the SAs of the receive SCs.
-use Rattle.std.proofs.Common.{◌≡◌, IfSome, ◌<◌, ◌∙◌, ℕ, ◌≤◌, Bool, true, false, cond, ◌&&◌, List, [], ◌∷◌, ◌++◌, map, length, take, drop, refl, arith, sym, ap, subst}
-use Rattle.std.specs.Prelude.{Option, Some, None, IsSome, MatchOption, is_some, ◌==◌, ◌^◌, if◌then◌else◌, filter}
-use Rattle.std.specs.List.{All, refill}
-use Rattle.std.proofs.lemmas.List.{take-append-le}
-use Rattle.std.proofs.lemmas.List.Elements.{All-head, All-tail}
-use Rattle.std.proofs.lemmas.Bool.{eq-eqb, eqb-true, and_parts}
-use Rattle.macsec_tag.specs.declared.identifiers.Sci.{Sci}
-use Rattle.macsec_rx.specs.declared.RxRow.{RxRow}
-use Rattle.macsec_rx.specs.Judge.{in_use, row_accepting}
-use Rattle.macsec_rx.specs.Channels.{at_place, is_at, rx_row, same_sci}
-use Rattle.macsec_rx.specs.Commands.{has_channel, row_narrowed, row_raised, row_switched}
-use Rattle.macsec_rx.specs.Rows.{AreRxRows, IsRxRow}
-use Rattle.macsec_rx.proofs.Room.{cond_none}
-use Rattle.macsec_rx.proofs.Scis.{one_sci, same_sci-refl}
+use Rattle.{
+  std.proofs.{
+    Common.{◌≡◌, IfSome, ◌<◌, ◌∙◌, ℕ, ◌≤◌, Bool, true, false, cond, ◌&&◌, List, [], ◌∷◌, ◌++◌, map, length, take, drop},
+    Common.{refl, arith, sym, ap, subst, Option, Some, None, IsSome, MatchOption, is_some, ◌==◌, ◌^◌, if◌then◌else◌},
+    Common.{filter, eq-eqb, eqb-true},
+    lemmas.{Bool.and_parts, List.{take-append-le, Elements.{All-head, All-tail}}},
+  },
+  std.specs.List.{All, refill},
+  macsec_tag.specs.declared.identifiers.Sci.Sci,
+  macsec_rx.proofs.{Room.cond_none, Scis.{one_sci, same_sci-refl}},
+  macsec_rx.specs.{
+    Channels.{at_place, is_at, rx_row, same_sci},
+    Commands.{has_channel, row_narrowed, row_raised, row_switched},
+    Judge.{in_use, row_accepting},
+    Rows.{AreRxRows, IsRxRow},
+    declared.RxRow.RxRow,
+  },
+}
 
 pub none_from_is_some : {A : Type 0} (o : Option A) → is_some o ≡ false → o ≡ None
 none_from_is_some None h = refl

@@ -1,16 +1,13 @@
 -- Lemmas on SCIs and on the list of SCs.
-use Rattle.std.proofs.Common.{◌≡◌, ◌∙◌, ℕ, Bool, true, false, cond, List, [], ◌∷◌, ◌++◌, refl, sym, ap}
-use Rattle.std.specs.Prelude.{filter, not}
-use Rattle.std.specs.Cmp.Lexicographic.{same_text}
-use Rattle.std.proofs.lemmas.Bool.{eq-eqb, or_parts}
-use Rattle.std.proofs.lemmas.List.Folds.{list_any-append}
-use Rattle.std.proofs.lemmas.Map.Views.{any-filter_same}
-use Rattle.macsec_gcm.specs.Octets.{same_octets}
-use Rattle.macsec_tag.specs.declared.identifiers.Sci.{Sci}
-use Rattle.macsec_rx.specs.Channels.{same_sci}
-use Rattle.macsec_rx.specs.Commands.{has_channel}
-use Rattle.macsec_rx.specs.Rows.{AreScis}
-use Rattle.macsec_commands.specs.Scis.{IsSci}
+use Rattle.{
+  std.proofs.Common.{◌≡◌, ◌∙◌, ℕ, Bool, true, false, cond, List, [], ◌∷◌, ◌++◌, refl, sym, ap, filter, not, eq-eqb},
+  std.proofs.lemmas.{Bool.or_parts, List.Folds.list_any-append, Map.Views.any-filter_same},
+  std.specs.Cmp.Lexicographic.same_text,
+  macsec_gcm.specs.Octets.same_octets,
+  macsec_tag.specs.declared.identifiers.Sci.Sci,
+  macsec_commands.specs.Scis.IsSci,
+  macsec_rx.specs.{Channels.same_sci, Commands.has_channel, Rows.AreScis},
+}
 
 same_octets-refl : (xs : List ℕ) → same_octets xs xs ≡ true
 same_octets-refl [] = refl

@@ -1,9 +1,10 @@
 -- Scripts and what they print.
-use Rattle.std.specs.Prelude.{◌≡◌, ℕ, ◌++◌, List, [], codes, Ok, Err, refl}
-use Rattle.std.specs.Fmt.{digits}
-use Rattle.hex.proofs.OnLiterals.{hex_on_literals}
+use Rattle.{
+  std.{proofs.Common.{◌≡◌, ℕ, ◌++◌, List, [], codes, Ok, Err, refl}, specs.Fmt.digits},
+  hex.proofs.OnLiterals.hex_on_literals,
+  macsec_script.specs.Printed.printed_text,
+}
 use Rattle.macsec_script_parser.specs.declared.faults.ScriptFault.TheVariants as script
-use Rattle.macsec_script.specs.Printed.{printed_text}
 
 abbrev both_ends : List ℕ
 both_ends = codes "end A gcm128 12153524c0895e81 1518 sci\nend B gcm128 0000000000000002 1518 auto\n"

@@ -1,18 +1,17 @@
 -- The endpoint of end A decides what a line about it alone prints: by the kind of line, and by the refusal of a command.
-use Rattle.std.proofs.Common.{◌≡◌, ℕ, refl, ap, Option, Some, None}
-use Rattle.macsec_suite.specs.declared.refusal.Refusal.{Refusal}
-use Rattle.macsec_commands.specs.declared.event.End.TheVariants.{A}
+use Rattle.{
+  std.proofs.Common.{◌≡◌, ℕ, refl, ap, Option, Some, None},
+  macsec_suite.specs.declared.refusal.Refusal.Refusal,
+  macsec_commands.specs.declared.event.End.TheVariants.A,
+  macsec_secy.specs.{Commands.refusal, Step.{operator_command, command_output, step}},
+  macsec_link_logs.specs.Ends.{EndState, end_after},
+  macsec_link.specs.{Step.reaction, World.{WorldState, with_end}},
+  macsec_script_parser.specs.declared.lines.Action.Action,
+  macsec_script_printer.specs.OneEnd.command_text,
+  macsec_script.specs.{OneEnd.NeedsOneEnd, Printed.text_and_world},
+}
 use Rattle.macsec_commands.specs.declared.event.Event.TheVariants as event
-use Rattle.macsec_secy.specs.Step.{operator_command, command_output, step}
-use Rattle.macsec_secy.specs.Commands.{refusal}
-use Rattle.macsec_link.specs.World.{WorldState, with_end}
-use Rattle.macsec_link.specs.Step.{reaction}
-use Rattle.macsec_link_logs.specs.Ends.{EndState, end_after}
-use Rattle.macsec_script_parser.specs.declared.lines.Action.{Action}
 use Rattle.macsec_script_parser.specs.declared.lines.Action.TheVariants as action
-use Rattle.macsec_script_printer.specs.OneEnd.{command_text}
-use Rattle.macsec_script.specs.Printed.{text_and_world}
-use Rattle.macsec_script.specs.OneEnd.{NeedsOneEnd}
 
 -- a command is refused or done
 told : (w : WorldState) (n : ℕ) (e : EndState) (r : Option Refusal) →

@@ -1,23 +1,30 @@
 -- The promises hold of a script's run if its lines were all carried out, of the lines before the one at which memory
 -- runs out, and of the lines up to the one whose write fails.
-use Rattle.std.proofs.Common.{◌≡◌, ◌∙◌, ◌+◌, ℕ, List, [], length, take, ap, inl, inr, refl, sym, subst}
-use Rattle.std.specs.Prelude.{◌≤◌, IfErr, IfOk, IfSome, OnOk, Option, Some, None, Result, Ok, Err}
+use Rattle.std.proofs.{
+  Common.{◌≡◌, ◌∙◌, ◌+◌, ℕ, List, [], length, take, ap, inl, inr, refl, sym, subst, ◌≤◌, IfErr, IfOk, IfSome, OnOk},
+  Common.{Option, Some, None, Result, Ok, Err},
+  KnownBytes.Appends-nil,
+}
 use Rattle.std.specs.Io.{StartsWith}
-use Rattle.std.proofs.KnownBytes.{Appends-nil}
-use Rattle.macsec_commands.specs.declared.config.EndConfig.{EndConfig}
-use Rattle.macsec_commands.specs.declared.event.Event.{Event}
-use Rattle.macsec_link.specs.World.{WorldState, new_world}
-use Rattle.macsec_link.specs.Sound.{IsSound}
-use Rattle.macsec_link.specs.Beginnings.{AreSound, StaysSound}
-use Rattle.macsec_link.specs.Promises.{KeepsPromises}
-use Rattle.macsec_script_parser.specs.declared.faults.ScriptFault.{ScriptFault}
-use Rattle.macsec_script_parser.specs.declared.faults.ScriptFault.TheVariants.{Memory, Write}
-use Rattle.macsec_script_parser.specs.Parts.{ScriptParts}
-use Rattle.macsec_script_parser.specs.Scripts.{script_of}
-use Rattle.macsec_script_parser.specs.Readings.{IsReadFault, Parses}
-use Rattle.macsec_script.specs.Printed.{text_from, text_of}
-use Rattle.macsec_script.specs.Promised.{AnyPromisedUpTo, ArePromised, ArePromisedUpTo, IsPromised, IsPromisedBefore, IsPromisedUpTo, IsSoundUpTo, events_of, up_to}
-use Rattle.macsec_script.proofs.Unwritten.{carried_over}
+use Rattle.macsec_commands.specs.declared.{config.EndConfig.EndConfig, event.Event.Event}
+use Rattle.macsec_link.specs.{
+  Beginnings.{AreSound, StaysSound},
+  Promises.KeepsPromises,
+  Sound.IsSound,
+  World.{WorldState, new_world},
+}
+use Rattle.macsec_script_parser.specs.{
+  Parts.ScriptParts,
+  Readings.{IsReadFault, Parses},
+  Scripts.script_of,
+  declared.faults.ScriptFault.{ScriptFault, TheVariants.{Memory, Write}},
+}
+use Rattle.macsec_script.{
+  proofs.Unwritten.carried_over,
+  specs.Printed.{text_from, text_of},
+  specs.Promised.{AnyPromisedUpTo, ArePromised, ArePromisedUpTo, IsPromised, IsPromisedBefore, IsPromisedUpTo},
+  specs.Promised.{IsSoundUpTo, events_of, up_to},
+}
 
 -- ---- the lines
 

@@ -1,26 +1,28 @@
 -- The loop over the lines of a script: what was written, and the world after them.
-use Rattle.std.proofs.Common.{◌≡◌, ℕ, ◌+◌, ◌<◌, List, [], ◌∷◌, ◌++◌, take, drop, get_or, length, refl, sym, ◌∙◌, ap, subst, append_assoc, append-nil}
-use Rattle.std.proofs.lemmas.List.{drop_more, take_more, take-append-drop}
-use Rattle.std.specs.Prelude.{false, is_err, MatchResult, OnErr, OnOk, Option, None, Result, Ok, Err}
-use Rattle.std.specs.Io.{StartsWith}
-use Rattle.std.specs.Io.KnownBytes.{Appends}
-use Rattle.std.proofs.KnownBytes.{Appends-kept, Appends-nil, Appends-trans, starts_with_rest}
-use Rattle.std.proofs.Transfers.{starts_with_of_append}
-use Rattle.macsec_writes.specs.Fronts.{AppendsFront}
-use Rattle.macsec_commands.specs.declared.event.Event.{Event}
-use Rattle.macsec_link.specs.World.{WorldState}
-use Rattle.macsec_link.specs.Step.{world_after, world_step}
-use Rattle.macsec_link.specs.Sound.{IsSound}
-use Rattle.macsec_link.specs.Beginnings.{StaysSound}
-use Rattle.macsec_script_parser.specs.declared.lines.Action.{Action}
+use Rattle.{
+  std.proofs.{
+    Common.{◌≡◌, ℕ, ◌+◌, ◌<◌, List, [], ◌∷◌, ◌++◌, take, drop, get_or, length, refl, sym, ◌∙◌, ap, subst, append_assoc},
+    Common.{append-nil, take-append-drop, false, is_err, MatchResult, OnErr, OnOk, Option, None, Result, Ok, Err},
+    KnownBytes.{Appends-kept, Appends-nil, Appends-trans, starts_with_rest},
+    Transfers.starts_with_of_append,
+    lemmas.List.{drop_more, take_more},
+  },
+  std.specs.Io.{StartsWith, KnownBytes.Appends},
+  macsec_commands.specs.declared.event.Event.Event,
+  macsec_link.specs.{Beginnings.StaysSound, Sound.IsSound, Step.{world_after, world_step}, World.WorldState},
+  macsec_script_parser.specs.{
+    Parts.NumberedLine,
+    declared.{faults.ScriptFault.{ScriptFault, TheVariants.{Memory, Write}}, lines.Action.Action},
+  },
+  macsec_writes.specs.Fronts.AppendsFront,
+  macsec_script.proofs.TextOfWorlds.{events_with, text_of_worlds, text_with, world_with},
+  macsec_script.specs.{
+    Printed.{line_step, text_from},
+    Promised.{IsPromisedBefore, IsSoundUpTo, LeavesAll, UnlessMemory, event_of, events_of, text_after},
+    Runs.WritesText,
+  },
+}
 use Rattle.macsec_script_parser.specs.declared.lines.Action.TheVariants as action
-use Rattle.macsec_script_parser.specs.declared.faults.ScriptFault.{ScriptFault}
-use Rattle.macsec_script_parser.specs.declared.faults.ScriptFault.TheVariants.{Memory, Write}
-use Rattle.macsec_script_parser.specs.Parts.{NumberedLine}
-use Rattle.macsec_script.specs.Printed.{line_step, text_from}
-use Rattle.macsec_script.specs.Promised.{IsPromisedBefore, IsSoundUpTo, LeavesAll, UnlessMemory, event_of, events_of, text_after}
-use Rattle.macsec_script.specs.Runs.{WritesText}
-use Rattle.macsec_script.proofs.TextOfWorlds.{events_with, text_of_worlds, text_with, world_with}
 
 -- ---- one more line
 

@@ -1,13 +1,12 @@
 -- Each line of a script is printed from the world after the events of the lines before it.
-use Rattle.std.proofs.Common.{◌≡◌, ℕ, List, [], ◌∷◌, ◌++◌, refl, sym, ◌∙◌, ap, append_assoc, append-nil}
-use Rattle.macsec_commands.specs.declared.event.Event.{Event}
-use Rattle.macsec_link.specs.World.{WorldState}
-use Rattle.macsec_link.specs.Step.{world_after, world_step}
-use Rattle.macsec_script_parser.specs.declared.lines.Action.{Action}
+use Rattle.{
+  std.proofs.Common.{◌≡◌, ℕ, List, [], ◌∷◌, ◌++◌, refl, sym, ◌∙◌, ap, append_assoc, append-nil},
+  macsec_commands.specs.declared.event.Event.Event,
+  macsec_link.specs.{Step.{world_after, world_step}, World.WorldState},
+  macsec_script_parser.specs.{Parts.NumberedLine, declared.lines.Action.Action},
+  macsec_script.specs.{Printed.{line_step, text_from}, Promised.{IsTextOfWorlds, event_of, events_of, text_after}},
+}
 use Rattle.macsec_script_parser.specs.declared.lines.Action.TheVariants as action
-use Rattle.macsec_script_parser.specs.Parts.{NumberedLine}
-use Rattle.macsec_script.specs.Printed.{line_step, text_from}
-use Rattle.macsec_script.specs.Promised.{IsTextOfWorlds, event_of, events_of, text_after}
 
 world_after-append : (w : WorldState) (es fs : List Event) → world_after w (es ++ fs) ≡ world_after (world_after w es) fs
 world_after-append w [] fs = refl

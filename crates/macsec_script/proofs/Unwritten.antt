@@ -1,20 +1,28 @@
 -- What a run returns if it printed nothing, and if it printed the lines.
-use Rattle.std.proofs.Common.{◌≡◌, ℕ, List, [], arith, drop, refl, sym, ◌∙◌, ap, subst}
-use Rattle.std.proofs.lemmas.Bool.Decides.{nat_tests}
-use Rattle.std.specs.Prelude.{Bool, true, false, ◌||◌, ◌<◌, if◌then◌else◌, nat_lt, Option, Some, None, Result, Ok, Err, IfSome, IfErr, ◌≤◌, length}
+use Rattle.std.proofs.{
+  Common.{◌≡◌, ℕ, List, [], arith, drop, refl, sym, ◌∙◌, ap, subst, Bool, true, false, ◌||◌, ◌<◌, if◌then◌else◌},
+  Common.{nat_lt, Option, Some, None, Result, Ok, Err, IfSome, IfErr, ◌≤◌, length},
+  KnownBytes.{Appends-nil, Appends-kept, Keeps-refl, starts_with_rest},
+  lemmas.Bool.Decides.nat_tests,
+}
 use Rattle.std.specs.Io.KnownBytes.{Keeps}
-use Rattle.std.proofs.KnownBytes.{Appends-nil, Appends-kept, Keeps-refl, starts_with_rest}
 use Rattle.macsec_commands.specs.declared.config.EndConfig.{EndConfig}
-use Rattle.macsec_script_parser.specs.declared.faults.ScriptFault.{ScriptFault}
-use Rattle.macsec_script_parser.specs.declared.faults.ScriptFault.TheVariants.{Word, Count, Hex, Number, Ends, LineLong, ScriptLong, Memory, Read, Write}
-use Rattle.macsec_script_parser.specs.Fields.{map_ok}
-use Rattle.macsec_script_parser.specs.Scripts.{script_of, script_of_lines}
-use Rattle.macsec_script_parser.specs.Kinds.{and_then}
-use Rattle.macsec_script_parser.specs.Words.{lines_of}
-use Rattle.macsec_script_parser.specs.Parts.{NumberedLine, ScriptParts}
-use Rattle.macsec_script.specs.Printed.{printed_text, text_of, text_of_any}
-use Rattle.macsec_script.specs.Runs.{IsAfterRead, IsBegun, LeavesText, RunGives, WritesText}
-use Rattle.macsec_script_parser.specs.Readings.{IsInputFault, Parses}
+use Rattle.macsec_script_parser.specs.{
+  Fields.map_ok,
+  Kinds.and_then,
+  Parts.{NumberedLine, ScriptParts},
+  Readings.{IsInputFault, Parses},
+  Scripts.{script_of, script_of_lines},
+  Words.lines_of,
+  declared.faults.ScriptFault.{
+    ScriptFault,
+    TheVariants.{Word, Count, Hex, Number, Ends, LineLong, ScriptLong, Memory, Read, Write},
+  },
+}
+use Rattle.macsec_script.specs.{
+  Printed.{printed_text, text_of, text_of_any},
+  Runs.{IsAfterRead, IsBegun, LeavesText, RunGives, WritesText},
+}
 
 -- the empty text is a prefix of every text
 pub begun_by_nothing : (answer : Result (List ℕ) ScriptFault) → IsBegun answer []

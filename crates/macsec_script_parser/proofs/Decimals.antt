@@ -1,11 +1,13 @@
 -- Further digits never make a number smaller.
-use Rattle.std.proofs.Common.{◌≡◌, ℕ, ◌+◌, ◌*◌, ◌≤◌, ◌<◌, List, [], ◌∷◌, drop, get_or, arith, refl, sym, ap}
-use Rattle.std.specs.Prelude.{Bool, true, false, ◌&&◌, cond, nat_le, Result, Ok, Err, length, ◌-◌}
-use Rattle.std.proofs.lemmas.Bool.Decides.{nat_tests}
-use Rattle.std.proofs.lemmas.List.{drop_more}
-use Rattle.macsec_script_parser.specs.declared.lines.LineFault.{LineFault}
-use Rattle.macsec_script_parser.specs.declared.lines.LineFault.TheVariants.{Number}
-use Rattle.macsec_script_parser.specs.Numerals.{number_after, decimal_value, decimal_in, is_numeral, is_decimal_digit}
+use Rattle.std.proofs.{
+  Common.{◌≡◌, ℕ, ◌+◌, ◌*◌, ◌≤◌, ◌<◌, List, [], ◌∷◌, drop, get_or, arith, refl, sym, ap, Bool, true, false, ◌&&◌, cond},
+  Common.{nat_le, Result, Ok, Err, length, ◌-◌},
+  lemmas.{Bool.Decides.nat_tests, List.drop_more},
+}
+use Rattle.macsec_script_parser.specs.{
+  Numerals.{number_after, decimal_value, decimal_in, is_numeral, is_decimal_digit},
+  declared.lines.LineFault.{LineFault, TheVariants.Number},
+}
 
 pub number-grows : (value : ℕ → ℕ) (n : ℕ) (digits : List ℕ) → n ≤ number_after 10 value n digits
 number-grows value n [] = omega arith

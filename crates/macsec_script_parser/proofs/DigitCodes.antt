@@ -1,7 +1,9 @@
 -- The code of each octet, computed over all of them.
-use Rattle.std.proofs.Common.{◌≡◌, ℕ, ◌<◌, ◌+◌, ◌-◌, ◌*◌, ◌/◌, ◌%◌, bit_and, bit_or, List, map, get_or, refl, sym, ap, ◌∙◌, rules}
-use Rattle.std.proofs.lemmas.List.FromFn.{get_or-map-range_with_len}
-use Rattle.std.specs.List.{range_with_len}
+use Rattle.std.{
+  proofs.Common.{◌≡◌, ℕ, ◌<◌, ◌+◌, ◌-◌, ◌*◌, ◌/◌, ◌%◌, bit_and, bit_or, List, map, get_or, refl, sym, ap, ◌∙◌, rules},
+  proofs.lemmas.List.FromFn.get_or-map-range_with_len,
+  specs.List.range_with_len,
+}
 use Rattle.macsec_script_parser.specs.Digits.{digit_code}
 
 same_below : (f g : ℕ → ℕ) (n : ℕ) → map f (range_with_len 0 n) ≡ map g (range_with_len 0 n) → (a : ℕ) → a < n → f a ≡ g a

@@ -1,21 +1,27 @@
 -- Worked examples: lines of the script language, and configurations of one end.
-use Rattle.std.specs.Prelude.{◌≡◌, ℕ, List, ◌++◌, [], ◌∷◌, replicate, codes, Some, None, Ok, Err, true, false, refl}
-use Rattle.hex.proofs.OnLiterals.{hex_on_literals}
-use Rattle.macsec_aes.specs.declared.Key.TheVariants.{K128, K256}
-use Rattle.macsec_commands.specs.declared.config.EndConfig.{EndConfig}
+use Rattle.{
+  std.proofs.Common.{◌≡◌, ℕ, List, ◌++◌, [], ◌∷◌, replicate, codes, Some, None, Ok, Err, true, false, refl},
+  hex.proofs.OnLiterals.hex_on_literals,
+  macsec_aes.specs.declared.Key.TheVariants.{K128, K256},
+  macsec_tag.specs.declared.identifiers.Sci.Sci,
+  macsec_suite.specs.declared.suite.Suite.TheVariants.{Gcm128, Gcm256, Xpn128, Xpn256},
+  macsec_commands.specs.declared.{
+    config.EndConfig.EndConfig,
+    event.End.TheVariants.{A, B},
+    mode.Mode.TheVariants.Check,
+  },
+  macsec_script_parser.specs.{
+    Kinds.{does, line_of, tells},
+    Scripts.config_of,
+    declared.lines.LineFault.TheVariants.{Word, Count, Hex, Number, Ends, LineLong},
+  },
+}
 use Rattle.macsec_commands.specs.declared.form.TagForm.TheVariants as form
 use Rattle.macsec_commands.specs.declared.command.Command.TheVariants as by
-use Rattle.macsec_commands.specs.declared.mode.Mode.TheVariants.{Check}
-use Rattle.macsec_tag.specs.declared.identifiers.Sci.{Sci}
-use Rattle.macsec_suite.specs.declared.suite.Suite.TheVariants.{Gcm128, Gcm256, Xpn128, Xpn256}
-use Rattle.macsec_commands.specs.declared.event.End.TheVariants.{A, B}
 use Rattle.macsec_commands.specs.declared.event.Event.TheVariants as event
 use Rattle.macsec_script_parser.specs.declared.lines.Action.TheVariants as action
 use Rattle.macsec_script_parser.specs.declared.lines.Line.TheVariants as line
-use Rattle.macsec_script_parser.specs.declared.lines.LineFault.TheVariants.{Word, Count, Hex, Number, Ends, LineLong}
 use Rattle.macsec_script_parser.specs.declared.faults.ScriptFault.TheVariants as script
-use Rattle.macsec_script_parser.specs.Kinds.{does, line_of, tells}
-use Rattle.macsec_script_parser.specs.Scripts.{config_of}
 
 -- ---- lines that are skipped
 

@@ -1,6 +1,5 @@
 -- A number of up to 16 hex digits fits into 64 bits.
-use Rattle.std.proofs.Common.{ℕ, ◌+◌, ◌*◌, ◌^◌, ◌≤◌, ◌<◌, arith, suc}
-use Rattle.std.proofs.Math.Nat.{pow-suc, pow-le-pow_right}
+use Rattle.std.proofs.{Common.{ℕ, ◌+◌, ◌*◌, ◌^◌, ◌≤◌, ◌<◌, arith, suc}, Math.Nat.{pow-suc, pow-le-pow_right}}
 
 power_more : (i : ℕ) → i < 16 → (16 ^ i) * 16 ≤ 2 ^ 64
 power_more i below =

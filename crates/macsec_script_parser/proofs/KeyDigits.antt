@@ -1,15 +1,19 @@
 -- The loop over the pairs of digits of a key: what the pairs before one give, and whether all were digits.
-use Rattle.std.proofs.Common.{◌≡◌, ℕ, ◌+◌, ◌*◌, ◌/◌, ◌%◌, ◌<◌, ◌≤◌, List, [], ◌∷◌, ◌++◌, length, take, drop, slice_index, slice_set, refl, sym, ap, ◌∙◌, arith, inl, inr}
-use Rattle.std.specs.Prelude.{Option, Some, None, Result, Ok, Err, option_map, unwrap_or}
-use Rattle.std.proofs.lemmas.Bool.{cases_eq}
-use Rattle.std.proofs.lemmas.List.{append_assoc, append-nil, drop_all, drop_more, take_all, take_more_set}
-use Rattle.hex.specs.Hex.{decode_pairs, decode_sized, digit_or_error, hex_digit_value, pair_value, value_at, ◌>>=◌}
-use Rattle.hex.specs.declared.error.FromHexError.{FromHexError}
-use Rattle.hex.specs.declared.error.FromHexError.TheVariants.{InvalidHexCharacter}
-use Rattle.macsec_script_parser.specs.declared.lines.LineFault.{LineFault}
-use Rattle.macsec_script_parser.specs.declared.lines.LineFault.TheVariants.{Hex}
-use Rattle.macsec_script_parser.specs.Digits.{digit_code}
-use Rattle.macsec_script_parser.specs.Numerals.{octets_of, or_hex}
+use Rattle.std.proofs.{
+  Common.{◌≡◌, ℕ, ◌+◌, ◌*◌, ◌/◌, ◌%◌, ◌<◌, ◌≤◌, List, [], ◌∷◌, ◌++◌, length, take, drop, slice_index, slice_set, refl},
+  Common.{sym, ap, ◌∙◌, arith, inl, inr, Option, Some, None, Result, Ok, Err, option_map, unwrap_or, append_assoc},
+  Common.{append-nil, take_all},
+  lemmas.{Bool.cases_eq, List.{drop_all, drop_more, take_more_set}},
+}
+use Rattle.hex.specs.{
+  Hex.{decode_pairs, decode_sized, digit_or_error, hex_digit_value, pair_value, value_at, ◌>>=◌},
+  declared.error.FromHexError.{FromHexError, TheVariants.InvalidHexCharacter},
+}
+use Rattle.macsec_script_parser.specs.{
+  Digits.digit_code,
+  Numerals.{octets_of, or_hex},
+  declared.lines.LineFault.{LineFault, TheVariants.Hex},
+}
 
 -- ---- two digits
 

@@ -1,14 +1,16 @@
 -- A key from its words. The suite, the SSCI and the salt are read separately from the first three words.
-use Rattle.std.proofs.Common.{◌≡◌, ℕ, List, refl, ap, ◌∙◌}
-use Rattle.std.specs.Prelude.{Option, Some, None, Result, Ok, Err}
-use Rattle.macsec_aes.specs.declared.Key.{Key}
-use Rattle.macsec_suite.specs.declared.suite.Suite.{Suite}
-use Rattle.macsec_commands.specs.declared.event.End.{End}
+use Rattle.{
+  std.proofs.Common.{◌≡◌, ℕ, List, refl, ap, ◌∙◌, Option, Some, None, Result, Ok, Err},
+  macsec_aes.specs.declared.Key.Key,
+  macsec_suite.specs.declared.suite.Suite.Suite,
+  macsec_commands.specs.declared.event.End.End,
+  macsec_script_parser.specs.{
+    Fields.map_ok,
+    Kinds.{and_then, key_from, tells},
+    declared.lines.{Line.Line, LineFault.LineFault},
+  },
+}
 use Rattle.macsec_commands.specs.declared.command.Command.TheVariants as by
-use Rattle.macsec_script_parser.specs.declared.lines.Line.{Line}
-use Rattle.macsec_script_parser.specs.declared.lines.LineFault.{LineFault}
-use Rattle.macsec_script_parser.specs.Fields.{map_ok}
-use Rattle.macsec_script_parser.specs.Kinds.{and_then, key_from, tells}
 
 -- ---- a value in two steps
 

@@ -1,13 +1,13 @@
 -- Unknown keywords.
-use Rattle.std.proofs.Common.{◌≡◌, ℕ, List, [], ◌++◌, Bool, true, ap, sym, subst, ◌∙◌}
-use Rattle.std.specs.Prelude.{bytes_eq, Result, Ok, Err}
-use Rattle.std.proofs.lemmas.Slice.Eq.{bytes_eq-Decides}
-use Rattle.std.proofs.lemmas.List.Elements.{filter-append}
-use Rattle.macsec_script_parser.specs.declared.lines.Line.{Line}
-use Rattle.macsec_script_parser.specs.declared.lines.LineFault.{LineFault}
-use Rattle.macsec_script_parser.specs.declared.lines.LineFault.TheVariants.{Word, Count, Hex, Number, Ends, LineLong, Memory}
-use Rattle.macsec_script_parser.specs.Kinds.{Kind, kinds_of, read_as, read_line}
-use Rattle.macsec_script_parser.specs.Readings.{Reads}
+use Rattle.std.proofs.{
+  Common.{◌≡◌, ℕ, List, [], ◌++◌, Bool, true, ap, sym, subst, ◌∙◌, bytes_eq, Result, Ok, Err},
+  lemmas.{List.Elements.filter-append, Slice.Eq.bytes_eq-Decides},
+}
+use Rattle.macsec_script_parser.specs.{
+  Kinds.{Kind, kinds_of, read_as, read_line},
+  Readings.Reads,
+  declared.lines.{Line.Line, LineFault.{LineFault, TheVariants.{Word, Count, Hex, Number, Ends, LineLong, Memory}}},
+}
 
 -- a keyword that is in none of three parts of a table
 pub none_of_three : (xs ys zs : List Kind) (keyword : List ℕ) (words : List (List ℕ)) → kinds_of xs keyword ≡ [] → kinds_of ys keyword ≡ [] →

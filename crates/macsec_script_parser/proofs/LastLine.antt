@@ -1,12 +1,13 @@
 -- The lines of a text are its parts between line feeds, except an empty last one.
-use Rattle.std.proofs.Common.{◌≡◌, ◌==◌, ℕ, ◌-◌, List, [], ◌∷◌, length, take, map, suc, refl, sym, ap, ◌∙◌, subst, arith}
-use Rattle.std.specs.Prelude.{Bool, true, false, cond, if◌then◌else◌, Option, Some, None}
-use Rattle.std.specs.Option.{option_copied, option_map}
-use Rattle.std.specs.List.{slice_get, slice_split}
-use Rattle.std.specs.Borrow.{Bor}
-use Rattle.std.proofs.lemmas.Option.{none-some, same_Some, slice_get-map, slice_get-get_or}
-use Rattle.std.proofs.lemmas.List.{length-map, take-map}
-use Rattle.macsec_script_parser.specs.Words.{is_empty, lines_of}
+use Rattle.{
+  std.proofs.{
+    Common.{◌≡◌, ◌==◌, ℕ, ◌-◌, List, [], ◌∷◌, length, take, map, suc, refl, sym, ap, ◌∙◌, subst, arith, Bool, true},
+    Common.{false, cond, if◌then◌else◌, Option, Some, None},
+    lemmas.{List.{length-map, take-map}, Option.{none-some, same_Some, slice_get-map, slice_get-get_or}},
+  },
+  std.specs.{Borrow.Bor, List.{slice_get, slice_split}, Option.{option_copied, option_map}},
+  macsec_script_parser.specs.Words.{is_empty, lines_of},
+}
 
 abbrev pub trimmed : List (List ℕ) → List (List ℕ)
 trimmed [] = []

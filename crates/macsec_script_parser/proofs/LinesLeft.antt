@@ -1,16 +1,18 @@
 -- Adding the lines of a text one by one gives what the definition gives for the whole text.
-use Rattle.std.proofs.Common.{◌≡◌, ℕ, ◌+◌, ◌<◌, List, ◌∷◌, drop, get_or, length, map, refl, sym, subst, ◌∙◌, ap}
-use Rattle.std.proofs.lemmas.List.{drop-map, drop_more}
-use Rattle.std.specs.Prelude.{Option, Some, None, Result, Ok, Err}
+use Rattle.std.proofs.{
+  Common.{◌≡◌, ℕ, ◌+◌, ◌<◌, List, ◌∷◌, drop, get_or, length, map, refl, sym, subst, ◌∙◌, ap, Option, Some, None},
+  Common.{Result, Ok, Err},
+  lemmas.List.{drop-map, drop_more},
+}
 use Rattle.std.specs.Borrow.{Bor}
-use Rattle.macsec_script_parser.specs.declared.lines.Line.{Line}
-use Rattle.macsec_script_parser.specs.declared.lines.LineFault.{LineFault}
+use Rattle.macsec_script_parser.specs.{
+  Kinds.{line_of, and_then},
+  Readings.{Reads, Parses},
+  Scripts.{add_line, add_lines, at_line},
+  declared.{faults.ScriptFault.ScriptFault, lines.{Line.Line, LineFault.LineFault}},
+}
 use Rattle.macsec_script_parser.specs.declared.lines.LineFault.TheVariants as fault
-use Rattle.macsec_script_parser.specs.declared.faults.ScriptFault.{ScriptFault}
 use Rattle.macsec_script_parser.specs.declared.faults.ScriptFault.TheVariants as script
-use Rattle.macsec_script_parser.specs.Kinds.{line_of, and_then}
-use Rattle.macsec_script_parser.specs.Scripts.{add_line, add_lines, at_line}
-use Rattle.macsec_script_parser.specs.Readings.{Reads, Parses}
 
 -- adds a line to what the lines before it made
 abbrev pub Adds : Type 0 → Type 0

@@ -1,12 +1,14 @@
 -- A line of one kind has as many words as the kind, and they are read from left to right.
-use Rattle.std.proofs.Common.{◌≡◌, ℕ, ◌<◌, ◌≤◌, List, [], ◌∷◌, length, get_or, map, arith, sym, ap, ◌∙◌, subst}
-use Rattle.std.specs.Prelude.{◌==◌, cond, Some, None, Result, Ok, Err}
-use Rattle.std.specs.Borrow.{Bor}
-use Rattle.macsec_script_parser.specs.declared.lines.Line.{Line}
-use Rattle.macsec_script_parser.specs.declared.lines.LineFault.{LineFault}
-use Rattle.macsec_script_parser.specs.declared.lines.LineFault.TheVariants.{Memory}
-use Rattle.macsec_script_parser.specs.Kinds.{Kind, and_then, read_kind, read_words}
-use Rattle.macsec_script_parser.specs.Readings.{Reads}
+use Rattle.std.{
+  proofs.Common.{◌≡◌, ℕ, ◌<◌, ◌≤◌, List, [], ◌∷◌, length, get_or, map, arith, sym, ap, ◌∙◌, subst, ◌==◌, cond, Some},
+  proofs.Common.{None, Result, Ok, Err},
+  specs.Borrow.Bor,
+}
+use Rattle.macsec_script_parser.specs.{
+  Kinds.{Kind, and_then, read_kind, read_words},
+  Readings.Reads,
+  declared.lines.{Line.Line, LineFault.{LineFault, TheVariants.Memory}},
+}
 
 -- ---- the words of a line, by their count
 

@@ -1,8 +1,9 @@
 -- Packet numbers as a script prints them.
-use Rattle.std.specs.Prelude.{◌≡◌, [], ◌∷◌, codes, Some, true, refl}
-use Rattle.std.specs.Fmt.{digits}
-use Rattle.hex.proofs.OnLiterals.{hex_on_literals}
-use Rattle.macsec_script_printer.specs.Numbers.{packet_number_text, rx_text}
+use Rattle.{
+  std.{proofs.Common.{◌≡◌, [], ◌∷◌, codes, Some, true, refl}, specs.Fmt.digits},
+  hex.proofs.OnLiterals.hex_on_literals,
+  macsec_script_printer.specs.Numbers.{packet_number_text, rx_text},
+}
 
 first_shown : packet_number_text 1 ≡ codes "0000000000000001"
 unfolding digits

@@ -1,10 +1,10 @@
 -- Numbers in hex with leading zeros: what `{:016x}` prints, and `{:x}{:016x}` of the two halves of a number.
-use Rattle.std.proofs.Common.{◌≡◌, ℕ, suc, zero, ◌+◌, ◌-◌, ◌*◌, ◌/◌, ◌%◌, ◌^◌, ◌≤◌, ◌<◌, List, [], ◌∷◌, ◌++◌, length, replicate, cond, false, arith}
-use Rattle.std.proofs.Common.{refl, sym, ap, ◌∙◌, append_assoc, append-nil, length-append, add-one, ⊎_elim, eq-eqb, ne_eqb}
-use Rattle.std.proofs.Math.Nat.{div-div-eq-div-mul, div-one, pow-suc, one-le-pow}
-use Rattle.std.proofs.Math.Arith.{mod-mul}
-use Rattle.std.proofs.lemmas.Bool.{cases_lt}
-use Rattle.std.proofs.lemmas.List.{replicate_more}
+use Rattle.std.proofs.{
+  Common.{◌≡◌, ℕ, suc, zero, ◌+◌, ◌-◌, ◌*◌, ◌/◌, ◌%◌, ◌^◌, ◌≤◌, ◌<◌, List, [], ◌∷◌, ◌++◌, length, replicate, cond},
+  Common.{false, arith, refl, sym, ap, ◌∙◌, append_assoc, append-nil, length-append, add-one, ⊎_elim, eq-eqb, ne_eqb},
+  Math.{Arith.mod-mul, Nat.{div-div-eq-div-mul, div-one, pow-suc, one-le-pow}},
+  lemmas.{Bool.cases_lt, List.replicate_more},
+}
 use Rattle.std.specs.Fmt.{digits, digits_onto, digit_glyph, padded_integral, format_spec, char_count}
 use Rattle.macsec_script_printer.specs.Numbers.{hex, packet_number_text}
 

@@ -1,9 +1,11 @@
 -- Texts written one after another: what they append together.
-use Rattle.std.proofs.Common.{◌≡◌, ℕ, ◌+◌, ◌<◌, List, [], ◌∷◌, ◌++◌, length, map, get_or, take, refl, sym, ap, ◌∙◌, subst}
-use Rattle.std.proofs.lemmas.List.{take_more, flat_map_more}
-use Rattle.std.specs.Prelude.{Option, Result, Ok, Err, OnOk, flat_map}
+use Rattle.std.proofs.{
+  Common.{◌≡◌, ℕ, ◌+◌, ◌<◌, List, [], ◌∷◌, ◌++◌, length, map, get_or, take, refl, sym, ap, ◌∙◌, subst, Option, Result},
+  Common.{Ok, Err, OnOk, flat_map},
+  KnownBytes.Appends-trans,
+  lemmas.List.{take_more, flat_map_more},
+}
 use Rattle.std.specs.Io.KnownBytes.{Appends}
-use Rattle.std.proofs.KnownBytes.{Appends-trans}
 
 -- the texts of the first i elements, and of one more
 pub one_more_piece : {X : Type 0} (text : X → List ℕ) (xs : List X) (i : ℕ) (x : X) (old mid new : Option (List ℕ)) →

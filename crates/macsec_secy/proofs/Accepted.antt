@@ -1,38 +1,26 @@
 -- A protected frame that one endpoint sends passes at another endpoint that has the matching SA.
-use Rattle.std.proofs.Common.{◌≡◌, ℕ, ◌≤◌, Bool, true, false, List, ◌++◌, length, take, refl, ap, ◌∙◌, arith, length-append}
-use Rattle.std.specs.Prelude.{◌%◌, ◌^◌, ◌&&◌, not, nat_lt, if◌then◌else◌, Some, None, IsSome}
-use Rattle.std.specs.Int.{w32, to_be_bytes}
-use Rattle.std.proofs.lemmas.Bool.{le-ltb, ltb-false}
-use Rattle.macsec_gcm.specs.Laws.{OpenUndoesSeal, SealedLengths}
-use Rattle.macsec_tag.specs.declared.identifiers.Sci.{Sci}
-use Rattle.macsec_tag.specs.Frame.{MpduParts, in_a_row}
-use Rattle.macsec_tag.specs.Laws.{ReadAgain}
-use Rattle.macsec_tag.specs.Table.{reading, tagged}
-use Rattle.macsec_pn.specs.Numbers.{recovered_number}
-use Rattle.macsec_suite.specs.declared.suite.Suite.{Suite}
-use Rattle.macsec_suite.specs.Suites.{extended_iv, is_xpn, iv_of}
-use Rattle.macsec_suite.specs.Parts.{clear_length}
-use Rattle.macsec_suite.specs.CipherUses.{cipher_use, plaintext_of_use}
-use Rattle.macsec_suite.specs.KeyRows.{InstalledKey, key_row, prepared_key, the_key}
-use Rattle.macsec_tx.specs.declared.TxOptions.{TxOptions}
-use Rattle.macsec_tx.specs.declared.TxRow.{TxRow}
-use Rattle.macsec_tx.specs.Laws.{CanBeSent, IsReadAsSent}
-use Rattle.macsec_tag.specs.Limits.{max_frame_len, min_frame_len}
-use Rattle.macsec_tx.specs.Transmit.{parts_sent, tag_sent, use_sent}
-use Rattle.macsec_rx.specs.declared.RxRow.{RxRow}
-use Rattle.macsec_rx.specs.declared.Verdict.TheVariants.{Passed}
-use Rattle.macsec_rx.specs.Judge.{at_row, in_use, is_bad_number, number_of_frame, opened_frame, use_to_open}
-use Rattle.macsec_secy.specs.declared.fault.FrameFault.TheVariants.{Short, Long}
-use Rattle.macsec_secy.specs.Accepts.{AcceptsSent, HasSameKey, padded_by}
-use Rattle.macsec_secy.specs.Reception.{judge_reading, judgement_of}
-use Rattle.macsec_secy.specs.State.{State, rx_options, tx_options}
-use Rattle.macsec_secy.specs.Step.{frame_fault, link_frame, received, step}
-use Rattle.macsec_secy.proofs.InUse.{in_use_is}
-use Rattle.macsec_secy.proofs.NearNumbers.{not_bad, recovered}
-use Rattle.macsec_secy.proofs.OctetsBehind.{read_with}
-use Rattle.macsec_secy.proofs.Passed.{is_enabled, passed}
-use Rattle.macsec_secy.proofs.ProtectedBy.{is_row, protected_by}
-use Rattle.macsec_secy.proofs.SealedParts.{gives_frame, sealed_of, sealed_opens}
+use Rattle.{
+  std.proofs.Common.le-ltb,
+  macsec_suite.specs.Suites.extended_iv,
+  macsec_tx.specs.Transmit.{parts_sent, use_sent},
+  macsec_rx.specs.Judge.use_to_open,
+  macsec_secy.proofs.{
+    Names.{◌%◌, ◌&&◌, ◌++◌, ◌^◌, ◌∙◌, ◌≡◌, ◌≤◌, ap, arith, at_row, Bool, CanBeSent, cipher_use, clear_length, false},
+    Names.{frame_fault, if◌then◌else◌, in_a_row, in_use, InstalledKey, is_bad_number, is_xpn, IsReadAsSent, IsSome},
+    Names.{iv_of, judge_reading, judgement_of, key_row, length, length-append, link_frame, List, Long, ltb-false},
+    Names.{max_frame_len, min_frame_len, MpduParts, nat_lt, None, not, number_of_frame, opened_frame, OpenUndoesSeal},
+    Names.{padded_by, Passed, plaintext_of_use, prepared_key, ReadAgain, reading, recovered_number, refl, rx_options},
+    Names.{RxRow, Sci, SealedLengths, Short, Some, State, step, Suite, tag_sent, tagged, take, the_key, to_be_bytes},
+    Names.{true, tx_options, TxOptions, TxRow, w32, ℕ},
+    InUse.in_use_is,
+    NearNumbers.{not_bad, recovered},
+    OctetsBehind.read_with,
+    Passed.{is_enabled, passed},
+    ProtectedBy.{is_row, protected_by},
+    SealedParts.{gives_frame, sealed_of, sealed_opens},
+  },
+  macsec_secy.specs.{Accepts.{AcceptsSent, HasSameKey}, Step.received},
+}
 
 -- the laws of the lower layers, as the law functions state them
 pub record LowerLaws : Type 0 where

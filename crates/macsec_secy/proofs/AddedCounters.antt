@@ -1,13 +1,11 @@
 -- Sums of each counter over an SC's SAs, when an SA counts a frame, is created or is deleted.
-use Rattle.std.proofs.Common.{◌≡◌, ◌∙◌, ℕ, zero, suc, ◌+◌, ◌<◌, ◌%◌, ◌^◌, List, [], ◌∷◌, set, refl, ap, sym, arith}
-use Rattle.std.specs.Prelude.{Option, Some, None, option_map}
-use Rattle.std.proofs.Math.Nat.{add-mod-mod, mod-add-mod}
-use Rattle.macsec_rx.specs.declared.Verdict.{Verdict}
-use Rattle.macsec_rx.specs.declared.Verdict.TheVariants.{Untagged, NoTag, BadTag, Reserved, NoSa, NoSaError, Late, NotValid, Unchecked, Delayed, Invalid, Passed}
-use Rattle.macsec_secy.specs.declared.counters.RxCounters.{RxCounters}
-use Rattle.macsec_secy.specs.State.{no_rx_counters}
-use Rattle.macsec_secy.specs.Counting.{added, count_in_association, count_verdict, counters_at, plus, sum_of}
-use Rattle.macsec_secy.specs.Sound.{AreRxCounters}
+use Rattle.macsec_secy.{
+  proofs.Names.{[], ◌%◌, ◌+◌, ◌<◌, ◌^◌, ◌∙◌, ◌∷◌, ◌≡◌, add-mod-mod, added, ap, AreRxCounters, arith, BadTag},
+  proofs.Names.{count_verdict, counters_at, Delayed, Invalid, Late, List, mod-add-mod, no_rx_counters, None, NoSa},
+  proofs.Names.{NoSaError, NoTag, NotValid, Option, option_map, Passed, plus, refl, Reserved, RxCounters, set, Some},
+  proofs.Names.{suc, sum_of, sym, Unchecked, Untagged, Verdict, zero, ℕ},
+  specs.Counting.count_in_association,
+}
 
 -- ---- one counter
 

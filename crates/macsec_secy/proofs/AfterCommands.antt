@@ -1,21 +1,15 @@
 -- After each command, the next packet number of each SA was never used under its key, and the first unused packet
 -- number of each key is unchanged.
-use Rattle.std.proofs.Common.{◌≡◌, ℕ, ◌≤◌, Bool, true, false, List, [], ◌∷◌, ◌++◌, refl}
-use Rattle.std.specs.Prelude.{not, if◌then◌else◌, Some, None, IsSome}
-use Rattle.std.proofs.lemmas.Bool.{ltb-false}
-use Rattle.macsec_suite.specs.KeyRows.{InstalledKey, key_row, keys_retiring, keys_with, new_row, suite_of}
-use Rattle.macsec_suite.specs.Refusals.{RefusalLine, first_refusal, is_number_used}
-use Rattle.macsec_tx.specs.declared.TxRow.{TxRow}
-use Rattle.macsec_tx.specs.Commands.{tx_sa_refusals, tx_uses}
-use Rattle.macsec_commands.specs.declared.command.Command.{Command}
-use Rattle.macsec_commands.specs.declared.command.Command.TheVariants.{Protect, Validate, Replay, Tag, Key, Retire, TxSa, TxOn, TxOff}
-use Rattle.macsec_commands.specs.declared.command.Command.TheVariants.{TxDel, RxSc, RxScDel, RxSa, RxOn, RxOff, RxLow, RxDel}
-use Rattle.macsec_secy.specs.State.{State}
-use Rattle.macsec_secy.specs.Commands.{effect, refusal}
-use Rattle.macsec_secy.specs.Agrees.{HaveUnusedNext, first_unused}
-use Rattle.macsec_secy.proofs.KeysKept.{there_retiring, there_with_more}
-use Rattle.macsec_secy.proofs.FirstUnused.{first-another_key, first-retiring}
-use Rattle.macsec_secy.proofs.UnusedNext.{KeysStay, with_keys, with_one_more, with_one_off, with_one_on, without_one}
+use Rattle.macsec_suite.specs.Refusals.{RefusalLine}
+use Rattle.macsec_secy.proofs.{
+  Names.{[], ◌++◌, ◌∷◌, ◌≡◌, ◌≤◌, Bool, Command, effect, false, first_refusal, first_unused, HaveUnusedNext},
+  Names.{if◌then◌else◌, InstalledKey, is_number_used, IsSome, Key, key_row, keys_retiring, keys_with, List, ltb-false},
+  Names.{new_row, None, not, Protect, refl, refusal, Replay, Retire, RxDel, RxLow, RxOff, RxOn, RxSa, RxSc, RxScDel},
+  Names.{Some, State, suite_of, Tag, true, tx_sa_refusals, tx_uses, TxDel, TxOff, TxOn, TxRow, TxSa, Validate, ℕ},
+  FirstUnused.{first-another_key, first-retiring},
+  KeysKept.{there_retiring, there_with_more},
+  UnusedNext.{KeysStay, with_keys, with_one_more, with_one_off, with_one_on, without_one},
+}
 
 pub effect_stays : (s : State) (c : Command) (n : ℕ) → first_unused (effect s c).keys n ≡ first_unused s.keys n
 effect_stays s (Protect on) n = refl

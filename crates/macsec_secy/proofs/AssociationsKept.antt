@@ -1,31 +1,23 @@
 -- Every input keeps this: each SC has counters for exactly its SAs, and the SC's own counters are the sums.
-use Rattle.std.proofs.Common.{◌≡◌, ◌∙◌, ◌⊎◌, inl, inr, ℕ, zero, suc, ◌<◌, Bool, true, false, List, [], ◌∷◌, ◌++◌, map, filter}
-use Rattle.std.proofs.Common.{length, set, refl, ap, sym, arith, length-set, get_or-set_same, get_or-set_other, Contains}
-use Rattle.std.specs.Prelude.{◌==◌, ◌&&◌, ◌||◌, not, find, if◌then◌else◌, is_some, option_map, unwrap_or, Option, Some, None}
-use Rattle.std.specs.List.{All}
-use Rattle.std.proofs.lemmas.Bool.{and_parts, eq-eqb, eqb-true}
-use Rattle.std.proofs.lemmas.List.Elements.{All-append, All-cons, All-contains_itself, All-head, All-map, All-nil, All-tail, All-weaker}
-use Rattle.macsec_tag.specs.declared.identifiers.Sci.{Sci}
-use Rattle.macsec_tag.specs.Table.{reading}
-use Rattle.macsec_rx.specs.declared.RxRow.{RxRow}
-use Rattle.macsec_rx.specs.declared.Verdict.{Verdict}
-use Rattle.macsec_rx.specs.Channels.{is_at, rx_row, same_sci, with_rx}
-use Rattle.macsec_rx.specs.Commands.{has_channel, has_rx, row_narrowed, row_raised, row_switched}
-use Rattle.macsec_rx.specs.Judge.{Judgement, accepted_number, row_accepting, rows_accepting, rows_after}
-use Rattle.macsec_rx.specs.Rows.{AreRxRows}
-use Rattle.macsec_secy.specs.declared.counters.RxCounters.{RxCounters}
-use Rattle.macsec_secy.specs.declared.counters.ChannelCounters.{ChannelCounters}
-use Rattle.macsec_secy.specs.Counting.{added, at_channel, count_in_channel, count_verdict, counters_at, new_channel_counters, sum_of, with_association, without_association}
-use Rattle.macsec_secy.specs.Reception.{counted_at_row, is_counted_by_channel, judgement_of, rx_packet_counted}
-use Rattle.macsec_secy.specs.Sound.{AreOfAssociations}
-use Rattle.macsec_secy.specs.State.{State, no_rx_counters}
-use Rattle.macsec_secy.proofs.AddedCounters.{added-counted_left, sum_of-begun, sum_of-counted, sum_of-ended}
-use Rattle.macsec_secy.proofs.Contained.{first_or_behind, none_there}
-use Rattle.macsec_secy.proofs.DeliveredFrom.{at_own_place}
-use Rattle.macsec_secy.proofs.InUse.{used_holds}
-use Rattle.macsec_secy.proofs.JudgedBy.{judged_by, judged_row}
-use Rattle.macsec_secy.proofs.RxRowsStay.{KeepsPlace, accepts, at_one_place, not_deleted, not_of_channel, raises, rx_row-map, switches, narrows}
-use Rattle.macsec_secy.proofs.Sums.{one_sci}
+use Rattle.std.{proofs.Common.{length-set, get_or-set_same, get_or-set_other}, specs.List.All}
+use Rattle.macsec_rx.specs.Judge.{rows_after}
+use Rattle.macsec_secy.proofs.{
+  Names.{[], ◌&&◌, ◌++◌, ◌<◌, ◌==◌, ◌||◌, ◌∙◌, ◌∷◌, ◌≡◌, ◌⊎◌, accepted_number, added, All-append, All-cons},
+  Names.{All-contains_itself, All-head, All-map, All-nil, All-tail, All-weaker, and_parts, ap, AreOfAssociations},
+  Names.{AreRxRows, arith, at_channel, Bool, ChannelCounters, Contains, count_in_channel, count_verdict},
+  Names.{counted_at_row, counters_at, eq-eqb, eqb-true, false, filter, find, has_channel, has_rx, if◌then◌else◌, inl},
+  Names.{inr, is_at, is_counted_by_channel, is_some, Judgement, judgement_of, length, List, map, new_channel_counters},
+  Names.{no_rx_counters, None, not, Option, option_map, reading, refl, row_accepting, row_narrowed, row_raised},
+  Names.{row_switched, rows_accepting, rx_packet_counted, rx_row, RxCounters, RxRow, same_sci, Sci, set, Some, State},
+  Names.{suc, sum_of, sym, true, unwrap_or, Verdict, with_association, with_rx, without_association, zero, ℕ},
+  AddedCounters.{added-counted_left, sum_of-begun, sum_of-counted, sum_of-ended},
+  Contained.{first_or_behind, none_there},
+  DeliveredFrom.at_own_place,
+  InUse.used_holds,
+  JudgedBy.{judged_by, judged_row},
+  RxRowsStay.{KeepsPlace, accepts, at_one_place, not_deleted, not_of_channel, raises, rx_row-map, switches, narrows},
+  Sums.one_sci,
+}
 
 abbrev pub AreOfAll : List RxRow → List ChannelCounters → Type 0
 AreOfAll rows channels = All (AreOfAssociations rows) channels

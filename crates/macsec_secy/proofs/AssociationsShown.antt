@@ -1,19 +1,16 @@
 -- The counters of an SA that an endpoint returns exist exactly if the SA does, and their sums are the SC's counters.
-use Rattle.std.proofs.Common.{◌≡◌, ◌∙◌, ℕ, Bool, true, false, List, [], ◌∷◌, map, length, refl, ap, sym, arith}
-use Rattle.std.specs.Prelude.{◌||◌, if◌then◌else◌, is_some, option_and_then, option_map, Option, Some, None}
-use Rattle.macsec_tag.specs.declared.identifiers.Sci.{Sci}
-use Rattle.macsec_rx.specs.Channels.{same_sci}
-use Rattle.macsec_rx.specs.Commands.{has_channel, has_rx}
-use Rattle.macsec_secy.specs.declared.counters.RxCounters.{RxCounters}
-use Rattle.macsec_secy.specs.declared.counters.ChannelCounters.{ChannelCounters}
-use Rattle.macsec_secy.specs.Answers.{channel_counters_of, rx_counters_of, rx_sa_counters_of}
-use Rattle.macsec_secy.specs.AssociationSums.{association_numbers, rx_sums_of}
-use Rattle.macsec_secy.specs.Counting.{added, counters_at, sum_of}
-use Rattle.macsec_secy.specs.Sound.{AreOfAssociations, IsSound, sci_of_counters}
-use Rattle.macsec_secy.specs.State.{State}
-use Rattle.macsec_secy.proofs.AssociationsKept.{has_rx-no_channel}
-use Rattle.macsec_secy.proofs.InUse.{found}
-use Rattle.macsec_secy.proofs.Sums.{one_sci}
+use Rattle.macsec_secy.{
+  proofs.{
+    Names.{[], ◌||◌, ◌∙◌, ◌∷◌, ◌≡◌, added, ap, AreOfAssociations, arith, Bool, channel_counters_of, ChannelCounters},
+    Names.{counters_at, false, has_channel, has_rx, if◌then◌else◌, is_some, IsSound, length, List, map, None, Option},
+    Names.{option_and_then, option_map, refl, RxCounters, same_sci, Sci, sci_of_counters, Some, State, sum_of, sym},
+    Names.{true, ℕ},
+    AssociationsKept.has_rx-no_channel,
+    InUse.found,
+    Sums.one_sci,
+  },
+  specs.{Answers.{rx_counters_of, rx_sa_counters_of}, AssociationSums.{association_numbers, rx_sums_of}},
+}
 
 -- a list of four is given by its elements 0 to 3
 of_four : (associations : List (Option RxCounters)) → length associations ≡ 4 → map (counters_at associations) association_numbers ≡ associations

@@ -1,11 +1,11 @@
 -- If two octet lists that each begin with a SecTAG are equal, the octets after the SecTAGs are equal.
-use Rattle.std.proofs.Common.{◌≡◌, ℕ, ◌+◌, ◌<◌, ◌≤◌, Bool, true, false, List, ◌++◌, length, take, drop, get_or, refl, ap, sym, ◌∙◌, arith, length-append}
-use Rattle.std.specs.Prelude.{is_some, Option, Some, None}
-use Rattle.std.specs.Option.{ForSome}
-use Rattle.std.specs.Int.{w32, to_be_bytes}
-use Rattle.std.proofs.lemmas.List.{drop_at, take_at}
-use Rattle.macsec_tag.specs.declared.identifiers.Sci.{Sci}
-use Rattle.macsec_tag.specs.Tag.{IsTag, Tag, bit_where, c_bit, e_bit, es_bit, sc_bit, scb_bit, sci_octets, encoding, tci_an}
+use Rattle.{
+  std.specs.Option.ForSome,
+  macsec_tag.specs.Tag.{Tag, bit_where, c_bit, e_bit, es_bit, sc_bit, scb_bit},
+  macsec_secy.proofs.Names.{◌++◌, ◌+◌, ◌<◌, ◌∙◌, ◌≡◌, ◌≤◌, ap, arith, Bool, drop, drop_at, encoding, false, get_or},
+  macsec_secy.proofs.Names.{is_some, IsTag, length, length-append, List, None, Option, refl, Sci, sci_octets, Some},
+  macsec_secy.proofs.Names.{sym, take, take_at, tci_an, to_be_bytes, true, w32, ℕ},
+}
 
 pub same_back : (a b x y : List ℕ) → length a ≡ length b → a ++ x ≡ b ++ y → x ≡ y
 same_back a b x y long e = sym (drop_at a x (length b) long) ∙ ap (drop (length b)) e ∙ drop_at b y (length b) refl

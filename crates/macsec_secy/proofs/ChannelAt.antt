@@ -1,16 +1,12 @@
 -- Changing the counters of the SC at an index is changing those of the SC with its SCI, since no two SCs have the same
 -- SCI.
-use Rattle.std.proofs.Common.{◌≡◌, ◌∙◌, ℕ, zero, suc, Bool, true, false, List, [], ◌∷◌, map, set, get_or, refl, ap, sym, eq-eqb}
-use Rattle.std.specs.Prelude.{◌||◌, if◌then◌else◌, slice_get, Some}
-use Rattle.macsec_gcm.specs.Octets.{same_octets}
-use Rattle.macsec_tag.specs.declared.identifiers.Sci.{Sci}
-use Rattle.macsec_rx.specs.Channels.{same_sci}
-use Rattle.macsec_rx.specs.Commands.{has_channel}
-use Rattle.macsec_rx.specs.Rows.{AreScis}
-use Rattle.macsec_secy.specs.declared.counters.ChannelCounters.{ChannelCounters}
-use Rattle.macsec_secy.specs.Counting.{at_channel}
-use Rattle.macsec_secy.specs.Sound.{sci_of_counters}
-use Rattle.macsec_secy.proofs.Sums.{map-at_channel_elsewhere, one_sci}
+use Rattle.std.proofs.Common.{slice_get}
+use Rattle.macsec_secy.proofs.{
+  Names.{[], ◌||◌, ◌∙◌, ◌∷◌, ◌≡◌, ap, AreScis, at_channel, Bool, ChannelCounters, eq-eqb, false, get_or, has_channel},
+  Names.{if◌then◌else◌, List, map, refl, same_octets, same_sci, Sci, sci_of_counters, set, Some, suc, sym, true, zero},
+  Names.ℕ,
+  Sums.{map-at_channel_elsewhere, one_sci},
+}
 
 same_octets-refl : (xs : List ℕ) → same_octets xs xs ≡ true
 same_octets-refl [] = refl

@@ -1,20 +1,12 @@
 -- Every input keeps the counters of each SC, in the order of the SCs.
-use Rattle.std.proofs.Common.{◌≡◌, ℕ, Bool, true, false, List, [], ◌∷◌, map, filter, length, refl, ap, ◌∙◌}
-use Rattle.std.specs.Prelude.{not, if◌then◌else◌, Option, Some, None}
-use Rattle.std.specs.List.{refill}
 use Rattle.std.proofs.lemmas.List.{length-map}
-use Rattle.macsec_tag.specs.declared.identifiers.Sci.{Sci}
-use Rattle.macsec_rx.specs.declared.Verdict.{Verdict}
-use Rattle.macsec_rx.specs.declared.RxRow.{RxRow}
-use Rattle.macsec_rx.specs.Channels.{same_sci}
-use Rattle.macsec_rx.specs.Judge.{Judgement}
-use Rattle.macsec_secy.specs.declared.counters.ChannelCounters.{ChannelCounters}
-use Rattle.macsec_secy.specs.Counting.{at_channel, count_in_channel}
-use Rattle.macsec_secy.specs.Reception.{counted_at_row, is_counted_by_channel, rx_packet_counted}
-use Rattle.macsec_secy.specs.Verdicts.{counted_at_place}
-use Rattle.macsec_secy.specs.Sound.{sci_of_counters}
-use Rattle.macsec_secy.proofs.KeysKept.{field_kept}
-use Rattle.macsec_secy.proofs.Lent.{left_in_place}
+use Rattle.macsec_secy.proofs.{
+  Names.{[], ◌∙◌, ◌∷◌, ◌≡◌, ap, at_channel, Bool, ChannelCounters, count_in_channel, counted_at_place, counted_at_row},
+  Names.{false, filter, if◌then◌else◌, is_counted_by_channel, Judgement, length, List, map, None, not, Option, refill},
+  Names.{refl, rx_packet_counted, RxRow, same_sci, Sci, sci_of_counters, Some, true, Verdict, ℕ},
+  KeysKept.field_kept,
+  Lent.left_in_place,
+}
 
 pub scis_kept : (change : ChannelCounters → ChannelCounters) → ((row : ChannelCounters) → (change row).sci ≡ row.sci) → (sci : Sci) (rows : List ChannelCounters) →
     map sci_of_counters (map (at_channel change sci) rows) ≡ map sci_of_counters rows

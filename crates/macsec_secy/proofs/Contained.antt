@@ -1,5 +1,6 @@
 -- The elements of a list.
-use Rattle.std.proofs.Common.{◌≡◌, ◌⊎◌, inl, inr, ℕ, zero, suc, ◌<◌, List, [], ◌∷◌, length, map, get_or, refl, ap, subst, arith, Contains}
+use Rattle.macsec_secy.proofs.Names.{[], ◌<◌, ◌∷◌, ◌≡◌, ◌⊎◌, ap, arith, Contains, get_or, inl, inr, length, List, map}
+use Rattle.macsec_secy.proofs.Names.{refl, subst, suc, zero, ℕ}
 
 pub first : {A : Type 0} (x : A) (xs : List A) → Contains (x ∷ xs) x
 first x xs = (0, omega arith, refl)

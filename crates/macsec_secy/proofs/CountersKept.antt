@@ -1,25 +1,20 @@
 -- Counters have 64 bits, whatever they count.
-use Rattle.std.proofs.Common.{ℕ, ◌<◌, ◌^◌, Bool, true, false, List, map, arith}
-use Rattle.std.specs.Prelude.{if◌then◌else◌, nat_le, Option, Some, None}
 use Rattle.std.specs.List.{All}
-use Rattle.std.proofs.lemmas.List.Elements.{All-map, All-weaker}
-use Rattle.macsec_tag.specs.declared.identifiers.Sci.{Sci}
-use Rattle.macsec_tag.specs.Table.{Reading, untagged, bad, tagged}
-use Rattle.macsec_tx.specs.declared.TxRow.{TxRow}
-use Rattle.macsec_tx.specs.Transmit.{Leaving, plain, protected, no_sa, too_long}
-use Rattle.macsec_rx.specs.declared.RxRow.{RxRow}
-use Rattle.macsec_rx.specs.declared.Verdict.{Verdict}
-use Rattle.macsec_rx.specs.declared.Verdict.TheVariants.{Untagged, NoTag, BadTag, Reserved, NoSa, NoSaError, Late, NotValid, Unchecked, Delayed, Invalid, Passed}
-use Rattle.macsec_rx.specs.Channels.{same_sci}
-use Rattle.macsec_rx.specs.Judge.{Judgement}
-use Rattle.macsec_secy.specs.declared.counters.Counters.{Counters}
-use Rattle.macsec_secy.specs.declared.counters.TxCounters.{TxCounters}
-use Rattle.macsec_secy.specs.declared.counters.RxCounters.{RxCounters}
-use Rattle.macsec_secy.specs.declared.counters.ChannelCounters.{ChannelCounters}
-use Rattle.macsec_secy.specs.State.{no_counters, no_rx_counters, no_tx_counters}
-use Rattle.macsec_secy.specs.Counting.{at_channel, plus, count_in_channel, count_verdict, count_leaving, count_octets, count_octets_received, count_packet, count_protected}
-use Rattle.macsec_secy.specs.Reception.{counted_at_row, data_counted, is_counted_by_channel, octets_counted, packet_counted, rx_packet_counted}
-use Rattle.macsec_secy.specs.Sound.{AreCounters, AreRxCounters, AreTxCounters}
+use Rattle.macsec_secy.{
+  proofs.Names.{◌<◌, ◌^◌, All-map, All-weaker, AreRxCounters, arith, at_channel, bad, BadTag, Bool, ChannelCounters},
+  proofs.Names.{count_in_channel, count_leaving, count_octets_received, count_packet, count_protected, count_verdict},
+  proofs.Names.{counted_at_row, Counters, data_counted, Delayed, false, if◌then◌else◌, Invalid, is_counted_by_channel},
+  proofs.Names.{Judgement, Late, Leaving, List, map, nat_le, no_rx_counters, no_sa, None, NoSa, NoSaError, NoTag},
+  proofs.Names.{NotValid, octets_counted, Option, packet_counted, Passed, plain, plus, protected, Reading, Reserved},
+  proofs.Names.{rx_packet_counted, RxCounters, RxRow, same_sci, Sci, Some, tagged, too_long, true, TxRow, Unchecked},
+  proofs.Names.{Untagged, untagged, Verdict, ℕ},
+  specs.{
+    Counting.count_octets,
+    Sound.{AreCounters, AreTxCounters},
+    State.{no_counters, no_tx_counters},
+    declared.counters.TxCounters.TxCounters,
+  },
+}
 
 abbrev pub AreChannelCounters : List ChannelCounters → Type 0
 AreChannelCounters rows = All (λ row. AreRxCounters row.counters) rows

@@ -1,30 +1,21 @@
 -- The SA that a frame is delivered from: its SCI and number, its sender, its window, and its packet numbers afterwards.
-use Rattle.std.proofs.Common.{◌≡◌, ◌≢◌, ◌⊎◌, inl, inr, ◌≤◌, ◌+◌, ℕ, Bool, true, false, List, [], ◌∷◌, map, length, refl, ap, sym, subst, ◌∙◌, arith, All, Contains}
-use Rattle.std.specs.Prelude.{◌==◌, ◌&&◌, ◌||◌, if◌then◌else◌, option_map, Some, None}
-use Rattle.std.specs.List.{list_any}
-use Rattle.std.proofs.lemmas.Bool.{eqb-false, eq-eqb, or_parts}
-use Rattle.std.proofs.lemmas.List.Elements.{All-cons, All-contains, All-contains_itself, All-nil}
-use Rattle.macsec_tag.specs.declared.identifiers.Sci.{Sci}
-use Rattle.macsec_tag.specs.Table.{Reading, reading}
-use Rattle.macsec_suite.specs.KeyRows.{InstalledKey, the_key}
-use Rattle.macsec_suite.specs.Suites.{is_xpn}
-use Rattle.macsec_rx.specs.declared.RxRow.{RxRow}
-use Rattle.macsec_rx.specs.Channels.{at_place, is_at, rx_row, same_sci}
-use Rattle.macsec_rx.specs.Commands.{has_channel, is_own_ssci}
-use Rattle.macsec_rx.specs.Judge.{Judgement, row_accepting, rows_accepting, rows_after}
-use Rattle.macsec_rx.specs.Rows.{AreRxRows, AreScis, IsRxRow}
-use Rattle.macsec_secy.specs.Agrees.{HasOtherSsci, NoTwo, same_place}
-use Rattle.macsec_secy.specs.Delivers.{DeliversFrom, IsOfOtherSender, used_in}
-use Rattle.macsec_secy.specs.Kept.{IsAbove, RxRowsAreApart}
-use Rattle.macsec_secy.specs.Reception.{judgement_of}
-use Rattle.macsec_secy.specs.Sound.{IsSound}
-use Rattle.macsec_secy.specs.State.{State}
-use Rattle.macsec_secy.proofs.Contained.{first_or_behind, none_there}
-use Rattle.macsec_secy.proofs.Deliveries.{delivery_tells}
-use Rattle.macsec_secy.proofs.InUse.{found, used_holds}
-use Rattle.macsec_secy.proofs.Sums.{one_sci}
-use Rattle.macsec_secy.proofs.KeysApart.{octets_same, the_key_found}
-use Rattle.macsec_secy.proofs.RxRowsStay.{accepts, at_one_place, rx_row-map}
+use Rattle.std.proofs.lemmas.List.Elements.{All-contains}
+use Rattle.macsec_rx.specs.Judge.{rows_after}
+use Rattle.macsec_secy.proofs.{
+  Names.{[], ◌&&◌, ◌+◌, ◌==◌, ◌||◌, ◌∙◌, ◌∷◌, ◌≡◌, ◌≢◌, ◌≤◌, ◌⊎◌, All, All-cons, All-contains_itself, All-nil, ap},
+  Names.{AreRxRows, AreScis, arith, at_place, Bool, Contains, eq-eqb, eqb-false, false, has_channel, HasOtherSsci},
+  Names.{if◌then◌else◌, inl, inr, InstalledKey, is_at, is_own_ssci, is_xpn, IsAbove, IsRxRow, IsSound, Judgement},
+  Names.{judgement_of, length, List, list_any, map, None, NoTwo, option_map, or_parts, Reading, reading, refl},
+  Names.{row_accepting, rows_accepting, rx_row, RxRow, same_place, same_sci, Sci, Some, State, subst, sym, the_key},
+  Names.{true, used_in, ℕ},
+  Contained.{first_or_behind, none_there},
+  Deliveries.delivery_tells,
+  InUse.{found, used_holds},
+  KeysApart.{octets_same, the_key_found},
+  RxRowsStay.{accepts, at_one_place, rx_row-map},
+  Sums.one_sci,
+}
+use Rattle.macsec_secy.specs.{Delivers.{DeliversFrom, IsOfOtherSender}, Kept.RxRowsAreApart}
 
 -- ---- the SA is found by its SC and number
 

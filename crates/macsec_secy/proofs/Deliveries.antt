@@ -1,20 +1,14 @@
 -- What a delivery shows about the SA that the frame is delivered from.
-use Rattle.std.proofs.Common.{◌≡◌, ◌≤◌, ℕ, Bool, true, false, List, refl, ap, sym, subst, ◌∙◌}
-use Rattle.std.specs.Prelude.{◌==◌, ◌&&◌, if◌then◌else◌, Some, None}
-use Rattle.std.proofs.lemmas.Bool.{ltb-false}
-use Rattle.macsec_tag.specs.Frame.{MpduParts}
-use Rattle.macsec_tag.specs.Table.{Reading, tagged, reading}
-use Rattle.macsec_pn.specs.Numbers.{is_late, recovered_number}
-use Rattle.macsec_suite.specs.declared.suite.Suite.{Suite}
-use Rattle.macsec_suite.specs.Suites.{is_xpn}
-use Rattle.macsec_suite.specs.KeyRows.{the_key}
-use Rattle.macsec_commands.specs.declared.mode.Mode.TheVariants.{Strict}
-use Rattle.macsec_rx.specs.declared.RxRow.{RxRow}
-use Rattle.macsec_rx.specs.Judge.{Judgement, is_bad_number, is_disabled, is_strict, number_of_frame, plaintext_of}
-use Rattle.macsec_secy.specs.Delivers.{IsOpened, used_in}
-use Rattle.macsec_secy.specs.Reception.{judgement_of}
-use Rattle.macsec_secy.specs.State.{State}
-use Rattle.macsec_secy.proofs.JudgedBy.{IsInTime, JudgedBy, judged_by, step_10, step_12, step_13}
+use Rattle.macsec_secy.{
+  proofs.{
+    Names.{◌&&◌, ◌==◌, ◌∙◌, ◌≡◌, ◌≤◌, ap, Bool, false, if◌then◌else◌, is_bad_number, is_disabled, is_late, is_strict},
+    Names.{is_xpn, Judgement, judgement_of, List, ltb-false, MpduParts, None, number_of_frame, plaintext_of, Reading},
+    Names.{reading, recovered_number, refl, RxRow, Some, State, Strict, subst, Suite, sym, tagged, the_key, true},
+    Names.{used_in, ℕ},
+    JudgedBy.{IsInTime, JudgedBy, judged_by, step_10, step_12, step_13},
+  },
+  specs.Delivers.IsOpened,
+}
 
 -- the SA is the one in use; the packet number is not late if late frames are dropped; and in the mode Strict the frame
 -- was opened

@@ -1,10 +1,11 @@
 -- The first packet number that was never used under a key, when the table of keys changes.
-use Rattle.std.proofs.Common.{◌≡◌, ℕ, ◌+◌, Bool, true, false, List, [], ◌∷◌, ◌++◌, refl, sym, subst, ◌∙◌, eqb-true}
-use Rattle.std.specs.Prelude.{Option, ◌==◌, if◌then◌else◌, Some, None, IsSome, unwrap_or}
-use Rattle.macsec_suite.specs.KeyRows.{InstalledKey, at_number, key_row, keys_noting, keys_replacing, keys_retiring, no_key, retired_row, row_noting, with_bytes, with_key}
-use Rattle.macsec_secy.specs.Agrees.{first_unused}
-use Rattle.macsec_secy.proofs.KeysKept.{field_kept, same_number}
-use Rattle.macsec_secy.proofs.SameKey.{field_of_the_key}
+use Rattle.macsec_secy.proofs.{
+  Names.{[], ◌++◌, ◌+◌, ◌==◌, ◌∙◌, ◌∷◌, ◌≡◌, at_number, Bool, eqb-true, false, first_unused, if◌then◌else◌},
+  Names.{InstalledKey, IsSome, key_row, keys_noting, keys_replacing, keys_retiring, List, no_key, None, Option, refl},
+  Names.{retired_row, row_noting, Some, subst, sym, true, unwrap_or, with_bytes, with_key, ℕ},
+  KeysKept.{field_kept, same_number},
+  SameKey.field_of_the_key,
+}
 
 pub first-another_key : (keys : List InstalledKey) (new : InstalledKey) (n : ℕ) → new.first_unused ≡ 1 → first_unused (keys ++ new ∷ []) n ≡ first_unused keys n
 first-another_key [] new n fresh = by_test (new.number == n)

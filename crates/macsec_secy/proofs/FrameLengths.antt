@@ -1,42 +1,30 @@
 -- The lengths of the frames that an endpoint returns.
-use Rattle.std.proofs.Common.{◌≡◌, ℕ, ◌+◌, ◌≤◌, ◌<◌, Bool, true, false, List, [], ◌∷◌, ◌++◌, length, take, drop, refl, ap, sym, ◌∙◌, arith, length-take, length-drop, length-append}
-use Rattle.std.specs.Prelude.{if◌then◌else◌, nat_lt, not, slice_range, Option, Some, None, IfSome}
-use Rattle.std.specs.Int.{w32, to_be_bytes}
-use Rattle.std.proofs.lemmas.Bool.{ltb-false}
-use Rattle.std.proofs.lemmas.List.{take-append-drop}
-use Rattle.macsec_gcm.specs.Gcm.{seal_of}
-use Rattle.macsec_gcm.specs.Laws.{OpenUndoesSeal, SealedLengths}
-use Rattle.macsec_tag.specs.declared.identifiers.Sci.{Sci}
-use Rattle.macsec_tag.specs.declared.fault.TagFault.{TagFault}
-use Rattle.macsec_tag.specs.declared.fault.TagFault.TheVariants.{Cut}
-use Rattle.macsec_tag.specs.Frame.{MpduParts, has_macsec_ethertype}
-use Rattle.macsec_tag.specs.Tag.{Tag, sci_octets, encoding, tci_an}
-use Rattle.macsec_tag.specs.Table.{Reading, untagged, bad, tagged, after_tag, data_length_at, parts_at, reading, reading_with, tag_fault, tag_length_at}
-use Rattle.macsec_suite.specs.declared.refusal.Refusal.{Refusal}
-use Rattle.macsec_suite.specs.KeyRows.{InstalledKey, the_key}
-use Rattle.macsec_suite.specs.Parts.{aad_and_plaintext, clear_length}
-use Rattle.macsec_suite.specs.Suites.{iv_of, last_of}
-use Rattle.macsec_commands.specs.declared.form.TagForm.{TagForm}
+use Rattle.{
+  std.proofs.Common.length-take,
+  macsec_tag.specs.{
+    Frame.has_macsec_ethertype,
+    Table.{after_tag, data_length_at, parts_at, reading_with, tag_fault, tag_length_at},
+    Tag.Tag,
+    declared.fault.TagFault.TheVariants.Cut,
+  },
+  macsec_commands.specs.declared.form.TagForm.TagForm,
+  macsec_tx.specs.Tags.{is_own, sci_sent},
+  macsec_secy.proofs.{
+    Names.{[], ◌++◌, ◌+◌, ◌<◌, ◌∙◌, ◌∷◌, ◌≡◌, ◌≤◌, aad_and_plaintext, ap, AreTxRows, arith, bad, bare_frame, Bool},
+    Names.{CanBeSent, clear_length, client_frame, command_output, drop, encoding, false, frame_fault, FrameFault},
+    Names.{IfSome, if◌then◌else◌, Input, InstalledKey, IsReadAsSent, IsSound, iv_of, Judgement, judgement_of, last_of},
+    Names.{leaves, Leaving, length, length-append, length-drop, link_frame, List, Long, ltb-false, max_frame_len},
+    Names.{MpduParts, nat_lt, no_sa, None, not, not_protected, octets_added, opened_frame, OpenUndoesSeal},
+    Names.{operator_command, Option, Output, plain, plaintext_of, protected, protected_frame, Reading, reading},
+    Names.{received_output, refl, Refusal, refusal, row_on, RxRow, Sci, sci_octets, seal_of, SealedLengths, Sending},
+    Names.{sending_by, sending_of, sent_output, Short, slice_range, Some, State, step, sym, tag_sent, TagFault, tagged},
+    Names.{take, take-append-drop, tci_an, the_key, to_be_bytes, too_long, true, tx_options, TxOptions, TxRow},
+    Names.{uncontrolled_frame, unless_fault, untagged, w32, ℕ},
+    JudgedBy.{JudgedBy, judged_by, step_2, step_6, step_10, step_12, step_13},
+  },
+  macsec_secy.specs.{Frames.{HasFrameLength, HasFrameLengths, HasLengthsFrom, HasProtectedLength}, Step.fault},
+}
 use Rattle.macsec_commands.specs.declared.form.TagForm.TheVariants as form
-use Rattle.macsec_tx.specs.declared.TxOptions.{TxOptions}
-use Rattle.macsec_tx.specs.declared.TxRow.{TxRow}
-use Rattle.macsec_tx.specs.Laws.{CanBeSent, IsReadAsSent}
-use Rattle.macsec_tag.specs.Limits.{max_frame_len}
-use Rattle.macsec_tx.specs.Rows.{AreTxRows}
-use Rattle.macsec_tx.specs.Tags.{is_own, sci_sent}
-use Rattle.macsec_tx.specs.Transmit.{Leaving, plain, protected, no_sa, too_long, Sending, not_protected, octets_added, protected_frame, row_on, sending_by, tag_sent}
-use Rattle.macsec_rx.specs.declared.RxRow.{RxRow}
-use Rattle.macsec_rx.specs.Judge.{Judgement, bare_frame, opened_frame, plaintext_of}
-use Rattle.macsec_secy.specs.declared.fault.FrameFault.{FrameFault}
-use Rattle.macsec_secy.specs.declared.fault.FrameFault.TheVariants.{Short, Long}
-use Rattle.macsec_secy.specs.State.{State, tx_options}
-use Rattle.macsec_secy.specs.Reception.{judgement_of}
-use Rattle.macsec_secy.specs.Commands.{refusal}
-use Rattle.macsec_secy.specs.Step.{Input, Output, operator_command, client_frame, uncontrolled_frame, link_frame, command_output}
-use Rattle.macsec_secy.specs.Step.{fault, frame_fault, leaves, received_output, sending_of, sent_output, step, unless_fault}
-use Rattle.macsec_secy.specs.Frames.{HasFrameLength, HasFrameLengths, HasLengthsFrom, HasProtectedLength}
-use Rattle.macsec_secy.specs.Sound.{IsSound}
-use Rattle.macsec_secy.proofs.JudgedBy.{JudgedBy, judged_by, step_2, step_6, step_10, step_12, step_13}
 
 -- the laws of the lower layers, as the law functions state them
 abbrev pub ReadAsSent : Type 0

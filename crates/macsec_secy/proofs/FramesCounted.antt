@@ -1,34 +1,24 @@
 -- Each received frame raises the sum of the received-packet counters by one. Only the deletion of an SC changes it
 -- otherwise.
-use Rattle.std.proofs.Common.{◌≡◌, ℕ, ◌+◌, ◌%◌, ◌^◌, Bool, true, false, List, map, refl, ap, ◌∙◌, add-zero, arith}
-use Rattle.std.specs.Prelude.{if◌then◌else◌, nat_le, is_some, not, Option, Some, None}
-use Rattle.std.proofs.lemmas.List.Sums.{sum_by_push}
-use Rattle.macsec_tag.specs.Table.{Reading, untagged, bad, tagged, reading}
-use Rattle.macsec_suite.specs.declared.refusal.Refusal.{Refusal}
-use Rattle.macsec_rx.specs.declared.RxRow.{RxRow}
-use Rattle.macsec_rx.specs.declared.Verdict.{Verdict}
-use Rattle.macsec_rx.specs.declared.Verdict.TheVariants.{Late, NotValid, Unchecked, Delayed, Invalid, Passed}
-use Rattle.macsec_rx.specs.Judge.{Judgement}
-use Rattle.macsec_rx.specs.Rows.{IsRxRow}
-use Rattle.macsec_commands.specs.declared.command.Command.{Command}
-use Rattle.macsec_commands.specs.declared.command.Command.TheVariants.{Protect, Validate, Replay, Tag, Key, Retire, TxSa, TxOn, TxOff}
-use Rattle.macsec_commands.specs.declared.command.Command.TheVariants.{TxDel, RxSc, RxScDel, RxSa, RxOn, RxOff, RxLow, RxDel}
-use Rattle.macsec_secy.specs.declared.counters.Counters.{Counters}
-use Rattle.macsec_secy.specs.declared.counters.ChannelCounters.{ChannelCounters}
-use Rattle.macsec_secy.specs.declared.fault.FrameFault.{FrameFault}
-use Rattle.macsec_secy.specs.State.{State}
-use Rattle.macsec_secy.specs.Counting.{at_channel, count_in_channel, count_octets_received, plus, with_association, without_association}
-use Rattle.macsec_secy.specs.Delivers.{used_in}
-use Rattle.macsec_secy.specs.Reception.{data_counted, judgement_of, octets_counted, packet_counted, rx_packet_counted, state_after_receiving}
-use Rattle.macsec_secy.specs.Commands.{effect, refusal, unless_refused}
-use Rattle.macsec_secy.specs.Step.{Output, operator_command, link_frame, frame_fault, received_output, unless_fault}
-use Rattle.macsec_secy.specs.Sound.{IsSound}
-use Rattle.macsec_secy.specs.Sums.{AddsFrames, frames_counted, packets_of, removes_channel}
-use Rattle.macsec_secy.proofs.DeliveredFrom.{all_rows}
-use Rattle.macsec_secy.proofs.InUse.{used_holds}
-use Rattle.macsec_secy.proofs.JudgedBy.{JudgedBy, judged_by, step_1, step_2, step_3, step_4, step_5, step_6, step_7, step_8, step_9, step_10, step_11, step_12, step_13}
-use Rattle.macsec_secy.proofs.Sums.{IsOneMore, IsOneMore-add_left, IsOneMore-channels_packets, IsOneMore-raised_part, RaisesOne, RaisesOne-Delayed, RaisesOne-Invalid}
-use Rattle.macsec_secy.proofs.Sums.{RaisesOne-Late, RaisesOne-NotValid, RaisesOne-Passed, RaisesOne-Unchecked, channels_packets, channels_packets-at_channel, mod-as_plus_0}
+use Rattle.std.proofs.{Common.add-zero, lemmas.List.Sums.sum_by_push}
+use Rattle.macsec_secy.proofs.{
+  Names.{◌%◌, ◌+◌, ◌^◌, ◌∙◌, ◌≡◌, AddsFrames, ap, arith, at_channel, bad, Bool, ChannelCounters, Command},
+  Names.{count_in_channel, count_octets_received, Counters, data_counted, Delayed, effect, false, frame_fault},
+  Names.{FrameFault, if◌then◌else◌, Invalid, is_some, IsRxRow, IsSound, Judgement, judgement_of, Key, Late, link_frame},
+  Names.{List, map, nat_le, None, not, NotValid, octets_counted, operator_command, Option, Output, packet_counted},
+  Names.{Passed, plus, Protect, Reading, reading, received_output, refl, Refusal, refusal, Replay, Retire},
+  Names.{rx_packet_counted, RxDel, RxLow, RxOff, RxOn, RxRow, RxSa, RxSc, RxScDel, Some, State, state_after_receiving},
+  Names.{Tag, tagged, true, TxDel, TxOff, TxOn, TxSa, Unchecked, unless_fault, unless_refused, untagged, used_in},
+  Names.{Validate, Verdict, with_association, without_association, ℕ},
+  DeliveredFrom.all_rows,
+  InUse.used_holds,
+  JudgedBy.{JudgedBy, judged_by, step_1, step_2, step_3, step_4, step_5, step_6, step_7, step_8, step_9, step_10},
+  JudgedBy.{step_11, step_12, step_13},
+  Sums.{IsOneMore, IsOneMore-add_left, IsOneMore-channels_packets, IsOneMore-raised_part, RaisesOne, RaisesOne-Delayed},
+  Sums.{RaisesOne-Invalid, RaisesOne-Late, RaisesOne-NotValid, RaisesOne-Passed, RaisesOne-Unchecked, channels_packets},
+  Sums.{channels_packets-at_channel, mod-as_plus_0},
+}
+use Rattle.macsec_secy.specs.Sums.{frames_counted, packets_of, removes_channel}
 
 -- ---- what the judgement raises
 

@@ -1,32 +1,21 @@
 -- A key that is retired and unused stays so.
-use Rattle.std.proofs.Common.{◌≡◌, ℕ, Bool, true, false, List, [], ◌∷◌, ◌++◌, map, refl, ap, sym, subst, ◌∙◌}
-use Rattle.std.specs.Prelude.{◌==◌, not, is_some, if◌then◌else◌, option_map, Option, Some, None}
-use Rattle.std.proofs.lemmas.Bool.{eqb-true, or_from, or_parts}
-use Rattle.macsec_tag.specs.declared.identifiers.Sci.{Sci}
-use Rattle.macsec_suite.specs.declared.refusal.Refusal.{Refusal}
-use Rattle.macsec_suite.specs.KeyRows.{InstalledKey, at_number, key_row, keys_retiring, new_row, retired_row, row_noting, suite_of, with_bytes}
-use Rattle.macsec_suite.specs.Refusals.{holds_of, is_number_used, is_retired}
-use Rattle.macsec_tx.specs.declared.TxRow.{TxRow}
-use Rattle.macsec_tx.specs.Commands.{off_at, switch_to, tx_sa_refusals, tx_uses}
-use Rattle.macsec_tx.specs.Transmit.{keys_after, next_used, rows_after, used_at}
-use Rattle.macsec_rx.specs.declared.RxRow.{RxRow}
-use Rattle.macsec_rx.specs.Channels.{at_place, is_at, same_sci, with_rx}
-use Rattle.macsec_rx.specs.Commands.{row_narrowed, row_raised, row_switched, rx_sa_refusals, rx_uses}
-use Rattle.macsec_rx.specs.Judge.{accepted_number, row_accepting, rows_accepting}
-use Rattle.macsec_commands.specs.declared.command.Command.{Command}
-use Rattle.macsec_commands.specs.declared.command.Command.TheVariants.{Protect, Validate, Replay, Tag, Key, Retire, TxSa, TxOn, TxOff}
-use Rattle.macsec_commands.specs.declared.command.Command.TheVariants.{TxDel, RxSc, RxScDel, RxSa, RxOn, RxOff, RxLow, RxDel}
-use Rattle.macsec_secy.specs.declared.fault.FrameFault.{FrameFault}
-use Rattle.macsec_secy.specs.Commands.{effect, refusal, refusals, unless_refused}
+use Rattle.macsec_secy.proofs.{
+  Names.{[], ◌++◌, ◌==◌, ◌∙◌, ◌∷◌, ◌≡◌, accepted_number, ap, at_number, at_place, Bool, client_frame, Command},
+  Names.{command_output, done, effect, eqb-true, false, frame_fault, FrameFault, holds_of, if◌then◌else◌, Input},
+  Names.{InstalledKey, is_at, is_number_used, is_retired, is_some, judgement_of, Key, key_row, keys_after},
+  Names.{keys_retiring, leaves, link_frame, List, map, new_row, next_used, None, not, off_at, operator_command, Option},
+  Names.{option_map, or_from, or_parts, Output, Protect, received_output, refl, Refusal, refusal, refusals, Replay},
+  Names.{Retire, retired_row, row_accepting, row_narrowed, row_noting, row_raised, row_switched, rows_accepting},
+  Names.{rows_after, rx_sa_refusals, rx_uses, RxDel, RxLow, RxOff, RxOn, RxRow, RxSa, RxSc, RxScDel, same_sci, Sci},
+  Names.{sending_of, sent_output, Some, State, state_after_receiving, state_after_sending, subst, suite_of, switch_to},
+  Names.{sym, Tag, true, tx_sa_refusals, tx_uses, TxDel, TxOff, TxOn, TxRow, TxSa, uncontrolled_frame, unless_fault},
+  Names.{unless_refused, used_at, Validate, with_bytes, with_rx, ℕ},
+  AfterCommands.{none_hold, true_from_not},
+  KeysKept.{field_kept, same_number},
+  NoTwo.{none-filter, none-map, none-with},
+  OtherOctets.row-map,
+}
 use Rattle.macsec_secy.specs.GivenUp.{GivesUp, IsGivenUp, StaysGivenUp, StaysReplaced}
-use Rattle.macsec_secy.specs.Reception.{judgement_of, state_after_receiving}
-use Rattle.macsec_secy.specs.State.{State}
-use Rattle.macsec_secy.specs.Step.{Input, Output, operator_command, client_frame, uncontrolled_frame, link_frame, command_output, done, frame_fault, leaves}
-use Rattle.macsec_secy.specs.Step.{received_output, sending_of, sent_output, state_after_sending, unless_fault}
-use Rattle.macsec_secy.proofs.AfterCommands.{none_hold, true_from_not}
-use Rattle.macsec_secy.proofs.KeysKept.{field_kept, same_number}
-use Rattle.macsec_secy.proofs.NoTwo.{none-filter, none-map, none-with}
-use Rattle.macsec_secy.proofs.OtherOctets.{row-map}
 
 -- a row that is there is retired
 abbrev RowRetired : Option InstalledKey → Type 0

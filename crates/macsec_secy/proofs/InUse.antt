@@ -1,15 +1,10 @@
 -- The SA enabled for a frame: it has the frame's SCI and association number, and what holds of all SAs.
-use Rattle.std.proofs.Common.{◌≡◌, ℕ, suc, Bool, true, false, List, [], ◌∷◌, refl, subst, arith, All}
-use Rattle.std.specs.Prelude.{◌==◌, ◌&&◌, find, if◌then◌else◌, Option, Some, None}
-use Rattle.std.proofs.lemmas.Bool.{and_parts, eqb-true}
-use Rattle.macsec_tag.specs.declared.identifiers.Sci.{Sci}
-use Rattle.macsec_tag.specs.Table.{Reading, untagged, bad, tagged}
-use Rattle.macsec_rx.specs.declared.RxRow.{RxRow}
-use Rattle.macsec_rx.specs.Channels.{is_at, same_sci}
-use Rattle.macsec_rx.specs.Judge.{in_use, sci_of}
-use Rattle.macsec_secy.specs.Delivers.{used_in}
-use Rattle.macsec_secy.specs.State.{State}
-use Rattle.macsec_secy.proofs.Sums.{one_sci}
+use Rattle.macsec_secy.proofs.{
+  Names.{[], ◌&&◌, ◌==◌, ◌∷◌, ◌≡◌, All, and_parts, arith, bad, Bool, eqb-true, false, find, if◌then◌else◌, in_use},
+  Names.{is_at, List, None, Option, Reading, refl, RxRow, same_sci, Sci, sci_of, Some, State, subst, suc, tagged, true},
+  Names.{untagged, used_in, ℕ},
+  Sums.one_sci,
+}
 
 -- a found element passes the test, and what holds of all elements holds of it
 pub record IsFound {A : Type 0} (test : A → Bool) (P : A → Type 0) (x : A) : Type 0 where

@@ -1,25 +1,16 @@
 -- Whatever the inputs, a key stays as it was prepared, and so does what a job does with it.
-use Rattle.std.proofs.Common.{◌≡◌, ℕ, Bool, true, false, List, [], ◌∷◌, ◌++◌, map, refl, ap, sym, subst, ◌∙◌}
-use Rattle.std.specs.Prelude.{◌==◌, if◌then◌else◌, Option, Some, None, IsSome, option_map, unwrap_or}
-use Rattle.macsec_suite.specs.declared.refusal.Refusal.{Refusal}
-use Rattle.macsec_suite.specs.KeyRows.{InstalledKey, at_number, key_row, no_key, prepared_key, retired_row, row_noting, the_key}
-use Rattle.macsec_tx.specs.declared.SealJob.{SealJob}
-use Rattle.macsec_tx.specs.declared.TxRow.{TxRow}
-use Rattle.macsec_tx.specs.Answers.{frame_sealed}
-use Rattle.macsec_tx.specs.Transmit.{keys_after}
-use Rattle.macsec_rx.specs.declared.OpenJob.{OpenJob}
-use Rattle.macsec_rx.specs.declared.OpenedFrame.{OpenedFrame}
-use Rattle.macsec_rx.specs.Opened.{IsOpenedBy}
-use Rattle.macsec_commands.specs.declared.command.Command.{Command}
-use Rattle.macsec_commands.specs.declared.command.Command.TheVariants.{Protect, Validate, Replay, Tag, Key, Retire, TxSa, TxOn, TxOff}
-use Rattle.macsec_commands.specs.declared.command.Command.TheVariants.{TxDel, RxSc, RxScDel, RxSa, RxOn, RxOff, RxLow, RxDel}
-use Rattle.macsec_secy.specs.declared.fault.FrameFault.{FrameFault}
-use Rattle.macsec_secy.specs.Commands.{effect, refusal, unless_refused}
-use Rattle.macsec_secy.specs.Jobs.{KeyStaysPrepared, OpensLater, SealsLater, StaysPrepared, state_after}
-use Rattle.macsec_secy.specs.Reception.{judgement_of, state_after_receiving}
-use Rattle.macsec_secy.specs.State.{State}
-use Rattle.macsec_secy.specs.Step.{Input, Output, operator_command, client_frame, uncontrolled_frame, link_frame, frame_fault, leaves}
-use Rattle.macsec_secy.specs.Step.{received_output, sending_of, sent_output, state_after_sending, step, unless_fault}
+use Rattle.macsec_tx.specs.{Answers.frame_sealed, declared.SealJob.SealJob}
+use Rattle.macsec_rx.specs.{Opened.IsOpenedBy, declared.{OpenJob.OpenJob, OpenedFrame.OpenedFrame}}
+use Rattle.macsec_secy.{
+  proofs.Names.{[], ◌++◌, ◌==◌, ◌∙◌, ◌∷◌, ◌≡◌, ap, at_number, Bool, client_frame, Command, effect, false, frame_fault},
+  proofs.Names.{FrameFault, if◌then◌else◌, Input, InstalledKey, IsSome, judgement_of, Key, key_row, keys_after, leaves},
+  proofs.Names.{link_frame, List, map, no_key, None, operator_command, Option, option_map, Output, prepared_key},
+  proofs.Names.{Protect, received_output, refl, Refusal, refusal, Replay, Retire, retired_row, row_noting, RxDel},
+  proofs.Names.{RxLow, RxOff, RxOn, RxSa, RxSc, RxScDel, sending_of, sent_output, Some, State, state_after_receiving},
+  proofs.Names.{state_after_sending, step, subst, sym, Tag, the_key, true, TxDel, TxOff, TxOn, TxRow, TxSa},
+  proofs.Names.{uncontrolled_frame, unless_fault, unless_refused, unwrap_or, Validate, ℕ},
+  specs.Jobs.{KeyStaysPrepared, OpensLater, SealsLater, StaysPrepared, state_after},
+}
 
 abbrev Stays : List InstalledKey → List InstalledKey → Type 0
 Stays keys after = (n : ℕ) → IsSome (key_row keys n) → StaysPrepared keys after n

@@ -1,18 +1,13 @@
 -- The step of reception that decides on a frame, with the judgement and the conditions of the step that proofs need.
-use Rattle.std.proofs.Common.{◌≡◌, ℕ, Bool, true, false, List, refl, ◌∙◌}
-use Rattle.std.specs.Prelude.{◌&&◌, ◌||◌, not, if◌then◌else◌, Option, Some, None}
-use Rattle.macsec_tag.specs.declared.fault.TagFault.{TagFault}
-use Rattle.macsec_tag.specs.Frame.{MpduParts}
-use Rattle.macsec_tag.specs.Table.{Reading, untagged, bad, tagged}
-use Rattle.macsec_pn.specs.Numbers.{is_late}
-use Rattle.macsec_suite.specs.KeyRows.{the_key}
-use Rattle.macsec_rx.specs.declared.RxRow.{RxRow}
-use Rattle.macsec_rx.specs.declared.Verdict.TheVariants.{Untagged, NoTag, BadTag, Reserved, NoSa, NoSaError, Late, NotValid, Unchecked, Delayed, Invalid, Passed}
-use Rattle.macsec_rx.specs.Judge.{Judgement, at_row, bare_frame, is_disabled, is_strict, judge_number, judge_opened, judge_row}
-use Rattle.macsec_rx.specs.Judge.{judge_validated, number_of_frame, opened_frame, plaintext_of, without_row}
-use Rattle.macsec_secy.specs.Delivers.{used_in}
-use Rattle.macsec_secy.specs.Reception.{judge_reading}
-use Rattle.macsec_secy.specs.State.{State, rx_options}
+use Rattle.{
+  macsec_rx.specs.Judge.{judge_opened, judge_row, judge_validated},
+  macsec_secy.proofs.Names.{◌&&◌, ◌||◌, ◌∙◌, ◌≡◌, at_row, bad, BadTag, bare_frame, Bool, Delayed, false, if◌then◌else◌},
+  macsec_secy.proofs.Names.{Invalid, is_disabled, is_late, is_strict, judge_number, judge_reading, Judgement, Late},
+  macsec_secy.proofs.Names.{List, MpduParts, None, NoSa, NoSaError, not, NoTag, NotValid, number_of_frame},
+  macsec_secy.proofs.Names.{opened_frame, Option, Passed, plaintext_of, Reading, refl, Reserved, rx_options, RxRow},
+  macsec_secy.proofs.Names.{Some, State, TagFault, tagged, the_key, true, Unchecked, Untagged, untagged, used_in},
+  macsec_secy.proofs.Names.{without_row, ℕ},
+}
 
 -- an SA is enabled for the frame; its packet number is recovered, and the frame is not dropped as late
 pub record IsInTime (s : State) (p : MpduParts) (row : RxRow) (number : ℕ) : Type 0 where

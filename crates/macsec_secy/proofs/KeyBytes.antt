@@ -1,20 +1,14 @@
 -- No two keys have the same bytes: bytes that are in the table are refused.
-use Rattle.std.proofs.Common.{◌≡◌, ℕ, Bool, true, false, List, [], ◌∷◌, map, refl, subst, ◌∙◌}
-use Rattle.std.specs.Prelude.{◌==◌, cond, if◌then◌else◌, Option, Some, None}
-use Rattle.std.specs.List.{list_any}
-use Rattle.std.proofs.lemmas.Bool.{eqb-true, or_from, or_parts}
-use Rattle.std.proofs.lemmas.Cmp.{nat_list_eq_equiv}
-use Rattle.macsec_gcm.specs.Octets.{same_octets}
-use Rattle.macsec_suite.specs.declared.suite.Suite.{Suite}
-use Rattle.macsec_suite.specs.declared.key_row.NewKey.{NewKey}
-use Rattle.macsec_suite.specs.KeyRows.{AreKeyRows, InstalledKey, at_number, key_row, keys_replacing, keys_retiring, keys_with, new_row, retired_row, row_noting, with_bytes}
-use Rattle.macsec_suite.specs.Refusals.{first_refusal, install_refusals, is_repeated}
-use Rattle.macsec_tx.specs.declared.TxRow.{TxRow}
-use Rattle.macsec_tx.specs.Transmit.{keys_after}
-use Rattle.macsec_secy.specs.Agrees.{NoTwo, same_bytes}
-use Rattle.macsec_secy.proofs.AfterCommands.{none_hold}
-use Rattle.macsec_secy.proofs.KeysKept.{field_kept}
-use Rattle.macsec_secy.proofs.NoTwo.{no_two-map, no_two-with, none-map}
+use Rattle.std.proofs.{Common.cond, lemmas.Cmp.nat_list_eq_equiv}
+use Rattle.macsec_secy.proofs.{
+  Names.{[], ◌==◌, ◌∙◌, ◌∷◌, ◌≡◌, AreKeyRows, at_number, Bool, eqb-true, false, first_refusal, if◌then◌else◌},
+  Names.{install_refusals, InstalledKey, is_repeated, key_row, keys_after, keys_replacing, keys_retiring, keys_with},
+  Names.{List, list_any, map, new_row, NewKey, None, NoTwo, Option, or_from, or_parts, refl, retired_row, row_noting},
+  Names.{same_bytes, same_octets, Some, subst, Suite, true, TxRow, with_bytes, ℕ},
+  AfterCommands.none_hold,
+  KeysKept.field_kept,
+  NoTwo.{no_two-map, no_two-with, none-map},
+}
 
 pub with_another_key : (suite : Suite) (window : ℕ) (keys : List InstalledKey) (key : NewKey) → first_refusal (install_refusals suite window keys key) ≡ None →
     NoTwo same_bytes keys → NoTwo same_bytes (keys_with suite keys key)

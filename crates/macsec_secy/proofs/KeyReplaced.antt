@@ -1,21 +1,17 @@
 -- An endpoint stays sound when the octets of a key are replaced by octets that no key has.
-use Rattle.std.proofs.Common.{◌≡◌, ℕ, Bool, true, false, List, ap, sym, subst, ◌∙◌}
-use Rattle.std.specs.Prelude.{if◌then◌else◌, not}
-use Rattle.std.specs.Bool.{OnTrue, OnFalse}
-use Rattle.std.proofs.lemmas.Bool.{and_parts, not-true}
-use Rattle.macsec_suite.specs.KeyRows.{AreKeyRows, InstalledKey, key_row, keys_replacing}
-use Rattle.macsec_suite.specs.Refusals.{holds_of, is_repeated}
-use Rattle.macsec_suite.specs.Replacing.{can_have, can_replace}
-use Rattle.macsec_secy.specs.Agrees.{Agrees}
-use Rattle.macsec_secy.specs.GivenUp.{replacing, state_after_replacing}
-use Rattle.macsec_secy.specs.Sound.{IsReady, IsSound}
-use Rattle.macsec_secy.specs.State.{State}
-use Rattle.macsec_secy.proofs.FirstUnused.{first-replacing}
+use Rattle.std.{proofs.lemmas.Bool.not-true, specs.Bool.{OnTrue, OnFalse}}
+use Rattle.macsec_suite.specs.Replacing.{can_have}
+use Rattle.macsec_secy.proofs.{
+  Names.{◌∙◌, ◌≡◌, Agrees, and_parts, ap, AreKeyRows, Bool, can_replace, false, holds_of, if◌then◌else◌, InstalledKey},
+  Names.{is_repeated, IsReady, IsSound, key_row, keys_replacing, List, not, replacing, State, state_after_replacing},
+  Names.{subst, sym, true, ℕ},
+  FirstUnused.first-replacing,
+  UnusedNext.{KeysStay, with_keys},
+}
 use Rattle.macsec_secy.proofs.KeyBytes as bytes_of
 use Rattle.macsec_secy.proofs.KeysKept as tx
 use Rattle.macsec_secy.proofs.OtherSscis as sscis
 use Rattle.macsec_secy.proofs.RxKeysKept as rx
-use Rattle.macsec_secy.proofs.UnusedNext.{KeysStay, with_keys}
 use Rattle.macsec_secy.proofs.WidestWindow as widest
 
 agrees_after : (s : State) (n : ℕ) (bytes : List ℕ) → is_repeated s.keys bytes ≡ false → AreKeyRows s.keys → Agrees s → Agrees (replacing n bytes s)

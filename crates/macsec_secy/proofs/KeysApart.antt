@@ -1,16 +1,14 @@
 -- No two keys have the same number or the same bytes.
-use Rattle.std.proofs.Common.{◌≡◌, ◌⊎◌, inl, inr, ℕ, Bool, true, false, List, [], ◌∷◌, refl, ap, sym, subst, ◌∙◌, Contains, All}
-use Rattle.std.specs.Prelude.{◌==◌, if◌then◌else◌, Some, None, IsSome, unwrap_or}
-use Rattle.std.specs.List.{list_any}
-use Rattle.std.proofs.lemmas.Bool.{eqb-true, eq-eqb, or_parts}
-use Rattle.std.proofs.lemmas.List.Elements.{All-cons, All-nil}
-use Rattle.macsec_gcm.specs.Octets.{same_octets}
-use Rattle.macsec_suite.specs.KeyRows.{AreKeyRows, InstalledKey, IsKeyRow, key_row, no_key, the_key}
-use Rattle.macsec_secy.specs.Agrees.{NoTwo, same_bytes}
-use Rattle.macsec_secy.specs.Kept.{IsKeyOf, KeysAreApart}
-use Rattle.macsec_secy.specs.Sound.{IsSound}
-use Rattle.macsec_secy.specs.State.{State}
-use Rattle.macsec_secy.proofs.Contained.{behind, first, first_or_behind, none_there}
+use Rattle.macsec_suite.specs.KeyRows.{IsKeyRow}
+use Rattle.macsec_secy.{
+  proofs.{
+    Names.{[], ◌==◌, ◌∙◌, ◌∷◌, ◌≡◌, ◌⊎◌, All, All-cons, All-nil, ap, AreKeyRows, Bool, Contains, eq-eqb, eqb-true},
+    Names.{false, if◌then◌else◌, inl, inr, InstalledKey, IsSome, IsSound, key_row, List, list_any, no_key, None, NoTwo},
+    Names.{or_parts, refl, same_bytes, same_octets, Some, State, subst, sym, the_key, true, unwrap_or, ℕ},
+    Contained.{behind, first, first_or_behind, none_there},
+  },
+  specs.Kept.{IsKeyOf, KeysAreApart},
+}
 
 all_rows : (keys : List InstalledKey) → AreKeyRows keys → All IsKeyRow keys
 all_rows [] are = All-nil IsKeyRow

@@ -1,14 +1,13 @@
 -- The key of each SA stays in the table, whatever the input.
-use Rattle.std.proofs.Common.{◌≡◌, ℕ, Bool, true, false, List, [], ◌∷◌, ◌++◌, map, refl, ap, sym, subst, ◌∙◌}
-use Rattle.std.specs.Prelude.{◌==◌, not, if◌then◌else◌, Option, Some, None, IsSome, IfSome}
-use Rattle.std.proofs.lemmas.Bool.{eqb-true}
-use Rattle.macsec_suite.specs.declared.refusal.Refusal.{Refusal}
-use Rattle.macsec_suite.specs.declared.refusal.Refusal.TheVariants.{NoKey}
-use Rattle.macsec_suite.specs.KeyRows.{InstalledKey, at_number, key_row, keys_noting, keys_replacing, keys_retiring, retired_row, row_noting, with_bytes}
-use Rattle.macsec_suite.specs.Refusals.{first_refusal, is_number_used}
-use Rattle.macsec_tx.specs.declared.TxRow.{TxRow}
-use Rattle.macsec_tx.specs.Transmit.{keys_after, next_used, rows_after, tx_row, used_at}
-use Rattle.macsec_tx.specs.Commands.{HaveKeys, off_at, switch_to, tx_sa_refusals, with_tx_off, with_tx_on, with_tx_sa, without_tx}
+use Rattle.{
+  macsec_tx.specs.Commands.HaveKeys,
+  macsec_secy.proofs.Names.{[], ◌++◌, ◌==◌, ◌∙◌, ◌∷◌, ◌≡◌, ap, at_number, Bool, eqb-true, false, first_refusal, IfSome},
+  macsec_secy.proofs.Names.{if◌then◌else◌, InstalledKey, is_number_used, IsSome, key_row, keys_after, keys_noting},
+  macsec_secy.proofs.Names.{keys_replacing, keys_retiring, List, map, next_used, NoKey, None, not, off_at, Option},
+  macsec_secy.proofs.Names.{refl, Refusal, retired_row, row_noting, rows_after, Some, subst, switch_to, sym, true},
+  macsec_secy.proofs.Names.{tx_row, tx_sa_refusals, TxRow, used_at, with_bytes, with_tx_off, with_tx_on, with_tx_sa},
+  macsec_secy.proofs.Names.{without_tx, ℕ},
+}
 
 abbrev pub IsThere : List InstalledKey → ℕ → Type 0
 IsThere keys number = IsSome (key_row keys number)

@@ -1,28 +1,19 @@
 -- The configuration and the keys of an endpoint stay, whatever the input.
-use Rattle.std.proofs.Common.{◌≡◌, ℕ, ◌≤◌, Bool, true, false, List, map, refl, ap, subst, arith, Contains}
-use Rattle.std.specs.Prelude.{◌==◌, if◌then◌else◌, Option, Some, None, unwrap_or}
-use Rattle.std.proofs.lemmas.Bool.{eqb-true}
 use Rattle.std.proofs.lemmas.List.Elements.{Contains-append_left}
-use Rattle.macsec_suite.specs.declared.refusal.Refusal.{Refusal}
-use Rattle.macsec_suite.specs.KeyRows.{AreKeyRows, InstalledKey, at_number, key_row, keys_noting, no_key, retired_row, row_noting, the_key}
-use Rattle.macsec_tx.specs.declared.TxRow.{TxRow}
-use Rattle.macsec_tx.specs.Transmit.{keys_after}
-use Rattle.macsec_commands.specs.declared.command.Command.{Command}
-use Rattle.macsec_commands.specs.declared.command.Command.TheVariants.{Protect, Validate, Replay, Tag, Key, Retire, TxSa, TxOn, TxOff}
-use Rattle.macsec_commands.specs.declared.command.Command.TheVariants.{TxDel, RxSc, RxScDel, RxSa, RxOn, RxOff, RxLow, RxDel}
-use Rattle.macsec_secy.specs.declared.fault.FrameFault.{FrameFault}
-use Rattle.macsec_secy.specs.Agrees.{HasUnusedNext}
-use Rattle.macsec_secy.specs.Commands.{effect, refusal, unless_refused}
+use Rattle.macsec_secy.proofs.{
+  Names.{◌==◌, ◌≡◌, ◌≤◌, ap, AreKeyRows, arith, at_number, Bool, client_frame, Command, Contains, effect, eqb-true},
+  Names.{false, frame_fault, FrameFault, HasUnusedNext, if◌then◌else◌, Input, InstalledKey, IsSound, judgement_of, Key},
+  Names.{key_row, keys_after, keys_noting, leaves, link_frame, List, map, no_key, None, operator_command, Option},
+  Names.{Output, Protect, received_output, refl, Refusal, refusal, Replay, Retire, retired_row, row_noting, RxDel},
+  Names.{RxLow, RxOff, RxOn, RxSa, RxSc, RxScDel, sending_of, sent_output, Some, State, state_after_receiving},
+  Names.{state_after_sending, step, subst, Tag, the_key, true, tx_options, TxDel, TxOff, TxOn, TxRow, TxSa},
+  Names.{uncontrolled_frame, unless_fault, unless_refused, unwrap_or, Validate, ℕ},
+  Contained.Contains-map,
+  KeysApart.found_by_number,
+  ProtectedBy.protected_by,
+  UnusedNext.on_unused,
+}
 use Rattle.macsec_secy.specs.Kept.{IsLaterKey, KeyStaysIn, KeysStay}
-use Rattle.macsec_secy.specs.Reception.{judgement_of, state_after_receiving}
-use Rattle.macsec_secy.specs.Sound.{IsSound}
-use Rattle.macsec_secy.specs.State.{State, tx_options}
-use Rattle.macsec_secy.specs.Step.{Input, Output, operator_command, client_frame, uncontrolled_frame, link_frame, frame_fault, leaves}
-use Rattle.macsec_secy.specs.Step.{received_output, sending_of, sent_output, state_after_sending, step, unless_fault}
-use Rattle.macsec_secy.proofs.Contained.{Contains-map}
-use Rattle.macsec_secy.proofs.KeysApart.{found_by_number}
-use Rattle.macsec_secy.proofs.ProtectedBy.{protected_by}
-use Rattle.macsec_secy.proofs.UnusedNext.{on_unused}
 
 abbrev StayIn : List InstalledKey → List InstalledKey → Type 0
 StayIn keys after = (key : InstalledKey) → Contains keys key → KeyStaysIn after key

@@ -1,7 +1,8 @@
 -- After the borrow of a slice, its owner is as the borrower left the slice.
-use Rattle.std.proofs.Common.{◌≡◌, ℕ, ◌≤◌, List, [], ◌∷◌, length, take, drop, refl, ap, ◌∙◌, arith}
-use Rattle.std.specs.List.{refill}
-use Rattle.std.proofs.lemmas.List.{take-append-le}
+use Rattle.{
+  std.proofs.lemmas.List.take-append-le,
+  macsec_secy.proofs.Names.{[], ◌∙◌, ◌∷◌, ◌≡◌, ◌≤◌, ap, arith, drop, length, List, refill, refl, take, ℕ},
+}
 
 take_all : {X : Type 0} (new : List X) → take (length new) new ≡ new
 take_all [] = refl

@@ -1,3 +1,4 @@
+mod Names
 pub mod KeysKept
 pub mod RxKeysKept
 pub mod Lent

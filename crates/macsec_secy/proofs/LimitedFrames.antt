@@ -1,25 +1,15 @@
 -- A link frame within limits: it takes the machine's step, or nothing changes.
-use Rattle.std.proofs.Common.{◌≡◌, ℕ, List, refl, ap, subst, sym, ◌∙◌}
-use Rattle.std.specs.Prelude.{if◌then◌else◌, IfOk, Option, None, Result, Ok, Err}
-use Rattle.macsec_tag.specs.Frame.{MpduParts}
-use Rattle.macsec_tag.specs.Table.{reading, tagged}
-use Rattle.macsec_suite.specs.KeyRows.{InstalledKey}
-use Rattle.macsec_rx.specs.declared.RxOptions.{RxOptions}
-use Rattle.macsec_rx.specs.declared.within.PnLimits.{PnLimits}
-use Rattle.macsec_rx.specs.declared.within.OutsidePn.{OutsidePn}
-use Rattle.macsec_rx.specs.Channels.{Channels}
-use Rattle.macsec_rx.specs.Judge.{judge_tagged}
-use Rattle.macsec_rx.specs.Rows.{AreChannels}
-use Rattle.macsec_rx.specs.Within.{outside}
-use Rattle.macsec_secy.specs.declared.counters.ChannelCounters.{ChannelCounters}
-use Rattle.macsec_secy.specs.declared.counters.Counters.{Counters}
-use Rattle.macsec_secy.specs.declared.reception.Outcome.{Outcome}
-use Rattle.macsec_secy.specs.Limited.{IsLimitedStep, IsPlacedWithin, limited_by, limited_step, outside_frame, output_of_limited_outcome, within}
-use Rattle.macsec_secy.specs.Outcomes.{ArePartsOf, IsWithin, with_received}
-use Rattle.macsec_secy.specs.Sound.{IsSound}
-use Rattle.macsec_secy.specs.State.{State}
-use Rattle.macsec_secy.specs.Step.{frame_fault, link_frame, step}
-use Rattle.macsec_secy.proofs.ReceivedFrames.{received_sound}
+use Rattle.std.proofs.Common.{IfOk}
+use Rattle.macsec_rx.specs.{Within.outside, declared.within.{OutsidePn.OutsidePn, PnLimits.PnLimits}}
+use Rattle.macsec_secy.{
+  proofs.{
+    Names.{◌∙◌, ◌≡◌, ap, AreChannels, ArePartsOf, ChannelCounters, Channels, Counters, Err, frame_fault, if◌then◌else◌},
+    Names.{InstalledKey, IsLimitedStep, IsSound, judge_tagged, limited_step, link_frame, List, MpduParts, None, Ok},
+    Names.{Option, Outcome, reading, refl, Result, RxOptions, State, step, subst, sym, tagged, with_received, ℕ},
+    ReceivedFrames.received_sound,
+  },
+  specs.{Limited.{IsPlacedWithin, limited_by, outside_frame, output_of_limited_outcome, within}, Outcomes.IsWithin},
+}
 
 -- a tagged frame, by the parts of a state
 pub tagged_side : (s : State) (limits : List PnLimits) (frame : List ℕ) (p : MpduParts) → reading frame ≡ tagged p → frame_fault frame ≡ None →

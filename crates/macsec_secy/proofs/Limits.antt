@@ -1,13 +1,9 @@
 -- The largest frame of a configuration that an endpoint can be created from.
-use Rattle.std.proofs.Common.{◌≡◌, ℕ, ◌≤◌, Bool, true, false, refl}
-use Rattle.std.specs.Prelude.{if◌then◌else◌, Option, Some, None}
-use Rattle.std.proofs.lemmas.Bool.Decides.{nat_tests}
-use Rattle.std.proofs.Common.{arith}
-use Rattle.macsec_tag.specs.Limits.{max_frame_len}
-use Rattle.macsec_commands.specs.declared.config.EndConfig.{EndConfig}
-use Rattle.macsec_commands.specs.declared.fault.NewFault.{NewFault}
-use Rattle.macsec_commands.specs.Limits.{min_max_frame}
-use Rattle.macsec_commands.specs.Configs.{config_fault, is_bad_limit}
+use Rattle.{
+  macsec_commands.specs.{Configs.is_bad_limit, Limits.min_max_frame, declared.fault.NewFault.NewFault},
+  macsec_secy.proofs.Names.{◌≡◌, ◌≤◌, arith, Bool, config_fault, EndConfig, false, if◌then◌else◌, max_frame_len},
+  macsec_secy.proofs.Names.{nat_tests, None, Option, refl, Some, true, ℕ},
+}
 
 within : (n : ℕ) → is_bad_limit n ≡ false → (min_max_frame ≤ n) × (n ≤ max_frame_len)
 within n h = (grind (arith, nat_tests, h), grind (arith, nat_tests, h))

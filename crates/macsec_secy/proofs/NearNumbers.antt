@@ -1,9 +1,9 @@
 -- The packet number of a sent frame, as its receiver recovers it.
-use Rattle.std.proofs.Common.{◌≡◌, ℕ, ◌+◌, ◌-◌, ◌%◌, ◌^◌, ◌≤◌, ◌<◌, Bool, true, false, refl, ap, arith}
-use Rattle.std.specs.Prelude.{◌==◌, ◌&&◌, not, if◌then◌else◌, Some}
-use Rattle.std.proofs.lemmas.Bool.{and_left, and_right, ne_eqb}
-use Rattle.std.proofs.lemmas.Bool.Decides.{nat_tests}
-use Rattle.macsec_pn.specs.Numbers.{recovered_number}
+use Rattle.{
+  std.proofs.{Common.{◌-◌}, lemmas.Bool.and_left},
+  macsec_secy.proofs.Names.{◌%◌, ◌&&◌, ◌+◌, ◌<◌, ◌==◌, ◌^◌, ◌≡◌, ◌≤◌, and_right, ap, arith, Bool, false, if◌then◌else◌},
+  macsec_secy.proofs.Names.{nat_tests, ne_eqb, not, recovered_number, refl, Some, true, ℕ},
+}
 
 abbrev pub last_number : Bool → ℕ
 last_number xpn = if xpn then 2 ^ 64 - 1 else 2 ^ 32 - 1

@@ -1,9 +1,6 @@
 -- Lists in which no two elements pass a test together, and the changes that keep this.
-use Rattle.std.proofs.Common.{◌≡◌, Bool, true, false, List, [], ◌∷◌, ◌++◌, map, filter, refl}
-use Rattle.std.specs.Prelude.{◌||◌, find, if◌then◌else◌, is_some, Some}
-use Rattle.std.specs.List.{list_any}
-use Rattle.std.proofs.lemmas.Bool.{or_from, or_parts}
-use Rattle.macsec_secy.specs.Agrees.{NoTwo}
+use Rattle.macsec_secy.proofs.Names.{[], ◌++◌, ◌||◌, ◌∷◌, ◌≡◌, Bool, false, filter, find, if◌then◌else◌, is_some, List}
+use Rattle.macsec_secy.proofs.Names.{list_any, map, NoTwo, or_from, or_parts, refl, Some, true}
 
 -- ---- no element passes a test
 

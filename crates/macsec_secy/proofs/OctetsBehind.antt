@@ -1,10 +1,10 @@
 -- A frame of parts without padding, followed by octets, is read as the same parts with the octets as padding.
-use Rattle.std.proofs.Common.{◌≡◌, ℕ, List, [], ◌++◌, ap, ◌∙◌, append-nil}
-use Rattle.macsec_tag.specs.Tag.{IsTag, encoding}
-use Rattle.macsec_tag.specs.Frame.{HasLengths, MpduParts, in_a_row}
-use Rattle.macsec_tag.specs.Table.{reading, tagged}
-use Rattle.macsec_tag.specs.Laws.{ReadAgain}
-use Rattle.macsec_secy.specs.Accepts.{padded_by}
+use Rattle.{
+  std.proofs.Common.append-nil,
+  macsec_tag.specs.Frame.HasLengths,
+  macsec_secy.proofs.Names.{[], ◌++◌, ◌∙◌, ◌≡◌, ap, encoding, in_a_row, IsTag, List, MpduParts, padded_by, ReadAgain},
+  macsec_secy.proofs.Names.{reading, tagged, ℕ},
+}
 
 row_with : (p : MpduParts) → p.padding ≡ [] → (behind : List ℕ) → in_a_row p ++ behind ≡ in_a_row (padded_by p behind)
 row_with p none behind =

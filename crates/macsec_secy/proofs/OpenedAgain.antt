@@ -1,19 +1,19 @@
 -- Whoever opens a protected frame gets the client frame, whatever the offset of the opening key: the additional
 -- authenticated data and the ciphertext determine the frame.
-use Rattle.std.proofs.Common.{◌≡◌, ℕ, ◌≤◌, List, ◌++◌, length, take, drop, ap, sym, ◌∙◌, arith, length-append, append_assoc, length-drop}
-use Rattle.std.specs.Prelude.{slice_range, Some}
-use Rattle.std.proofs.lemmas.List.{drop_at, length-take-le, take-append-drop, take_at}
-use Rattle.std.proofs.Math.Seq.{take-add}
-use Rattle.macsec_gcm.specs.Gcm.{seal_of}
-use Rattle.macsec_gcm.specs.Laws.{OpenUndoesSeal, SealedLengths, SealingIsInjective}
-use Rattle.macsec_tag.specs.Tag.{IsTag, Tag, encoding}
-use Rattle.macsec_suite.specs.CipherUses.{CipherUse, cipher_use, plaintext_of_use}
-use Rattle.macsec_suite.specs.KeyRows.{InstalledKey, prepared_key}
-use Rattle.macsec_suite.specs.Parts.{clear_length}
-use Rattle.macsec_tx.specs.Transmit.{parts_under}
-use Rattle.macsec_secy.specs.Protects.{OpensAs}
-use Rattle.macsec_secy.proofs.BehindTags.{same_back, same_behind_tags, same_front}
-use Rattle.macsec_secy.proofs.SealedParts.{clear_of_length, clear_within}
+use Rattle.{
+  macsec_gcm.specs.Laws.SealingIsInjective,
+  macsec_tag.specs.Tag.Tag,
+  macsec_suite.specs.CipherUses.CipherUse,
+  macsec_secy.proofs.{
+    Names.{◌++◌, ◌∙◌, ◌≡◌, ◌≤◌, ap, append_assoc, arith, cipher_use, clear_length, drop, drop_at, encoding},
+    Names.{InstalledKey, IsTag, length, length-append, length-drop, length-take-le, List, OpenUndoesSeal, parts_under},
+    Names.{plaintext_of_use, prepared_key, seal_of, SealedLengths, slice_range, Some, sym, take, take-add},
+    Names.{take-append-drop, take_at, ℕ},
+    BehindTags.{same_back, same_behind_tags, same_front},
+    SealedParts.{clear_of_length, clear_within},
+  },
+  macsec_secy.specs.Protects.OpensAs,
+}
 
 pub record CipherLaws : Type 0 where
   pub undoes : OpenUndoesSeal

@@ -1,42 +1,31 @@
 -- With other octets in the row of a key that is retired and unused, each input has the same output.
-use Rattle.std.proofs.Common.{◌≡◌, ℕ, ◌+◌, Bool, true, false, List, [], ◌∷◌, ◌++◌, map, length, refl, ap, sym, subst, ◌∙◌}
-use Rattle.std.specs.Prelude.{◌==◌, ◌&&◌, ◌||◌, find, nat_lt, not, is_some, if◌then◌else◌, option_map, unwrap_or, Option, Some, None}
-use Rattle.std.specs.List.{list_any}
-use Rattle.std.proofs.lemmas.Bool.{eq-eqb, eqb-true, or_parts}
-use Rattle.std.proofs.lemmas.List.{map-append}
-use Rattle.macsec_tag.specs.declared.identifiers.Sci.{Sci}
-use Rattle.macsec_tag.specs.Frame.{MpduParts}
-use Rattle.macsec_tag.specs.Table.{Reading, untagged, bad, tagged, reading}
-use Rattle.macsec_suite.specs.declared.key_row.NewKey.{NewKey}
-use Rattle.macsec_suite.specs.declared.refusal.Refusal.{Refusal}
-use Rattle.macsec_suite.specs.declared.refusal.Refusal.TheVariants.{KeyLength, Offset, KeyNumberUsed, KeyRepeated, NoKey, KeyRetired, KeyInUse, AnTaken, Exhausted, NoSa, NoSc, PnFloor, PnLower, PnRange, SsciOwn, Window}
-use Rattle.macsec_suite.specs.Keys.{has_wrong_length, has_wrong_offset}
-use Rattle.macsec_suite.specs.KeyRows.{InstalledKey, at_number, is_extended, key_row, new_row, no_key, retired_row, row_noting, suite_of, the_key, with_bytes, with_key}
-use Rattle.macsec_suite.specs.Refusals.{first_refusal, holds_of, install_refusals, is_number_used, is_outside, is_repeated, is_retired, is_too_wide}
-use Rattle.macsec_suite.specs.Suites.{last_of, widest_extended_window, widest_short_window}
-use Rattle.macsec_tx.specs.declared.TxOptions.{TxOptions}
-use Rattle.macsec_tx.specs.declared.TxRow.{TxRow}
-use Rattle.macsec_tx.specs.Commands.{has_tx, tx_uses}
-use Rattle.macsec_tx.specs.Transmit.{Sending, keys_after, no_sa, not_protected, octets_added, plain, protected, protected_frame, row_on, rows_after, sending, sending_by, tag_sent, too_long, tx_row}
-use Rattle.macsec_rx.specs.declared.RxOptions.{RxOptions}
-use Rattle.macsec_rx.specs.declared.RxRow.{RxRow}
-use Rattle.macsec_rx.specs.declared.Verdict.TheVariants.{Reserved}
-use Rattle.macsec_rx.specs.Channels.{is_at, rx_row}
-use Rattle.macsec_rx.specs.Commands.{has_channel, has_rx, is_below_lowest, is_own_ssci, rx_uses}
-use Rattle.macsec_rx.specs.Judge.{Judgement, in_use, judge_number, judge_tagged_row, number_of_frame, sci_of, without_row}
-use Rattle.macsec_commands.specs.declared.command.Command.{Command}
-use Rattle.macsec_commands.specs.declared.command.Command.TheVariants.{Protect, Validate, Replay, Tag, Key, Retire, TxSa, TxOn, TxOff}
-use Rattle.macsec_commands.specs.declared.command.Command.TheVariants.{TxDel, RxSc, RxScDel, RxSa, RxOn, RxOff, RxLow, RxDel}
-use Rattle.macsec_secy.specs.declared.fault.FrameFault.{FrameFault}
-use Rattle.macsec_secy.specs.Commands.{effect, refusal, unless_refused, uses}
-use Rattle.macsec_secy.specs.Counting.{count_leaving, count_protected}
-use Rattle.macsec_secy.specs.GivenUp.{RepeatsAlike, StepsAlike, new_bytes, replacing}
-use Rattle.macsec_secy.specs.Reception.{judge_reading, state_after_receiving}
-use Rattle.macsec_secy.specs.State.{State, rx_options, tx_options}
-use Rattle.macsec_secy.specs.Step.{Input, Output, operator_command, client_frame, uncontrolled_frame, link_frame, command_output, done, frame_fault, leaves}
-use Rattle.macsec_secy.specs.Step.{received_output, sent_output, state_after_sending, unless_fault}
-use Rattle.macsec_secy.proofs.AfterCommands.{none_hold}
-use Rattle.macsec_secy.proofs.KeysKept.{same_number}
+use Rattle.macsec_suite.specs.{
+  Keys.{has_wrong_length, has_wrong_offset},
+  Refusals.is_outside,
+  declared.refusal.Refusal.TheVariants.{KeyLength, Offset, KeyNumberUsed, KeyRepeated, KeyRetired, KeyInUse, AnTaken},
+  declared.refusal.Refusal.TheVariants.{Exhausted, NoSa, NoSc, PnFloor, PnLower, PnRange, SsciOwn, Window},
+}
+use Rattle.macsec_tx.specs.Commands.{has_tx}
+use Rattle.macsec_rx.specs.Judge.{judge_tagged_row}
+use Rattle.macsec_secy.proofs.{
+  Names.{[], ◌&&◌, ◌++◌, ◌+◌, ◌==◌, ◌||◌, ◌∙◌, ◌∷◌, ◌≡◌, ap, at_number, bad, Bool, client_frame, Command},
+  Names.{command_output, count_leaving, count_protected, done, effect, eq-eqb, eqb-true, false, find, first_refusal},
+  Names.{frame_fault, FrameFault, has_channel, has_rx, holds_of, if◌then◌else◌, in_use, Input, install_refusals},
+  Names.{InstalledKey, is_at, is_below_lowest, is_extended, is_number_used, is_own_ssci, is_repeated, is_retired},
+  Names.{is_some, is_too_wide, judge_number, judge_reading, Judgement, Key, key_row, keys_after, last_of, leaves},
+  Names.{length, link_frame, List, list_any, map, map-append, MpduParts, nat_lt, new_row, NewKey, no_key, no_sa, NoKey},
+  Names.{None, not, not_protected, number_of_frame, octets_added, operator_command, Option, option_map, or_parts},
+  Names.{Output, plain, Protect, protected, protected_frame, Reading, reading, received_output, refl, Refusal, refusal},
+  Names.{replacing, Replay, Reserved, Retire, retired_row, row_noting, row_on, rows_after, rx_options, rx_row, rx_uses},
+  Names.{RxDel, RxLow, RxOff, RxOn, RxOptions, RxRow, RxSa, RxSc, RxScDel, Sci, sci_of, Sending, sending, sending_by},
+  Names.{sent_output, Some, State, state_after_receiving, state_after_sending, subst, suite_of, sym, Tag, tag_sent},
+  Names.{tagged, the_key, too_long, true, tx_options, tx_row, tx_uses, TxDel, TxOff, TxOn, TxOptions, TxRow, TxSa},
+  Names.{uncontrolled_frame, unless_fault, unless_refused, untagged, unwrap_or, Validate, widest_extended_window},
+  Names.{widest_short_window, with_bytes, with_key, without_row, ℕ},
+  AfterCommands.none_hold,
+  KeysKept.same_number,
+}
+use Rattle.macsec_secy.specs.{Commands.uses, GivenUp.{RepeatsAlike, StepsAlike, new_bytes}}
 
 -- ---- the row of a number
 

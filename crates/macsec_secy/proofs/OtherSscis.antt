@@ -1,22 +1,16 @@
 -- If packet numbers are extended, no receive SA has its key's own SSCI, whatever the input.
-use Rattle.std.proofs.Common.{◌≡◌, ℕ, Bool, false, List, [], ◌∷◌, ◌++◌, map, refl}
-use Rattle.std.specs.Prelude.{◌==◌, Option, Some, None}
 use Rattle.std.specs.List.{All}
-use Rattle.std.proofs.lemmas.List.Elements.{All-append, All-cons, All-map, All-nil, All-weaker}
-use Rattle.macsec_tag.specs.declared.identifiers.Sci.{Sci}
-use Rattle.macsec_suite.specs.declared.refusal.Refusal.TheVariants.{NoKey}
-use Rattle.macsec_suite.specs.KeyRows.{InstalledKey, at_number, keys_replacing, keys_retiring, retired_row, row_noting, the_key, with_bytes}
-use Rattle.macsec_suite.specs.Refusals.{first_refusal, is_number_used}
-use Rattle.macsec_tx.specs.declared.TxRow.{TxRow}
-use Rattle.macsec_tx.specs.Transmit.{keys_after}
-use Rattle.macsec_rx.specs.declared.RxRow.{RxRow}
-use Rattle.macsec_rx.specs.Channels.{Channels, at_place, is_at, with_rx}
-use Rattle.macsec_rx.specs.Commands.{channels_narrowed, row_narrowed, row_raised, row_switched, rx_sa_refusals, with_rx_low, with_rx_on, with_rx_sa}
-use Rattle.macsec_rx.specs.Judge.{Judgement, accepted_number, row_accepting, rows_accepting, rows_after}
-use Rattle.macsec_secy.specs.Agrees.{HasOtherSsci}
-use Rattle.macsec_secy.proofs.AfterCommands.{none_hold}
-use Rattle.macsec_secy.proofs.KeysKept.{field_kept, not_refused, same_number, there_after_change, there_with_more}
-use Rattle.macsec_secy.proofs.SameKey.{field_of_the_key, same_with_more}
+use Rattle.macsec_rx.specs.Judge.{rows_after}
+use Rattle.macsec_secy.proofs.{
+  Names.{[], ◌++◌, ◌==◌, ◌∷◌, ◌≡◌, accepted_number, All-append, All-cons, All-map, All-nil, All-weaker, at_number},
+  Names.{at_place, Bool, Channels, channels_narrowed, false, first_refusal, HasOtherSsci, InstalledKey, is_at},
+  Names.{is_number_used, Judgement, keys_after, keys_replacing, keys_retiring, List, map, NoKey, None, Option, refl},
+  Names.{retired_row, row_accepting, row_narrowed, row_noting, row_raised, row_switched, rows_accepting},
+  Names.{rx_sa_refusals, RxRow, Sci, Some, the_key, TxRow, with_bytes, with_rx, with_rx_low, with_rx_on, with_rx_sa, ℕ},
+  AfterCommands.none_hold,
+  KeysKept.{field_kept, not_refused, same_number, there_after_change, there_with_more},
+  SameKey.{field_of_the_key, same_with_more},
+}
 
 abbrev pub HaveOtherSscis : List InstalledKey → List RxRow → Type 0
 HaveOtherSscis keys rows = All (λ row. HasOtherSsci keys row) rows

@@ -1,17 +1,11 @@
 -- Step 13 decides a frame for which no earlier step holds.
-use Rattle.std.proofs.Common.{◌≡◌, ◌≢◌, ℕ, false, List, refl}
-use Rattle.std.specs.Prelude.{◌&&◌, not, Some}
-use Rattle.std.proofs.lemmas.Bool.{and_right}
-use Rattle.macsec_tag.specs.Frame.{MpduParts}
-use Rattle.macsec_pn.specs.Numbers.{is_late}
-use Rattle.macsec_suite.specs.KeyRows.{InstalledKey, the_key}
-use Rattle.macsec_commands.specs.declared.mode.Mode.{Mode}
-use Rattle.macsec_commands.specs.declared.mode.Mode.TheVariants.{Disabled, Check, Strict}
-use Rattle.macsec_rx.specs.declared.RxOptions.{RxOptions}
-use Rattle.macsec_rx.specs.declared.RxRow.{RxRow}
-use Rattle.macsec_rx.specs.declared.Verdict.TheVariants.{Passed}
-use Rattle.macsec_rx.specs.Channels.{Channels}
-use Rattle.macsec_rx.specs.Judge.{at_row, in_use, is_disabled, judge_number, judge_tagged, number_of_frame, opened_frame, plaintext_of, sci_of}
+use Rattle.{
+  macsec_commands.specs.declared.mode.Mode.TheVariants.{Disabled, Check},
+  macsec_secy.proofs.Names.{◌&&◌, ◌≡◌, ◌≢◌, and_right, at_row, Channels, false, in_use, InstalledKey, is_disabled},
+  macsec_secy.proofs.Names.{is_late, judge_number, judge_tagged, List, Mode, MpduParts, not, number_of_frame},
+  macsec_secy.proofs.Names.{opened_frame, Passed, plaintext_of, refl, RxOptions, RxRow, sci_of, Some, Strict, the_key},
+  macsec_secy.proofs.Names.ℕ,
+}
 
 pub is_enabled : (mode : Mode) → mode ≢ Disabled → is_disabled mode ≡ false
 is_enabled Disabled not_disabled = absurd (not_disabled refl)

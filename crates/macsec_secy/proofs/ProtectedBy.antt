@@ -1,13 +1,11 @@
 -- The SA that protects a client frame is enabled and has a packet number left.
-use Rattle.std.proofs.Common.{◌≡◌, ℕ, ◌+◌, ◌≤◌, Bool, true, false, List, [], ◌∷◌, length, refl, subst}
-use Rattle.std.specs.Prelude.{nat_lt, if◌then◌else◌, Option, Some, None}
-use Rattle.std.proofs.lemmas.Bool.{ltb-false}
-use Rattle.macsec_suite.specs.Suites.{last_of}
-use Rattle.macsec_suite.specs.KeyRows.{InstalledKey, the_key}
-use Rattle.macsec_tx.specs.declared.TxOptions.{TxOptions}
-use Rattle.macsec_tx.specs.declared.TxRow.{TxRow}
-use Rattle.macsec_tx.specs.Rows.{AreTxRows, IsTxRow}
-use Rattle.macsec_tx.specs.Transmit.{Sending, no_sa, too_long, plain, protected, not_protected, octets_added, protected_frame, row_on, sending, sending_by, tag_sent}
+use Rattle.{
+  macsec_tx.specs.Rows.IsTxRow,
+  macsec_secy.proofs.Names.{[], ◌+◌, ◌∷◌, ◌≡◌, ◌≤◌, AreTxRows, Bool, false, if◌then◌else◌, InstalledKey, last_of},
+  macsec_secy.proofs.Names.{length, List, ltb-false, nat_lt, no_sa, None, not_protected, octets_added, Option, plain},
+  macsec_secy.proofs.Names.{protected, protected_frame, refl, row_on, Sending, sending, sending_by, Some, subst},
+  macsec_secy.proofs.Names.{tag_sent, the_key, too_long, true, TxOptions, TxRow, ℕ},
+}
 
 pub record IsProtectedBy (keys : List InstalledKey) (rows : List TxRow) (row : TxRow) : Type 0 where
   pub on : row_on rows ≡ Some row

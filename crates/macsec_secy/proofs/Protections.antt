@@ -1,22 +1,18 @@
 -- What is known of the SA that protects a client frame.
-use Rattle.std.proofs.Common.{◌≡◌, ℕ, ◌≤◌, List, length, ap, sym, subst, ◌∙◌, arith, Contains}
-use Rattle.std.specs.Prelude.{if◌then◌else◌, Some, None, IsSome}
-use Rattle.std.proofs.lemmas.Bool.{eq-eqb}
-use Rattle.macsec_suite.specs.KeyRows.{InstalledKey, at_number, key_row, keys_noting, row_noting, the_key}
-use Rattle.macsec_tag.specs.Limits.{min_frame_len}
-use Rattle.macsec_tx.specs.declared.TxOptions.{TxOptions}
-use Rattle.macsec_tx.specs.declared.TxRow.{TxRow}
-use Rattle.macsec_tx.specs.Laws.{CanBeSent, IsReadAsSent}
-use Rattle.macsec_tx.specs.Transmit.{iv_sent, keys_after, tag_sent}
+use Rattle.macsec_tx.specs.Transmit.{iv_sent}
+use Rattle.macsec_secy.proofs.{
+  Names.{◌∙◌, ◌≡◌, ◌≤◌, ap, arith, at_number, CanBeSent, client_frame, Contains, eq-eqb, frame_fault, if◌then◌else◌},
+  Names.{InstalledKey, IsReadAsSent, IsSome, key_row, keys_after, keys_noting, length, List, min_frame_len, None},
+  Names.{row_noting, sending_of, sent_output, Some, State, state_after_sending, step, subst, sym, tag_sent, the_key},
+  Names.{tx_options, TxOptions, TxRow, unless_fault, ℕ},
+  Accepted.is_long,
+  Contained.Contains-map,
+  KeysApart.the_key_found,
+  OpenedAgain.{CipherLaws, opens_as_sent},
+  ProtectedBy.{is_row, protected_by},
+  UnusedNext.on_unused,
+}
 use Rattle.macsec_secy.specs.Protects.{Protects}
-use Rattle.macsec_secy.specs.State.{State, tx_options}
-use Rattle.macsec_secy.specs.Step.{client_frame, frame_fault, sending_of, sent_output, state_after_sending, step, unless_fault}
-use Rattle.macsec_secy.proofs.Accepted.{is_long}
-use Rattle.macsec_secy.proofs.Contained.{Contains-map}
-use Rattle.macsec_secy.proofs.KeysApart.{the_key_found}
-use Rattle.macsec_secy.proofs.OpenedAgain.{CipherLaws, opens_as_sent}
-use Rattle.macsec_secy.proofs.ProtectedBy.{is_row, protected_by}
-use Rattle.macsec_secy.proofs.UnusedNext.{on_unused}
 
 -- the key that seals the frame, after the packet number is recorded as used
 key_noting : (keys : List InstalledKey) (row : TxRow) → IsSome (key_row keys row.key) → Contains (keys_noting keys row.key row.next) (row_noting row.next (the_key keys row.key))

@@ -1,26 +1,15 @@
 -- The outcome of a link frame, and the receive SCs and counters after it, are those of the machine's step.
-use Rattle.std.proofs.Common.{◌≡◌, ℕ, List, length, refl, subst, sym}
-use Rattle.std.specs.Prelude.{option_map, None}
-use Rattle.macsec_tag.specs.Frame.{MpduParts}
-use Rattle.macsec_tag.specs.Table.{reading, tagged}
-use Rattle.macsec_suite.specs.KeyRows.{InstalledKey}
-use Rattle.macsec_commands.specs.declared.mode.Mode.{Mode}
-use Rattle.macsec_rx.specs.declared.RxOptions.{RxOptions}
-use Rattle.macsec_rx.specs.Channels.{Channels}
-use Rattle.macsec_rx.specs.Judge.{Judgement, judge_tagged, place_of, rows_after}
-use Rattle.macsec_rx.specs.Rows.{AreChannels}
-use Rattle.macsec_secy.specs.declared.counters.ChannelCounters.{ChannelCounters}
-use Rattle.macsec_secy.specs.declared.counters.Counters.{Counters}
-use Rattle.macsec_secy.specs.declared.reception.Outcome.{Outcome}
-use Rattle.macsec_secy.specs.Outcomes.{ArePartsOf, IsStep, octets_delivered, with_received}
-use Rattle.macsec_secy.specs.State.{State, rx_options}
-use Rattle.macsec_secy.specs.Reception.{octets_counted, packet_counted}
-use Rattle.macsec_secy.specs.Sound.{IsSound}
-use Rattle.macsec_secy.specs.Verdicts.{counted_at_place, counted_by}
-use Rattle.macsec_secy.specs.Step.{frame_fault, link_frame, step}
-use Rattle.macsec_secy.proofs.JudgedBy.{judged_by}
-use Rattle.macsec_secy.proofs.StaysSound.{TablesHold, after_link_frame}
-use Rattle.macsec_secy.proofs.Steps.{Tells, tells_by}
+use Rattle.macsec_rx.specs.Judge.{rows_after}
+use Rattle.macsec_secy.proofs.{
+  Names.{◌≡◌, AreChannels, ArePartsOf, ChannelCounters, Channels, counted_at_place, counted_by, Counters, frame_fault},
+  Names.{InstalledKey, IsSound, IsStep, judge_tagged, Judgement, length, link_frame, List, Mode, MpduParts, None},
+  Names.{octets_counted, option_map, Outcome, packet_counted, place_of, reading, refl, rx_options, RxOptions, State},
+  Names.{step, subst, sym, tagged, with_received, ℕ},
+  JudgedBy.judged_by,
+  StaysSound.{TablesHold, after_link_frame},
+  Steps.{Tells, tells_by},
+}
+use Rattle.macsec_secy.specs.Outcomes.{octets_delivered}
 
 abbrev pub judged : State → MpduParts → Judgement
 judged s p = judge_tagged (rx_options s) s.keys s.rx p

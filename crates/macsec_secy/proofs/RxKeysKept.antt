@@ -1,19 +1,13 @@
 -- The key of each receive SA stays in the table, whatever the input.
-use Rattle.std.proofs.Common.{◌≡◌, ℕ, Bool, false, List, [], ◌∷◌, ◌++◌, map, refl, sym, subst}
-use Rattle.std.specs.Prelude.{not, Option, Some, None}
-use Rattle.std.proofs.lemmas.List.Elements.{All-append, All-cons, All-filter, All-head, All-nil, All-tail, All-weaker}
-use Rattle.macsec_tag.specs.declared.identifiers.Sci.{Sci}
-use Rattle.macsec_suite.specs.declared.refusal.Refusal.TheVariants.{NoKey}
-use Rattle.macsec_suite.specs.KeyRows.{InstalledKey, keys_noting, keys_replacing, keys_retiring}
-use Rattle.macsec_suite.specs.Refusals.{first_refusal, is_number_used}
-use Rattle.macsec_tx.specs.declared.TxRow.{TxRow}
-use Rattle.macsec_tx.specs.Transmit.{keys_after}
-use Rattle.macsec_rx.specs.declared.RxRow.{RxRow}
-use Rattle.macsec_rx.specs.Channels.{Channels, at_place, is_at, same_sci, with_rx}
-use Rattle.macsec_rx.specs.Commands.{HaveRxKeys, channels_narrowed, row_narrowed, row_raised, row_switched, rx_sa_refusals}
-use Rattle.macsec_rx.specs.Commands.{with_rx_low, with_rx_on, with_rx_sa, without_channel, without_rx}
-use Rattle.macsec_rx.specs.Judge.{Judgement, accepted_number, row_accepting, rows_accepting, rows_after}
-use Rattle.macsec_secy.proofs.KeysKept.{IsThere, field_kept, not_refused, there_noting, there_replacing, there_retiring, there_with_more}
+use Rattle.macsec_rx.specs.{Commands.{HaveRxKeys, without_channel, without_rx}, Judge.rows_after}
+use Rattle.macsec_secy.proofs.{
+  Names.{[], ◌++◌, ◌∷◌, ◌≡◌, accepted_number, All-append, All-cons, All-filter, All-head, All-nil, All-tail},
+  Names.{All-weaker, at_place, Bool, Channels, channels_narrowed, false, first_refusal, InstalledKey, is_at},
+  Names.{is_number_used, Judgement, keys_after, keys_noting, keys_replacing, keys_retiring, List, map, NoKey, None},
+  Names.{not, Option, refl, row_accepting, row_narrowed, row_raised, row_switched, rows_accepting, rx_sa_refusals},
+  Names.{RxRow, same_sci, Sci, Some, subst, sym, TxRow, with_rx, with_rx_low, with_rx_on, with_rx_sa, ℕ},
+  KeysKept.{IsThere, field_kept, not_refused, there_noting, there_replacing, there_retiring, there_with_more},
+}
 
 abbrev KeyIsThere : List InstalledKey → RxRow → Type 0
 KeyIsThere keys row = IsThere keys row.key

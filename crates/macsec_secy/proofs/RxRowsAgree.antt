@@ -1,23 +1,19 @@
 -- Whatever the input, no two receive SAs of an SC have the same number, and the next packet number of each exceeds its
 -- lowest acceptable one by at most the replay window.
-use Rattle.std.proofs.Common.{◌≡◌, ◌∙◌, ◌≤◌, ◌+◌, ℕ, Bool, true, false, List, [], ◌∷◌, map, filter, refl, arith, sym}
-use Rattle.std.specs.Prelude.{◌==◌, nat_lt, if◌then◌else◌, Option, Some, None}
-use Rattle.std.specs.List.{All, list_any, slice_index_or}
-use Rattle.std.proofs.lemmas.Bool.{and_parts, eqb-true, false_from_ne_true, ltb-false, or_parts}
-use Rattle.std.proofs.lemmas.List.Elements.{All-append, All-cons, All-filter, All-map, All-nil, All-weaker}
-use Rattle.macsec_tag.specs.declared.identifiers.Sci.{Sci}
-use Rattle.macsec_suite.specs.KeyRows.{InstalledKey}
-use Rattle.macsec_suite.specs.Refusals.{first_refusal, holds_of}
-use Rattle.macsec_rx.specs.declared.RxRow.{RxRow}
-use Rattle.macsec_rx.specs.Channels.{Channels, at_place, is_at, rx_row, same_sci, with_rx}
-use Rattle.macsec_rx.specs.Commands.{channels_narrowed, is_below_lowest, row_narrowed, row_raised, row_switched}
-use Rattle.macsec_rx.specs.Commands.{rx_low_refusals, rx_sa_refusals, with_rx_low, with_rx_on, with_rx_sa}
-use Rattle.macsec_rx.specs.Judge.{Judgement, accepted_number, row_accepting, rows_accepting, rows_after}
-use Rattle.macsec_secy.proofs.Sums.{one_sci}
-use Rattle.macsec_secy.specs.Agrees.{NoTwo, same_place}
-use Rattle.macsec_secy.proofs.AfterCommands.{none_hold}
-use Rattle.macsec_secy.proofs.NoTwo.{no_two-filter, no_two-map, no_two-with, none_found}
-use Rattle.macsec_secy.proofs.RxRowsStay.{KeepsPlace, accepts, at_one_place, narrows, raises, switches}
+use Rattle.std.{proofs.lemmas.Bool.false_from_ne_true, specs.List.{All, slice_index_or}}
+use Rattle.macsec_rx.specs.{Commands.rx_low_refusals, Judge.rows_after}
+use Rattle.macsec_secy.proofs.{
+  Names.{[], ◌+◌, ◌==◌, ◌∙◌, ◌∷◌, ◌≡◌, ◌≤◌, accepted_number, All-append, All-cons, All-filter, All-map, All-nil},
+  Names.{All-weaker, and_parts, arith, at_place, Bool, Channels, channels_narrowed, eqb-true, false, filter},
+  Names.{first_refusal, holds_of, if◌then◌else◌, InstalledKey, is_at, is_below_lowest, Judgement, List, list_any},
+  Names.{ltb-false, map, nat_lt, None, NoTwo, Option, or_parts, refl, row_accepting, row_narrowed, row_raised},
+  Names.{row_switched, rows_accepting, rx_row, rx_sa_refusals, RxRow, same_place, same_sci, Sci, Some, sym, true},
+  Names.{with_rx, with_rx_low, with_rx_on, with_rx_sa, ℕ},
+  AfterCommands.none_hold,
+  NoTwo.{no_two-filter, no_two-map, no_two-with, none_found},
+  RxRowsStay.{KeepsPlace, accepts, at_one_place, narrows, raises, switches},
+  Sums.one_sci,
+}
 
 -- the next packet number exceeds the lowest acceptable one by at most the window
 abbrev pub IsWithin : ℕ → RxRow → Type 0

@@ -1,25 +1,16 @@
 -- A receive SA stays until it is deleted, and its next packet number does not fall.
-use Rattle.std.proofs.Common.{◌≡◌, ℕ, ◌≤◌, Bool, true, false, List, [], ◌∷◌, ◌++◌, map, filter, refl, ap, sym, ◌∙◌, arith}
-use Rattle.std.specs.Prelude.{◌==◌, ◌&&◌, not, if◌then◌else◌, option_map, Option, Some, None}
-use Rattle.std.proofs.lemmas.Bool.{and_parts, eqb-true}
-use Rattle.macsec_tag.specs.declared.identifiers.Sci.{Sci}
-use Rattle.macsec_suite.specs.declared.refusal.Refusal.{Refusal}
-use Rattle.macsec_rx.specs.declared.RxRow.{RxRow}
-use Rattle.macsec_rx.specs.Channels.{at_place, is_at, rx_row, same_sci, with_rx}
-use Rattle.macsec_rx.specs.Commands.{row_narrowed, row_raised, row_switched}
-use Rattle.macsec_rx.specs.Judge.{accepted_number, row_accepting, rows_accepting}
-use Rattle.macsec_commands.specs.declared.command.Command.{Command}
-use Rattle.macsec_commands.specs.declared.command.Command.TheVariants.{Protect, Validate, Replay, Tag, Key, Retire, TxSa, TxOn, TxOff}
-use Rattle.macsec_commands.specs.declared.command.Command.TheVariants.{TxDel, RxSc, RxScDel, RxSa, RxOn, RxOff, RxLow, RxDel}
-use Rattle.macsec_secy.specs.declared.fault.FrameFault.{FrameFault}
-use Rattle.macsec_secy.specs.Commands.{effect, refusal, unless_refused}
-use Rattle.macsec_secy.specs.Kept.{IsAbove, RxRowStays, deletes}
-use Rattle.macsec_secy.specs.Reception.{judgement_of, state_after_receiving}
-use Rattle.macsec_secy.specs.State.{State}
-use Rattle.macsec_secy.specs.Step.{Input, Output, operator_command, client_frame, uncontrolled_frame, link_frame, frame_fault}
-use Rattle.macsec_secy.specs.Step.{leaves, received_output, sending_of, sent_output, state_after_sending, unless_fault}
-use Rattle.macsec_secy.proofs.Sums.{one_sci}
-use Rattle.macsec_secy.proofs.KeysKept.{field_kept}
+use Rattle.macsec_secy.proofs.{
+  Names.{[], ◌&&◌, ◌++◌, ◌==◌, ◌∙◌, ◌∷◌, ◌≡◌, ◌≤◌, accepted_number, and_parts, ap, arith, at_place, Bool, client_frame},
+  Names.{Command, effect, eqb-true, false, filter, frame_fault, FrameFault, if◌then◌else◌, Input, is_at, IsAbove},
+  Names.{judgement_of, Key, leaves, link_frame, List, map, None, not, operator_command, Option, option_map, Output},
+  Names.{Protect, received_output, refl, Refusal, refusal, Replay, Retire, row_accepting, row_narrowed, row_raised},
+  Names.{row_switched, rows_accepting, rx_row, RxDel, RxLow, RxOff, RxOn, RxRow, RxSa, RxSc, RxScDel, same_sci, Sci},
+  Names.{sending_of, sent_output, Some, State, state_after_receiving, state_after_sending, sym, Tag, true, TxDel},
+  Names.{TxOff, TxOn, TxSa, uncontrolled_frame, unless_fault, unless_refused, Validate, with_rx, ℕ},
+  KeysKept.field_kept,
+  Sums.one_sci,
+}
+use Rattle.macsec_secy.specs.Kept.{RxRowStays, deletes}
 
 -- ---- changes of SAs
 

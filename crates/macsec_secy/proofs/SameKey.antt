@@ -1,8 +1,9 @@
 -- What stays the same of the key with a number, when the table of keys changes.
-use Rattle.std.proofs.Common.{◌≡◌, ℕ, Bool, true, false, List, [], ◌∷◌, ◌++◌, map, refl, sym, subst}
-use Rattle.std.specs.Prelude.{◌==◌, if◌then◌else◌, Some, IsSome, unwrap_or}
-use Rattle.macsec_suite.specs.KeyRows.{InstalledKey, key_row, no_key, the_key}
-use Rattle.macsec_secy.proofs.KeysKept.{IsThere}
+use Rattle.macsec_secy.proofs.{
+  Names.{[], ◌++◌, ◌==◌, ◌∷◌, ◌≡◌, Bool, false, if◌then◌else◌, InstalledKey, IsSome, key_row, List, map, no_key, refl},
+  Names.{Some, subst, sym, the_key, true, unwrap_or, ℕ},
+  KeysKept.IsThere,
+}
 
 pub same_with_more : (keys more : List InstalledKey) (number : ℕ) → IsThere keys number → the_key (keys ++ more) number ≡ the_key keys number
 same_with_more [] more number there = cc

@@ -1,14 +1,14 @@
 -- What was sealed for a client frame is opened with the same key bytes, offset and IV, and gives the frame.
-use Rattle.std.proofs.Common.{◌≡◌, ℕ, ◌+◌, ◌≤◌, Bool, true, false, List, ◌++◌, length, take, drop, min, refl, ap, sym, ◌∙◌, arith, append_assoc, length-append}
-use Rattle.std.specs.Prelude.{slice_range, if◌then◌else◌, Some}
-use Rattle.std.proofs.Math.Seq.{take-add, take-append_seam, drop-append_seam}
-use Rattle.std.proofs.lemmas.List.{length-take-le, take-append-drop}
-use Rattle.macsec_gcm.specs.Gcm.{open_of, seal_of}
-use Rattle.macsec_gcm.specs.Laws.{OpenUndoesSeal, SealedLengths}
-use Rattle.macsec_tag.specs.Tag.{Tag, encoding}
-use Rattle.macsec_suite.specs.Keys.{PreparedKey}
-use Rattle.macsec_suite.specs.Parts.{aad_and_plaintext, clear_length}
-use Rattle.macsec_tx.specs.Transmit.{parts_under}
+use Rattle.{
+  std.proofs.{Common.min, Math.Seq.{take-append_seam, drop-append_seam}},
+  macsec_gcm.specs.Gcm.open_of,
+  macsec_tag.specs.Tag.Tag,
+  macsec_suite.specs.Keys.PreparedKey,
+  macsec_secy.proofs.Names.{◌++◌, ◌+◌, ◌∙◌, ◌≡◌, ◌≤◌, aad_and_plaintext, ap, append_assoc, arith, Bool, clear_length},
+  macsec_secy.proofs.Names.{drop, encoding, false, if◌then◌else◌, length, length-append, length-take-le, List},
+  macsec_secy.proofs.Names.{OpenUndoesSeal, parts_under, refl, seal_of, SealedLengths, slice_range, Some, sym, take},
+  macsec_secy.proofs.Names.{take-add, take-append-drop, true, ℕ},
+}
 
 -- ---- the data is split at the same offset
 

@@ -1,21 +1,16 @@
 -- What an endpoint returns for a client frame, and what holds of its tables afterwards.
-use Rattle.std.proofs.Common.{◌≡◌, ℕ, ◌+◌, Bool, true, false, List, length, refl, sym, subst}
-use Rattle.std.specs.Prelude.{nat_lt, if◌then◌else◌, Option, Some, None}
-use Rattle.macsec_suite.specs.Suites.{last_of}
-use Rattle.macsec_suite.specs.KeyRows.{AreKeyRows, InstalledKey, the_key}
-use Rattle.macsec_tx.specs.declared.TxOptions.{TxOptions}
-use Rattle.macsec_tx.specs.declared.TxPlan.{TxPlan}
-use Rattle.macsec_tx.specs.declared.TxPlan.TheVariants.{Plain, Job, NoSa, TooLong}
-use Rattle.macsec_tx.specs.declared.TxRow.{TxRow}
-use Rattle.macsec_tx.specs.Answers.{IfJob, PlansLeaving}
-use Rattle.macsec_tx.specs.Rows.{AreTxRows}
-use Rattle.macsec_tx.specs.Transmit.{Leaving, plain, protected, no_sa, too_long, Sending, keys_after, not_protected}
-use Rattle.macsec_tx.specs.Transmit.{octets_added, row_on, rows_after, sending, sending_by, tag_sent}
-use Rattle.macsec_secy.specs.declared.fault.FrameFault.{FrameFault}
-use Rattle.macsec_secy.specs.State.{State, tx_options}
-use Rattle.macsec_secy.specs.Step.{client_frame, frame_fault, sending_of, sent_output, state_after_sending, step, unless_fault}
-use Rattle.macsec_secy.specs.Sound.{IsSound}
-use Rattle.macsec_secy.proofs.StaysSound.{TablesHold, after_client_frame}
+use Rattle.macsec_tx.specs.{
+  Answers.{IfJob, PlansLeaving},
+  declared.TxPlan.{TxPlan, TheVariants.{Plain, Job, NoSa, TooLong}},
+}
+use Rattle.macsec_secy.proofs.{
+  Names.{◌+◌, ◌≡◌, AreKeyRows, AreTxRows, Bool, client_frame, false, frame_fault, FrameFault, if◌then◌else◌},
+  Names.{InstalledKey, IsSound, keys_after, last_of, Leaving, length, List, nat_lt, no_sa, None, not_protected},
+  Names.{octets_added, Option, plain, protected, refl, row_on, rows_after, Sending, sending, sending_by, sending_of},
+  Names.{sent_output, Some, State, state_after_sending, step, subst, sym, tag_sent, the_key, too_long, true},
+  Names.{tx_options, TxOptions, TxRow, unless_fault, ℕ},
+  StaysSound.{TablesHold, after_client_frame},
+}
 
 -- ---- a frame that is sent unprotected, or dropped: no SA protects it
 

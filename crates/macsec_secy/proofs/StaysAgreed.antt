@@ -1,33 +1,21 @@
 -- The rows of an endpoint's tables agree with one another from its creation on, whatever the input.
-use Rattle.std.proofs.Common.{◌≡◌, ◌⊎◌, ℕ, Bool, true, false, List, [], filter, refl}
-use Rattle.std.specs.Prelude.{not, Option, Some, None}
-use Rattle.std.proofs.lemmas.List.Elements.{All-filter, All-nil}
-use Rattle.macsec_suite.specs.declared.refusal.Refusal.{Refusal}
-use Rattle.macsec_suite.specs.KeyRows.{new_row, suite_of}
-use Rattle.macsec_tx.specs.Transmit.{Sending, row_on}
-use Rattle.macsec_rx.specs.declared.RxRow.{RxRow}
-use Rattle.macsec_rx.specs.Channels.{is_at, same_sci}
-use Rattle.macsec_rx.specs.Judge.{Judgement}
-use Rattle.macsec_commands.specs.declared.config.EndConfig.{EndConfig}
-use Rattle.macsec_secy.specs.declared.fault.FrameFault.{FrameFault}
-use Rattle.macsec_commands.specs.declared.command.Command.{Command}
-use Rattle.macsec_commands.specs.declared.command.Command.TheVariants.{Protect, Validate, Replay, Tag, Key, Retire, TxSa, TxOn, TxOff}
-use Rattle.macsec_commands.specs.declared.command.Command.TheVariants.{TxDel, RxSc, RxScDel, RxSa, RxOn, RxOff, RxLow, RxDel}
-use Rattle.macsec_secy.specs.State.{State, start, tx_options}
-use Rattle.macsec_secy.specs.Agrees.{Agrees, HasOtherSsci}
-use Rattle.macsec_secy.specs.Commands.{effect, refusal, refusals, unless_refused}
-use Rattle.macsec_secy.specs.Reception.{judgement_of, state_after_receiving}
-use Rattle.macsec_secy.specs.Step.{Input, Output, operator_command, client_frame, uncontrolled_frame, link_frame, frame_fault, leaves}
-use Rattle.macsec_secy.specs.Step.{received_output, sending_of, sent_output, state_after_sending, step, unless_fault}
-use Rattle.macsec_secy.proofs.AfterCommands.{effect_keeps, none_hold}
-use Rattle.macsec_secy.proofs.NoTwo.{none-filter, none-with}
+use Rattle.macsec_secy.proofs.{
+  Names.{[], ◌≡◌, ◌⊎◌, Agrees, All-filter, All-nil, Bool, client_frame, Command, effect, EndConfig, false, filter},
+  Names.{frame_fault, FrameFault, HasOtherSsci, Input, is_at, Judgement, judgement_of, Key, leaves, link_frame, List},
+  Names.{new_row, None, not, operator_command, Option, Output, Protect, received_output, refl, Refusal, refusal},
+  Names.{refusals, Replay, Retire, row_on, RxDel, RxLow, RxOff, RxOn, RxRow, RxSa, RxSc, RxScDel, same_sci, Sending},
+  Names.{sending_of, sent_output, Some, start, State, state_after_receiving, state_after_sending, step, suite_of, Tag},
+  Names.{true, tx_options, TxDel, TxOff, TxOn, TxSa, uncontrolled_frame, unless_fault, unless_refused, Validate, ℕ},
+  AfterCommands.{effect_keeps, none_hold},
+  NoTwo.{none-filter, none-with},
+  RxRowsAgree.IsWithin,
+  UnusedNext.after_frame,
+  UsedNumbers.sent_by,
+}
 use Rattle.macsec_secy.proofs.KeyBytes as bytes
 use Rattle.macsec_secy.proofs.OtherSscis as sscis
 use Rattle.macsec_secy.proofs.RxRowsAgree as rx
-use Rattle.macsec_secy.proofs.RxRowsAgree.{IsWithin}
 use Rattle.macsec_secy.proofs.TxRowsAgree as tx
-use Rattle.macsec_secy.proofs.UnusedNext.{after_frame}
-use Rattle.macsec_secy.proofs.UsedNumbers.{sent_by}
 
 pub at_start : (config : EndConfig) → Agrees (start config)
 at_start config = record {

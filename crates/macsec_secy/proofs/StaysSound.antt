@@ -1,44 +1,27 @@
 -- An endpoint stays sound, whatever the input, if its tables keep what holds of their rows.
-use Rattle.std.proofs.Common.{◌≡◌, ℕ, ◌≤◌, true, false, List, [], ◌∷◌, ◌++◌, filter, refl, ap, sym, subst, ◌∙◌, arith}
-use Rattle.std.specs.Prelude.{not, Option, Some, None, IsSome, Result, Ok, Err, OnOk, OnErr}
-use Rattle.std.proofs.lemmas.Bool.{ltb-false}
-use Rattle.std.proofs.lemmas.List.{map-append}
-use Rattle.std.proofs.lemmas.List.Elements.{All-append, All-cons, All-filter, All-nil}
-use Rattle.macsec_tag.specs.Table.{reading}
-use Rattle.macsec_suite.specs.declared.refusal.Refusal.{Refusal}
-use Rattle.macsec_suite.specs.KeyRows.{AreKeyRows, InstalledKey, key_row, new_row, suite_of, widest_beside}
-use Rattle.macsec_suite.specs.Refusals.{refusal_of}
-use Rattle.macsec_tx.specs.Transmit.{Sending, keys_after}
-use Rattle.macsec_tx.specs.declared.TxRow.{TxRow}
-use Rattle.macsec_tx.specs.Rows.{AreTxRows}
-use Rattle.macsec_rx.specs.declared.RxRow.{RxRow}
-use Rattle.macsec_rx.specs.Channels.{Channels, same_sci}
-use Rattle.macsec_rx.specs.Commands.{has_rx}
-use Rattle.macsec_rx.specs.Rows.{AreChannels}
+use Rattle.std.proofs.Common.{OnOk, OnErr}
 use Rattle.macsec_commands.specs.Scis.{IsSci}
-use Rattle.macsec_secy.specs.declared.counters.ChannelCounters.{ChannelCounters}
-use Rattle.macsec_commands.specs.declared.config.EndConfig.{EndConfig}
-use Rattle.macsec_commands.specs.declared.command.Command.{Command}
-use Rattle.macsec_commands.specs.declared.command.Command.TheVariants.{Protect, Validate, Replay, Tag, Key, Retire, TxSa, TxOn, TxOff}
-use Rattle.macsec_commands.specs.declared.command.Command.TheVariants.{TxDel, RxSc, RxScDel, RxSa, RxOn, RxOff, RxLow, RxDel}
-use Rattle.macsec_secy.specs.State.{State, start}
-use Rattle.macsec_commands.specs.Configs.{config_fault}
-use Rattle.macsec_secy.specs.Commands.{effect, refusal, refusals, state_after_command, unless_refused}
-use Rattle.macsec_secy.specs.declared.fault.FrameFault.{FrameFault}
-use Rattle.macsec_secy.specs.Reception.{judgement_of, state_after_receiving}
-use Rattle.macsec_secy.specs.Step.{Output, client_frame, link_frame, frame_fault, received_output, sending_of, sent_output, state_after_sending, step, unless_fault}
-use Rattle.macsec_secy.specs.Agrees.{Agrees}
-use Rattle.macsec_secy.specs.Counting.{new_channel_counters, with_association, without_association}
-use Rattle.macsec_secy.specs.Sound.{AreOfAssociations, AreRxCounters, IsReady, IsSound, sci_of_counters}
-use Rattle.macsec_secy.proofs.Limits.{good_limit}
-use Rattle.macsec_secy.proofs.AfterCommands.{none_hold, true_from_not}
+use Rattle.macsec_secy.proofs.{
+  Names.{[], ◌++◌, ◌∙◌, ◌∷◌, ◌≡◌, ◌≤◌, Agrees, All-append, All-cons, All-filter, All-nil, ap, AreChannels, AreKeyRows},
+  Names.{AreOfAssociations, AreRxCounters, AreTxRows, arith, ChannelCounters, Channels, client_frame, Command},
+  Names.{config_fault, effect, EndConfig, Err, false, filter, frame_fault, FrameFault, has_rx, InstalledKey, IsReady},
+  Names.{IsSome, IsSound, judgement_of, Key, key_row, keys_after, link_frame, List, ltb-false, map-append},
+  Names.{new_channel_counters, new_row, None, not, Ok, Option, Output, Protect, reading, received_output, refl},
+  Names.{Refusal, refusal, refusal_of, refusals, Replay, Result, Retire, RxDel, RxLow, RxOff, RxOn, RxRow, RxSa, RxSc},
+  Names.{RxScDel, same_sci, sci_of_counters, Sending, sending_of, sent_output, Some, start, State, state_after_command},
+  Names.{state_after_receiving, state_after_sending, step, subst, suite_of, sym, Tag, true, TxDel, TxOff, TxOn, TxRow},
+  Names.{TxSa, unless_fault, unless_refused, Validate, widest_beside, with_association, without_association, ℕ},
+  AfterCommands.{none_hold, true_from_not},
+  ChannelsCounted.{after_judging, scis_kept, without_counters},
+  CountersKept.{after_change, after_judgement, after_leaving, after_protected, after_reading, no_rx_counted},
+  CountersKept.{no_tx_counted, none_counted},
+  Limits.good_limit,
+}
 use Rattle.macsec_secy.proofs.AssociationsKept as counted
 use Rattle.macsec_secy.proofs.KeysKept as tx
 use Rattle.macsec_secy.proofs.RxKeysKept as rx
 use Rattle.macsec_secy.proofs.StaysAgreed as rows
 use Rattle.macsec_secy.proofs.WidestWindow as widest
-use Rattle.macsec_secy.proofs.ChannelsCounted.{after_judging, scis_kept, without_counters}
-use Rattle.macsec_secy.proofs.CountersKept.{after_change, after_judgement, after_leaving, after_protected, after_reading, no_rx_counted, no_tx_counted, none_counted}
 
 -- what holds of the rows of an endpoint's tables
 pub record TablesHold (s : State) : Type 0 where

@@ -1,21 +1,15 @@
 -- What the verdict on a frame shows about the step that decided.
-use Rattle.std.proofs.Common.{◌≡◌, ℕ, Bool, true, false, List, [], ◌∷◌, map, set, refl, ap, sym, ◌∙◌}
 use Rattle.std.proofs.lemmas.List.{set-get_or}
-use Rattle.std.specs.Prelude.{if◌then◌else◌, nat_le, not, option_map, Option, Some, None}
-use Rattle.macsec_tag.specs.declared.identifiers.Sci.{Sci}
-use Rattle.macsec_tag.specs.Table.{Reading}
-use Rattle.macsec_commands.specs.declared.mode.Mode.{Mode}
-use Rattle.macsec_rx.specs.declared.Verdict.TheVariants.{BadTag}
-use Rattle.macsec_rx.specs.Channels.{same_sci}
-use Rattle.macsec_rx.specs.Judge.{Judgement, place_of}
-use Rattle.macsec_secy.specs.declared.counters.Counters.{Counters}
-use Rattle.macsec_secy.specs.declared.counters.RxCounters.{RxCounters}
-use Rattle.macsec_secy.specs.declared.counters.ChannelCounters.{ChannelCounters}
-use Rattle.macsec_secy.specs.Counting.{at_channel, count_in_channel, count_packet, count_verdict, counters_at}
-use Rattle.macsec_secy.specs.Reception.{packet_counted, rx_packet_counted}
-use Rattle.macsec_secy.specs.State.{State}
-use Rattle.macsec_secy.specs.Verdicts.{counted_at_place, is_opened}
-use Rattle.macsec_secy.proofs.JudgedBy.{JudgedBy, step_7, step_9, step_10, step_11, step_13}
+use Rattle.macsec_secy.{
+  proofs.{
+    Names.{[], ◌∙◌, ◌∷◌, ◌≡◌, ap, at_channel, BadTag, Bool, ChannelCounters, count_in_channel, count_packet},
+    Names.{count_verdict, counted_at_place, Counters, counters_at, false, if◌then◌else◌, Judgement, List, map, Mode},
+    Names.{nat_le, None, not, Option, option_map, packet_counted, place_of, Reading, refl, rx_packet_counted},
+    Names.{RxCounters, same_sci, Sci, set, Some, State, sym, true, ℕ},
+    JudgedBy.{JudgedBy, step_7, step_9, step_10, step_11, step_13},
+  },
+  specs.Verdicts.is_opened,
+}
 
 -- the verdict and the mode of validation determine which counters the frame raises
 pub record Tells (mode : Mode) (j : Judgement) : Type 0 where

@@ -1,22 +1,15 @@
 -- Raising a received-packet counter raises the sum of these counters by one; every other change keeps the sum.
-use Rattle.std.proofs.Common.{◌≡◌, ℕ, ◌+◌, ◌*◌, ◌/◌, ◌%◌, ◌^◌, Bool, true, false, List, [], ◌∷◌, map, refl, sym, ap, ◌∙◌, arith}
-use Rattle.std.proofs.lemmas.Bool.{or_parts}
-use Rattle.std.specs.Prelude.{if◌then◌else◌, ◌||◌}
-use Rattle.std.specs.List.{sum_by}
-use Rattle.std.specs.Cmp.Lexicographic.{same_text}
-use Rattle.std.proofs.Math.Nat.{add-mul-mod_self_left, add-mod-mod, mod-add-div, mod-add-mod}
-use Rattle.std.proofs.lemmas.List.Sums.{sum_by-cons}
-use Rattle.macsec_tag.specs.declared.identifiers.Sci.{Sci}
-use Rattle.macsec_rx.specs.declared.Verdict.{Verdict}
-use Rattle.macsec_rx.specs.declared.Verdict.TheVariants.{Late, NotValid, Unchecked, Delayed, Invalid, Passed}
-use Rattle.macsec_rx.specs.Channels.{same_sci}
-use Rattle.macsec_rx.specs.Commands.{has_channel}
-use Rattle.macsec_rx.specs.Rows.{AreScis}
-use Rattle.macsec_secy.specs.declared.counters.RxCounters.{RxCounters}
-use Rattle.macsec_secy.specs.declared.counters.ChannelCounters.{ChannelCounters}
-use Rattle.macsec_secy.specs.Counting.{at_channel, count_in_channel, count_verdict, plus}
-use Rattle.macsec_secy.specs.Sums.{channel_packets_of}
-use Rattle.macsec_secy.specs.Sound.{sci_of_counters}
+use Rattle.std.{
+  proofs.{Common.{◌*◌, ◌/◌}, Math.Nat.{add-mul-mod_self_left, mod-add-div}, lemmas.List.Sums.sum_by-cons},
+  specs.{Cmp.Lexicographic.same_text, List.sum_by},
+}
+use Rattle.macsec_secy.{
+  proofs.Names.{[], ◌%◌, ◌+◌, ◌^◌, ◌||◌, ◌∙◌, ◌∷◌, ◌≡◌, add-mod-mod, ap, AreScis, arith, at_channel, Bool},
+  proofs.Names.{ChannelCounters, count_in_channel, count_verdict, Delayed, false, has_channel, if◌then◌else◌, Invalid},
+  proofs.Names.{Late, List, map, mod-add-mod, NotValid, or_parts, Passed, plus, refl, RxCounters, same_sci, Sci},
+  proofs.Names.{sci_of_counters, sym, true, Unchecked, Verdict, ℕ},
+  specs.Sums.channel_packets_of,
+}
 
 pub one_sci : (s t : Sci) → same_sci s t ≡ true → s ≡ t
 one_sci s t same = ap {B = Sci} (λ octets. record { 0 = octets }) (same_text s.0 t.0 (sym same))

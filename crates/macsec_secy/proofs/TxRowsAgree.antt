@@ -1,16 +1,13 @@
 -- Whatever the input, no two transmit SAs have the same number, and at most one is enabled.
-use Rattle.std.proofs.Common.{◌≡◌, ◌∙◌, ℕ, Bool, true, false, List, map, refl, sym}
-use Rattle.std.specs.Prelude.{◌==◌, ◌&&◌, not, if◌then◌else◌, Option, Some, None}
-use Rattle.std.proofs.lemmas.Bool.{and_right, eq-eqb, eqb-true}
-use Rattle.macsec_suite.specs.KeyRows.{InstalledKey}
-use Rattle.macsec_suite.specs.Refusals.{first_refusal}
-use Rattle.macsec_tx.specs.declared.TxRow.{TxRow}
-use Rattle.macsec_tx.specs.Transmit.{next_used, rows_after, used_at}
-use Rattle.macsec_tx.specs.Commands.{off_at, switch_to, tx_sa_refusals, with_tx_off, with_tx_on, with_tx_sa, without_tx}
-use Rattle.macsec_secy.specs.Agrees.{NoTwo, both_on, same_an}
-use Rattle.macsec_secy.proofs.AfterCommands.{none_hold}
-use Rattle.macsec_secy.proofs.KeysKept.{field_kept}
-use Rattle.macsec_secy.proofs.NoTwo.{no_two-filter, no_two-map, no_two-with, none_at_all, none_found}
+use Rattle.macsec_secy.proofs.{
+  Names.{◌&&◌, ◌==◌, ◌∙◌, ◌≡◌, and_right, Bool, eq-eqb, eqb-true, false, first_refusal, if◌then◌else◌, InstalledKey},
+  Names.{List, map, next_used, None, not, NoTwo, off_at, Option, refl, rows_after, Some, switch_to, sym, true},
+  Names.{tx_sa_refusals, TxRow, used_at, with_tx_off, with_tx_on, with_tx_sa, without_tx, ℕ},
+  AfterCommands.none_hold,
+  KeysKept.field_kept,
+  NoTwo.{no_two-filter, no_two-map, no_two-with, none_at_all, none_found},
+}
+use Rattle.macsec_secy.specs.Agrees.{both_on, same_an}
 
 pub record TxRowsAgree (rows : List TxRow) : Type 0 where
   pub numbers : NoTwo same_an rows

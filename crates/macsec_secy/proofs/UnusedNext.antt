@@ -1,16 +1,15 @@
 -- Commands and sending keep this: the next packet number of each SA was never used under its key, and no two SAs have
 -- the same key.
-use Rattle.std.proofs.Common.{◌≡◌, ◌⊎◌, inl, inr, ℕ, ◌≤◌, Bool, true, false, List, [], ◌∷◌, ◌++◌, map, filter, refl, ap, sym, subst, ◌∙◌, arith}
-use Rattle.std.specs.Prelude.{◌==◌, ◌||◌, not, if◌then◌else◌, Option, Some, None, IsSome}
-use Rattle.std.proofs.lemmas.Bool.{eqb-false, eq-eqb, ne_eqb, or_parts}
-use Rattle.macsec_suite.specs.KeyRows.{InstalledKey, key_row, keys_noting}
-use Rattle.macsec_tx.specs.declared.TxRow.{TxRow}
-use Rattle.macsec_tx.specs.Transmit.{keys_after, next_used, row_on, rows_after, used_at}
-use Rattle.macsec_tx.specs.Commands.{off_at, switch_to, tx_uses, with_tx_off, with_tx_on, without_tx}
-use Rattle.macsec_secy.specs.Agrees.{HasUnusedNext, HaveUnusedNext, first_unused}
-use Rattle.macsec_secy.proofs.KeysKept.{there_noting}
-use Rattle.macsec_secy.proofs.NoTwo.{none-filter, none-with}
-use Rattle.macsec_secy.proofs.FirstUnused.{first-noting, first-noting_other}
+use Rattle.macsec_secy.proofs.{
+  Names.{[], ◌++◌, ◌==◌, ◌||◌, ◌∙◌, ◌∷◌, ◌≡◌, ◌≤◌, ◌⊎◌, ap, arith, Bool, eq-eqb, eqb-false, false, filter},
+  Names.{first_unused, HasUnusedNext, HaveUnusedNext, if◌then◌else◌, inl, inr, InstalledKey, IsSome, key_row},
+  Names.{keys_after, keys_noting, List, map, ne_eqb, next_used, None, not, off_at, Option, or_parts, refl, row_on},
+  Names.{rows_after, Some, subst, switch_to, sym, true, tx_uses, TxRow, used_at, with_tx_off, with_tx_on, without_tx},
+  Names.ℕ,
+  FirstUnused.{first-noting, first-noting_other},
+  KeysKept.there_noting,
+  NoTwo.{none-filter, none-with},
+}
 
 -- ---- other keys
 

@@ -1,29 +1,23 @@
 -- Under each key, packet numbers rise in the order of their use: each is at least the key's first unused one, which
 -- then becomes greater than it. So none is used twice.
-use Rattle.std.proofs.Common.{◌≡◌, ◌≢◌, ◌⊎◌, inl, inr, ℕ, ◌+◌, ◌<◌, ◌≤◌, Bool, true, false, List, [], ◌∷◌, ◌++◌, length, refl, ap, sym, subst, arith, All, AllPairs}
-use Rattle.std.specs.Prelude.{nat_lt, if◌then◌else◌, Option, Some, None}
-use Rattle.std.proofs.lemmas.Bool.{cases_eq}
-use Rattle.std.proofs.lemmas.List.Elements.{All-cons, All-nil, All-weaker}
-use Rattle.std.proofs.lemmas.List.Kept.{AllPairs-cons}
-use Rattle.macsec_suite.specs.declared.refusal.Refusal.{Refusal}
-use Rattle.macsec_suite.specs.Suites.{last_of}
-use Rattle.macsec_suite.specs.KeyRows.{InstalledKey, keys_noting, the_key}
-use Rattle.macsec_tx.specs.declared.TxRow.{TxRow}
-use Rattle.macsec_tx.specs.declared.TxOptions.{TxOptions}
-use Rattle.macsec_tx.specs.Transmit.{Leaving, no_sa, too_long, Sending, keys_after, not_protected, octets_added, row_on, rows_after, sending, sending_by, tag_sent}
-use Rattle.macsec_commands.specs.declared.config.EndConfig.{EndConfig}
-use Rattle.macsec_secy.specs.declared.fault.FrameFault.{FrameFault}
-use Rattle.macsec_commands.specs.declared.command.Command.{Command}
-use Rattle.macsec_secy.specs.State.{State, start, tx_options}
-use Rattle.macsec_secy.specs.Commands.{effect, refusal, unless_refused}
-use Rattle.macsec_secy.specs.Step.{Input, Output, operator_command, client_frame, uncontrolled_frame, link_frame, frame_fault, leaves}
-use Rattle.macsec_secy.specs.Step.{received_output, sending_of, sent_output, state_after_sending, step, unless_fault}
-use Rattle.macsec_secy.specs.Reception.{judgement_of, state_after_receiving}
-use Rattle.macsec_secy.specs.Laws.{RisesUnderOneKey, UsedNumber, UsesNoNumberTwice, UsesRisingNumbers, number_of_row, number_unless_fault, number_used, numbers_used}
-use Rattle.macsec_secy.specs.Agrees.{HasUnusedNext, HaveUnusedNext, first_unused}
-use Rattle.macsec_secy.proofs.FirstUnused.{first-noting, first-noting_other}
-use Rattle.macsec_secy.proofs.UnusedNext.{after_frame, on_unused}
-use Rattle.macsec_secy.proofs.AfterCommands.{effect_keeps, effect_stays}
+use Rattle.std.proofs.{Common.AllPairs, lemmas.{Bool.cases_eq, List.Kept.AllPairs-cons}}
+use Rattle.macsec_secy.{
+  proofs.{
+    Names.{[], ◌++◌, ◌+◌, ◌<◌, ◌∷◌, ◌≡◌, ◌≢◌, ◌≤◌, ◌⊎◌, All, All-cons, All-nil, All-weaker, ap, arith, Bool},
+    Names.{client_frame, Command, effect, EndConfig, false, first_unused, frame_fault, FrameFault, HasUnusedNext},
+    Names.{HaveUnusedNext, if◌then◌else◌, inl, Input, inr, InstalledKey, judgement_of, keys_after, keys_noting},
+    Names.{last_of, leaves, Leaving, length, link_frame, List, nat_lt, no_sa, None, not_protected, octets_added},
+    Names.{operator_command, Option, Output, received_output, refl, Refusal, refusal, row_on, rows_after, Sending},
+    Names.{sending, sending_by, sending_of, sent_output, Some, start, State, state_after_receiving},
+    Names.{state_after_sending, step, subst, sym, tag_sent, the_key, too_long, true, tx_options, TxOptions, TxRow},
+    Names.{uncontrolled_frame, unless_fault, unless_refused, ℕ},
+    AfterCommands.{effect_keeps, effect_stays},
+    FirstUnused.{first-noting, first-noting_other},
+    UnusedNext.{after_frame, on_unused},
+  },
+  specs.Laws.{RisesUnderOneKey, UsedNumber, UsesNoNumberTwice, UsesRisingNumbers, number_of_row, number_unless_fault},
+  specs.Laws.{number_used, numbers_used},
+}
 
 -- each packet number is at least its key's first unused one, and they rise under each key
 record AreNew (keys : List InstalledKey) (used : List UsedNumber) : Type 0 where

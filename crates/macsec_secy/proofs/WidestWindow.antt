@@ -1,13 +1,9 @@
 -- The widest replay window that the keys allow, when keys are installed and changed.
-use Rattle.std.proofs.Common.{◌≡◌, ℕ, ◌≤◌, Bool, true, false, List, [], ◌∷◌, ◌++◌, map, refl, sym, subst, arith}
-use Rattle.std.specs.Prelude.{◌==◌, ◌&&◌, ◌||◌, nat_lt, if◌then◌else◌}
-use Rattle.std.specs.List.{list_any}
-use Rattle.std.proofs.lemmas.Bool.{ltb-false}
-use Rattle.macsec_suite.specs.declared.key_row.NewKey.{NewKey}
-use Rattle.macsec_suite.specs.declared.suite.Suite.{Suite}
-use Rattle.macsec_suite.specs.Suites.{is_xpn, widest_extended_window, widest_short_window}
-use Rattle.macsec_suite.specs.KeyRows.{InstalledKey, at_number, is_extended, keys_noting, keys_replacing, keys_retiring, keys_with, new_row, retired_row, row_noting, widest_beside, with_bytes}
-use Rattle.macsec_suite.specs.Refusals.{is_too_wide}
+use Rattle.macsec_secy.proofs.Names.{[], ◌&&◌, ◌++◌, ◌==◌, ◌||◌, ◌∷◌, ◌≡◌, ◌≤◌, arith, at_number, Bool, false}
+use Rattle.macsec_secy.proofs.Names.{if◌then◌else◌, InstalledKey, is_extended, is_too_wide, is_xpn, keys_noting}
+use Rattle.macsec_secy.proofs.Names.{keys_replacing, keys_retiring, keys_with, List, list_any, ltb-false, map, nat_lt}
+use Rattle.macsec_secy.proofs.Names.{new_row, NewKey, refl, retired_row, row_noting, subst, Suite, sym, true}
+use Rattle.macsec_secy.proofs.Names.{widest_beside, widest_extended_window, widest_short_window, with_bytes, ℕ}
 
 -- the widest window, by whether packet numbers are extended under one of the keys
 abbrev widest_if : Bool → ℕ

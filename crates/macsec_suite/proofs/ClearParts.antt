@@ -1,14 +1,17 @@
 -- The parts of a frame in place, as parts of its concatenated octets.
-use Rattle.std.proofs.Common.{◌≡◌, ℕ, ◌+◌, ◌-◌, List, ◌++◌, length, take, drop, min, Bool, refl, ap, ◌∙◌, arith}
-use Rattle.std.proofs.Common.{length-append, length-drop}
-use Rattle.std.specs.Prelude.{if◌then◌else◌, Option, option_map}
-use Rattle.std.proofs.Math.Seq.{take-append-add, drop-append-add, drop-append_seam}
-use Rattle.macsec_tag.specs.Tag.{Tag, encoding}
-use Rattle.macsec_suite.specs.Parts.{clear_length}
+use Rattle.std.proofs.{
+  Common.{◌≡◌, ℕ, ◌+◌, ◌-◌, List, ◌++◌, length, take, drop, min, Bool, refl, ap, ◌∙◌, arith, length-append},
+  Common.{length-drop, if◌then◌else◌, Option, option_map},
+  Math.Seq.{take-append-add, drop-append-add, drop-append_seam},
+}
 use Rattle.macsec_gcm.specs.Gcm.{seal_of, open_of}
-use Rattle.macsec_suite.specs.InPlace.{clear_and_rest, sealed_octets, validated_octets}
-use Rattle.macsec_suite.specs.Keys.{PreparedKey}
-use Rattle.macsec_suite.specs.Laws.{PartsInPlace}
+use Rattle.macsec_tag.specs.Tag.{Tag, encoding}
+use Rattle.macsec_suite.specs.{
+  InPlace.{clear_and_rest, sealed_octets, validated_octets},
+  Keys.PreparedKey,
+  Laws.PartsInPlace,
+  Parts.clear_length,
+}
 
 -- cutting the concatenated octets gives the header with the clear octets of the data, and the rest
 pub cut_behind : (offset : ℕ) (e : Bool) (head user_data : List ℕ) →

@@ -1,8 +1,10 @@
 -- Texts that are processed piece by piece.
-use Rattle.std.proofs.Common.{◌≡◌, ℕ, ◌+◌, ◌-◌, ◌*◌, ◌≤◌, List, [], ◌++◌, length, take, drop, min, refl, subst, ap, sym, ◌∙◌, arith, append_assoc}
-use Rattle.std.proofs.Math.Seq.{take-add}
-use Rattle.std.proofs.lemmas.List.{append-nil, drop-drop, nil_from_length, take_all}
-use Rattle.std.proofs.lemmas.Slice.{take-put_mid, drop-put_mid}
+use Rattle.std.proofs.{
+  Common.{◌≡◌, ℕ, ◌+◌, ◌-◌, ◌*◌, ◌≤◌, List, [], ◌++◌, length, take, drop, min, refl, subst, ap, sym, ◌∙◌, arith},
+  Common.{append_assoc, append-nil, drop-drop, take_all},
+  Math.Seq.take-add,
+  lemmas.{List.nil_from_length, Slice.{take-put_mid, drop-put_mid}},
+}
 use borrow.Rule.Slice.PartMut.{put_mid}
 
 -- ---- texts that are read in pieces and do not change

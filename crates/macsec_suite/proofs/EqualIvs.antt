@@ -1,17 +1,21 @@
 -- What two frames with equal IVs have in common.
-use Rattle.std.proofs.Common.{◌≡◌, ℕ, ◌^◌, ◌<◌, true, false, List, ◌++◌, length, get_or, take, drop, bit_xor, refl, sym, ap, ◌∙◌, arith}
-use Rattle.std.specs.Int.{w32, w64, from_be_bytes, to_be_bytes}
-use Rattle.std.specs.Int.Bits.{xor_assoc, xor_self, xor_zero_l}
-use Rattle.std.proofs.lemmas.Grind.{same_number_lists}
-use Rattle.std.proofs.lemmas.List.{drop_at, take_at}
-use Rattle.std.proofs.lemmas.List.FromFn.{get_or-map-range_with_len}
-use Rattle.std.proofs.lemmas.Nat.{from_be_bytes-to_be_bytes_4, from_be_bytes-to_be_bytes_8}
-use Rattle.macsec_gcm.specs.Octets.{sum_with_stream}
-use Rattle.macsec_tag.specs.declared.identifiers.Sci.{Sci}
-use Rattle.macsec_suite.specs.declared.suite.Suite.{Suite}
-use Rattle.macsec_suite.specs.declared.suite.Suite.TheVariants.{Gcm128, Gcm256, Xpn128, Xpn256}
-use Rattle.macsec_suite.specs.Suites.{extended_iv, is_xpn}
-use Rattle.macsec_suite.specs.IvLaws.{EqualIvs, HaveSameSender, IvParts}
+use Rattle.{
+  std.proofs.{
+    Common.{◌≡◌, ℕ, ◌^◌, ◌<◌, true, false, List, ◌++◌, length, get_or, take, drop, bit_xor, refl, sym, ap, ◌∙◌, arith},
+    Common.{drop_at, take_at},
+    lemmas.Grind.same_number_lists,
+    lemmas.List.FromFn.get_or-map-range_with_len,
+    lemmas.Nat.{from_be_bytes-to_be_bytes_4, from_be_bytes-to_be_bytes_8},
+  },
+  std.specs.Int.{w32, w64, from_be_bytes, to_be_bytes, Bits.{xor_assoc, xor_self, xor_zero_l}},
+  macsec_gcm.specs.Octets.sum_with_stream,
+  macsec_tag.specs.declared.identifiers.Sci.Sci,
+  macsec_suite.specs.{
+    IvLaws.{EqualIvs, HaveSameSender, IvParts},
+    Suites.{extended_iv, is_xpn},
+    declared.suite.Suite.{Suite, TheVariants.{Gcm128, Gcm256, Xpn128, Xpn256}},
+  },
+}
 
 -- ---- exclusive or with the same octets
 

@@ -1,13 +1,16 @@
 -- How many keys have extended packet numbers and are not retired.
-use Rattle.std.proofs.Common.{◌≡◌, ℕ, ◌+◌, ◌<◌, ◌≤◌, Bool, true, false, List, [], ◌∷◌, ◌++◌, zero, suc, filter, get_or, length, map, refl, arith, ap, sym, ◌∙◌}
-use Rattle.std.specs.Prelude.{◌&&◌, ◌||◌, ◌==◌, not, if◌then◌else◌}
+use Rattle.std.proofs.{
+  Common.{◌≡◌, ℕ, ◌+◌, ◌<◌, ◌≤◌, Bool, true, false, List, [], ◌∷◌, ◌++◌, zero, suc, filter, get_or, length, map, refl},
+  Common.{arith, ap, sym, ◌∙◌, ◌&&◌, ◌||◌, ◌==◌, not, if◌then◌else◌, ne_eqb},
+  Math.ListN.set,
+}
 use Rattle.std.specs.List.{list_any}
-use Rattle.std.proofs.Math.ListN.{set}
-use Rattle.std.proofs.lemmas.Bool.{ne_eqb}
-use Rattle.macsec_suite.specs.declared.key_table.StoredKey.{StoredKey}
-use Rattle.macsec_suite.specs.KeyRows.{InstalledKey, is_extended}
-use Rattle.macsec_suite.specs.KeyTables.{extended_count, stored_row}
-use Rattle.macsec_suite.specs.Suites.{is_xpn}
+use Rattle.macsec_suite.specs.{
+  KeyRows.{InstalledKey, is_extended},
+  KeyTables.{extended_count, stored_row},
+  Suites.is_xpn,
+  declared.key_table.StoredKey.StoredKey,
+}
 
 -- there is such a key if and only if the count is not 0
 pub list_any-count : (rows : List InstalledKey) → list_any is_extended rows ≡ not (extended_count rows == 0)

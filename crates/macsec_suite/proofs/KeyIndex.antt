@@ -1,19 +1,22 @@
 -- The index of a table of keys, and changing the one row that it finds.
-use Rattle.std.proofs.Common.{◌≡◌, ℕ, ◌<◌, ◌+◌, Bool, true, false, cond, List, [], ◌∷◌, ◌++◌, map, length, zero, suc, get_or, refl, sym}
-use Rattle.std.proofs.Common.{ap, ◌∙◌, arith, inl, inr, subst, eq-eqb, get_or-set_other, get_or-set_same, length-append, length-set}
-use Rattle.std.specs.Prelude.{Option, Some, None, IsSome, option_map, slice_get, ◌==◌}
-use Rattle.std.proofs.Math.ListN.{replicate, set}
-use Rattle.std.proofs.lemmas.List.{get_or-replicate, length-map, length-replicate, map-set}
-use Rattle.std.proofs.lemmas.List.Elements.{All-set}
-use Rattle.std.proofs.lemmas.Option.{slice_get-map, slice_get_read, slice_get_within}
-use Rattle.std.proofs.lemmas.Bool.{ne_eqb, eqb-true, eqb-false}
-use Rattle.std.proofs.lemmas.Bool.Decides.{eqb_tells}
-use Rattle.macsec_suite.specs.KeyRows.{AreKeyRows, InstalledKey, IsKeyRow, at_number, key_row, with_key}
-use Rattle.macsec_suite.specs.KeyNumbers.{max_key_count}
-use Rattle.macsec_suite.specs.KeyTables.{HasOwnKey, IsIndex, IsPlace, stored_row}
-use Rattle.macsec_suite.specs.declared.key_table.KeyPlace.{KeyPlace}
-use Rattle.macsec_suite.specs.declared.key_table.StoredKey.{StoredKey}
-use Rattle.macsec_suite.proofs.KeyLemmas.{AreKeyRows-with_key, AreStoredKeys, cond_none, number-at_number}
+use Rattle.std.proofs.{
+  Common.{◌≡◌, ℕ, ◌<◌, ◌+◌, Bool, true, false, cond, List, [], ◌∷◌, ◌++◌, map, length, zero, suc, get_or, refl, sym},
+  Common.{ap, ◌∙◌, arith, inl, inr, subst, eq-eqb, get_or-set_other, get_or-set_same, length-append, length-set},
+  Common.{Option, Some, None, IsSome, option_map, slice_get, ◌==◌, ne_eqb, eqb-true},
+  Math.ListN.{replicate, set},
+  lemmas.Bool.{eqb-false, Decides.eqb_tells},
+  lemmas.List.{get_or-replicate, length-map, length-replicate, map-set, Elements.All-set},
+  lemmas.Option.{slice_get-map, slice_get_read, slice_get_within},
+}
+use Rattle.macsec_suite.{
+  proofs.KeyLemmas.{AreKeyRows-with_key, AreStoredKeys, cond_none, number-at_number},
+  specs.{
+    KeyNumbers.max_key_count,
+    KeyRows.{AreKeyRows, InstalledKey, IsKeyRow, at_number, key_row, with_key},
+    KeyTables.{HasOwnKey, IsIndex, IsPlace, stored_row},
+    declared.key_table.{KeyPlace.KeyPlace, StoredKey.StoredKey},
+  },
+}
 
 -- ---- the index
 

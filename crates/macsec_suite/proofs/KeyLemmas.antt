@@ -1,18 +1,21 @@
 -- Lemmas on the rows of a table of keys.
-use Rattle.std.proofs.Common.{◌≡◌, ℕ, zero, suc, ◌+◌, ◌<◌, ◌≤◌, Bool, true, false, cond, List, [], ◌∷◌, ◌++◌, map, take, get_or, length, refl, sym, ap, ◌∙◌, subst, arith, add-one, eqb, ◌||◌, ◌&&◌, inl, inr}
-use Rattle.std.specs.Prelude.{Option, Some, None, ◌==◌, if◌then◌else◌}
+use Rattle.std.proofs.{
+  Common.{◌≡◌, ℕ, zero, suc, ◌+◌, ◌<◌, ◌≤◌, Bool, true, false, cond, List, [], ◌∷◌, ◌++◌, map, take, get_or, length},
+  Common.{refl, sym, ap, ◌∙◌, subst, arith, add-one, eqb, ◌||◌, ◌&&◌, inl, inr, Option, Some, None, ◌==◌},
+  Common.{if◌then◌else◌, ne_eqb, eqb-true},
+  lemmas.Bool.{eqb-false, Decides.eqb_tells},
+  lemmas.List.{map-append, length-map, Elements.All-push},
+  lemmas.Map.Steps.length-le_from_distinct_below,
+}
 use Rattle.std.specs.List.{All, IsDistinct, AllByRecursion, list_any}
-use Rattle.std.proofs.lemmas.List.{map-append, length-map}
-use Rattle.std.proofs.lemmas.List.Elements.{All-push}
-use Rattle.std.proofs.lemmas.Map.Steps.{length-le_from_distinct_below}
-use Rattle.std.proofs.lemmas.Bool.{ne_eqb, eqb-false, eqb-true}
-use Rattle.std.proofs.lemmas.Bool.Decides.{eqb_tells}
-use Rattle.macsec_suite.specs.KeyRows.{AreKeyRows, InstalledKey, IsKeyRow, at_number, key_row, with_key}
-use Rattle.macsec_suite.specs.KeyNumbers.{max_key_count}
-use Rattle.macsec_suite.specs.Refusals.{has_retired, is_repeated, is_retired_with}
 use Rattle.macsec_gcm.specs.Octets.{same_octets}
-use Rattle.macsec_suite.specs.KeyTables.{HasOwnKey, stored_row}
-use Rattle.macsec_suite.specs.declared.key_table.StoredKey.{StoredKey}
+use Rattle.macsec_suite.specs.{
+  KeyNumbers.max_key_count,
+  KeyRows.{AreKeyRows, InstalledKey, IsKeyRow, at_number, key_row, with_key},
+  KeyTables.{HasOwnKey, stored_row},
+  Refusals.{has_retired, is_repeated, is_retired_with},
+  declared.key_table.StoredKey.StoredKey,
+}
 
 abbrev numbers_of : List InstalledKey → List ℕ
 numbers_of rows = map (λ row. row.number) rows

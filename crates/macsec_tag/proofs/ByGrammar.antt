@@ -1,19 +1,20 @@
 -- Concatenating the parts of a tagged frame gives a frame that passes the reader's tests, and in which the reader finds
 -- the parts by their positions.
-use Rattle.std.proofs.Common.{◌≡◌, ℕ, ◌+◌, ◌-◌, ◌<◌, ◌≤◌, Bool, true, false, List, [], ◌∷◌, ◌++◌, length, take, drop}
-use Rattle.std.proofs.Common.{refl, arith, ap, sym, subst, ◌∙◌, append_assoc, length-append, length-drop, lit≤}
-use Rattle.std.specs.Prelude.{Option, Some, None, is_some, slice_index, slice_range, ◌==◌, nat_lt, if◌then◌else◌, ◌^◌}
-use Rattle.std.specs.Option.{ForSome}
-use Rattle.std.specs.Int.{w32, from_be_bytes}
-use Rattle.std.proofs.lemmas.Nat.{from_be_bytes-to_be_bytes_4}
-use Rattle.std.proofs.lemmas.List.{take_at, drop_at}
-use Rattle.std.proofs.lemmas.Bool.Decides.{nat_tests}
-use Rattle.macsec_tag.specs.declared.identifiers.Sci.{Sci}
-use Rattle.macsec_tag.specs.Tag.{Tag, IsTag, encoding, sci_octets, tci_an, sc_bit}
-use Rattle.macsec_tag.specs.Frame.{MpduParts, in_a_row, HasLengths}
-use Rattle.macsec_tag.specs.Table.{has_bit, sec_tag_at, tag_length_at, after_tag, data_length_at, parts_at}
-use Rattle.macsec_tag.specs.Standing.{StandsAsTagged}
+use Rattle.std.proofs.{
+  Common.{◌≡◌, ℕ, ◌+◌, ◌-◌, ◌<◌, ◌≤◌, Bool, true, false, List, [], ◌∷◌, ◌++◌, length, take, drop, refl, arith, ap, sym},
+  Common.{subst, ◌∙◌, append_assoc, length-append, length-drop, lit≤, Option, Some, None, is_some, slice_index},
+  Common.{slice_range, ◌==◌, nat_lt, if◌then◌else◌, ◌^◌, take_at, drop_at},
+  lemmas.{Bool.Decides.nat_tests, Nat.from_be_bytes-to_be_bytes_4},
+}
+use Rattle.std.specs.{Int.{w32, from_be_bytes}, Option.ForSome}
 use Rattle.macsec_tag.proofs.TciBits.{HasBits, octet_of_has}
+use Rattle.macsec_tag.specs.{
+  Frame.{MpduParts, in_a_row, HasLengths},
+  Standing.StandsAsTagged,
+  Table.{has_bit, sec_tag_at, tag_length_at, after_tag, data_length_at, parts_at},
+  Tag.{Tag, IsTag, encoding, sci_octets, tci_an, sc_bit},
+  declared.identifiers.Sci.Sci,
+}
 
 -- ---- the octets of the tag, by their positions
 

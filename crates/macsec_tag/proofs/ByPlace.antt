@@ -1,23 +1,22 @@
 -- A frame that passes the reader's tests is the concatenation of the parts that are cut from it by position.
-use Rattle.std.proofs.Common.{◌≡◌, ℕ, zero, suc, lit<, ◌+◌, ◌-◌, ◌<◌, ◌≤◌, Bool, true, false, List, [], ◌∷◌, ◌++◌, length, take, drop}
-use Rattle.std.proofs.Common.{refl, arith, ap, sym, subst, ◌∙◌, get_or, append_assoc, length-take, length-drop, Fits, w8}
-use Rattle.std.specs.Prelude.{Option, Some, None, is_some, IsSome, IfSome, slice_index, slice_range, bit_and, ◌==◌, nat_lt, if◌then◌else◌, ◌^◌}
-use Rattle.std.specs.Option.{ForSome}
-use Rattle.std.specs.Int.{w32, to_be_bytes, from_be_bytes}
-use Rattle.std.proofs.lemmas.Nat.{be_bytes_4, and_le_r}
-use Rattle.std.proofs.lemmas.List.Elements.{All-from_get_or}
-use Rattle.std.proofs.lemmas.List.{take-append-drop, drop-take, take_at, length-take-le}
-use Rattle.std.proofs.Math.Seq.{take-add}
-use Rattle.std.proofs.lemmas.Bool.{eqb-true, and_parts}
-use Rattle.std.proofs.lemmas.Bool.Decides.{nat_tests}
-use Rattle.std.proofs.Math.ListN.{drop_of_length-le}
-use Rattle.macsec_tag.specs.declared.identifiers.Sci.{Sci}
-use Rattle.macsec_tag.specs.Tag.{Tag, IsTag, encoding, sci_octets, v_bit, es_bit, sc_bit, scb_bit, e_bit, c_bit}
-use Rattle.macsec_tag.specs.Frame.{in_a_row, HasLengths, IsTagged}
-use Rattle.macsec_tag.specs.Table.{has_bit, sec_tag_at, tag_length_at, after_tag, data_length_at, parts_at}
-use Rattle.macsec_tag.specs.Standing.{StandsAsTagged}
-use Rattle.macsec_tag.specs.Laws.{AreOctets}
+use Rattle.std.proofs.{
+  Common.{◌≡◌, ℕ, zero, suc, lit<, ◌+◌, ◌-◌, ◌<◌, ◌≤◌, Bool, true, false, List, [], ◌∷◌, ◌++◌, length, take, drop},
+  Common.{refl, arith, ap, sym, subst, ◌∙◌, get_or, append_assoc, length-take, length-drop, Fits, w8, Option, Some},
+  Common.{None, is_some, IsSome, IfSome, slice_index, slice_range, bit_and, ◌==◌, nat_lt, if◌then◌else◌, ◌^◌},
+  Common.{take-append-drop, take_at, length-take-le, eqb-true},
+  Math.{ListN.drop_of_length-le, Seq.take-add},
+  lemmas.{Bool.{and_parts, Decides.nat_tests}, List.{drop-take, Elements.All-from_get_or}, Nat.{be_bytes_4, and_le_r}},
+}
+use Rattle.std.specs.{Int.{w32, to_be_bytes, from_be_bytes}, Option.ForSome}
 use Rattle.macsec_tag.proofs.TciBits.{is_set, made_again_is}
+use Rattle.macsec_tag.specs.{
+  Frame.{in_a_row, HasLengths, IsTagged},
+  Laws.AreOctets,
+  Standing.StandsAsTagged,
+  Table.{has_bit, sec_tag_at, tag_length_at, after_tag, data_length_at, parts_at},
+  Tag.{Tag, IsTag, encoding, sci_octets, v_bit, es_bit, sc_bit, scb_bit, e_bit, c_bit},
+  declared.identifiers.Sci.Sci,
+}
 
 -- the elements of a slice of octets are octets
 pub are_octets : (xs : List ℕ) → ((i : ℕ) → Fits w8 (get_or xs i 0)) → AreOctets xs

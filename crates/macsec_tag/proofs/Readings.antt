@@ -1,17 +1,18 @@
 -- The table of positions and the grammar give the same reading of a frame.
-use Rattle.std.proofs.Common.{◌≡◌, ℕ, ◌+◌, ◌<◌, ◌≤◌, Bool, true, false, not, ◌&&◌, ◌||◌, List, length, refl, arith, ap, sym, subst, ◌∙◌}
-use Rattle.std.specs.Prelude.{slice_index, nat_lt, nat_le, if◌then◌else◌, ◌↔◌, Option, Some, None}
-use Rattle.std.proofs.lemmas.Bool.{ltb-false, leb-false, le-ltb, lt-leb, lt-ltb}
-use Rattle.std.proofs.lemmas.Bool.Decides.{nat_tests}
-use Rattle.macsec_tag.specs.declared.fault.TagFault.{TagFault}
-use Rattle.macsec_tag.specs.declared.fault.TagFault.TheVariants.{Cut, Version, SciBits, ShortBits, Length}
-use Rattle.macsec_tag.specs.Tag.{v_bit, es_bit, sc_bit, scb_bit}
-use Rattle.macsec_tag.specs.Frame.{MpduParts, IsTagged, IsUntagged, in_a_row, has_macsec_ethertype}
-use Rattle.macsec_tag.specs.Table.{Reading, untagged, bad, tagged, reading, reading_with, tag_fault, has_bit, parts_at, has_wrong_length}
-use Rattle.macsec_tag.specs.Standing.{StandsAsTagged}
-use Rattle.macsec_tag.specs.Laws.{AreOctets, OneReading, ReadAgain, ReadsByGrammar}
-use Rattle.macsec_tag.proofs.ByPlace.{tagged_by}
-use Rattle.macsec_tag.proofs.ByGrammar.{parts_is, stands_by}
+use Rattle.std.proofs.{
+  Common.{◌≡◌, ℕ, ◌+◌, ◌<◌, ◌≤◌, Bool, true, false, not, ◌&&◌, ◌||◌, List, length, refl, arith, ap, sym, subst, ◌∙◌},
+  Common.{slice_index, nat_lt, nat_le, if◌then◌else◌, ◌↔◌, Option, Some, None, ltb-false, leb-false, le-ltb, lt-ltb},
+  lemmas.Bool.{lt-leb, Decides.nat_tests},
+}
+use Rattle.macsec_tag.proofs.{ByGrammar.{parts_is, stands_by}, ByPlace.tagged_by}
+use Rattle.macsec_tag.specs.{
+  Frame.{MpduParts, IsTagged, IsUntagged, in_a_row, has_macsec_ethertype},
+  Laws.{AreOctets, OneReading, ReadAgain, ReadsByGrammar},
+  Standing.StandsAsTagged,
+  Table.{Reading, untagged, bad, tagged, reading, reading_with, tag_fault, has_bit, parts_at, has_wrong_length},
+  Tag.{v_bit, es_bit, sc_bit, scb_bit},
+  declared.fault.TagFault.{TagFault, TheVariants.{Cut, Version, SciBits, ShortBits, Length}},
+}
 
 -- ---- by the table
 

@@ -1,9 +1,10 @@
 -- The octet of TCI and AN from its bits, and the bits from the octet. Both directions are proved by tables that antt
 -- computes.
-use Rattle.std.proofs.Common.{◌≡◌, ℕ, zero, suc, ◌+◌, ◌<◌, Bool, true, false, not, ◌&&◌, refl, arith, inl, inr}
-use Rattle.std.specs.Prelude.{◌==◌, bit_and, ◌||◌}
-use Rattle.std.proofs.lemmas.Bool.{eqb-true, and_parts}
-use Rattle.std.proofs.lemmas.Bool.Decides.{eqb_tells}
+use Rattle.std.proofs.{
+  Common.{◌≡◌, ℕ, zero, suc, ◌+◌, ◌<◌, Bool, true, false, not, ◌&&◌, refl, arith, inl, inr, ◌==◌, bit_and, ◌||◌},
+  Common.eqb-true,
+  lemmas.Bool.{and_parts, Decides.eqb_tells},
+}
 use Rattle.macsec_tag.specs.Tag.{bit_where, v_bit, es_bit, sc_bit, scb_bit, e_bit, c_bit}
 
 -- ---- tests by a table

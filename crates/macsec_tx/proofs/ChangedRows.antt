@@ -1,14 +1,19 @@
 -- Changes keep the invariant of a transmit SC's rows.
-use Rattle.std.proofs.Common.{◌≡◌, ℕ, zero, suc, ◌<◌, Bool, true, false, cond, List, [], ◌∷◌, map, set, length, refl, arith, sym, ap, subst, drop, eq-eqb, ◌∙◌}
-use Rattle.std.specs.Prelude.{Some, None, IfSome, ◌==◌, ◌^◌, slice_get, if◌then◌else◌}
+use Rattle.std.proofs.{
+  Common.{◌≡◌, ℕ, zero, suc, ◌<◌, Bool, true, false, cond, List, [], ◌∷◌, map, set, length, refl, arith, sym, ap},
+  Common.{subst, drop, eq-eqb, ◌∙◌, Some, None, IfSome, ◌==◌, ◌^◌, slice_get, if◌then◌else◌, take_at, eqb-true, ne_eqb},
+  lemmas.Bool.eqb-false,
+}
 use Rattle.std.specs.List.{refill, filter}
-use Rattle.std.proofs.lemmas.List.{take_at}
-use Rattle.std.proofs.lemmas.Bool.{eqb-false, eqb-true, ne_eqb}
-use Rattle.macsec_tx.specs.declared.TxRow.{TxRow}
-use Rattle.macsec_tx.specs.Transmit.{tx_row, next_used, used_at}
-use Rattle.macsec_tx.specs.Rows.{AreTxRows, IsTxRow}
-use Rattle.macsec_tx.specs.Commands.{off_at, switch_to}
-use Rattle.macsec_tx.proofs.TxRows.{none_found}
+use Rattle.macsec_tx.{
+  proofs.TxRows.none_found,
+  specs.{
+    Commands.{off_at, switch_to},
+    Rows.{AreTxRows, IsTxRow},
+    Transmit.{tx_row, next_used, used_at},
+    declared.TxRow.TxRow,
+  },
+}
 
 -- a change that keeps numbers leaves a free number free
 tx_row-map_none : (f : TxRow → TxRow) → ((row : TxRow) → (f row).an ≡ row.an) → (rows : List TxRow) (an : ℕ) → tx_row rows an ≡ None → tx_row (map f rows) an ≡ None

@@ -1,14 +1,18 @@
 -- Noting a used packet number keeps each key as it was prepared.
-use Rattle.std.proofs.Common.{◌≡◌, ℕ, Bool, true, false, List, [], ◌∷◌, refl, ap, sym, ◌∙◌}
-use Rattle.std.specs.Prelude.{◌==◌, if◌then◌else◌, Some, unwrap_or}
-use Rattle.macsec_suite.specs.Keys.{PreparedKey}
-use Rattle.macsec_tx.specs.declared.SealJob.{SealJob}
-use Rattle.macsec_tx.specs.declared.TxPlan.{TxPlan}
-use Rattle.macsec_tx.specs.declared.TxPlan.TheVariants.{Plain, Job, NoSa, TooLong}
-use Rattle.macsec_tx.specs.Transmit.{Leaving, protected}
-use Rattle.macsec_tx.specs.Answers.{PlansLeaving, Seals, frame_sealed}
-use Rattle.macsec_suite.specs.KeyRows.{InstalledKey, at_number, key_row, keys_noting, no_key, prepared_key, row_noting, the_key}
-use Rattle.macsec_suite.proofs.KeyIndex.{IsPlace-with_key}
+use Rattle.{
+  std.proofs.Common.{◌≡◌, ℕ, Bool, true, false, List, [], ◌∷◌, refl, ap, sym, ◌∙◌, ◌==◌, if◌then◌else◌, Some},
+  std.proofs.Common.unwrap_or,
+  macsec_suite.{
+    proofs.KeyIndex.IsPlace-with_key,
+    specs.KeyRows.{InstalledKey, at_number, key_row, keys_noting, no_key, prepared_key, row_noting, the_key},
+    specs.Keys.PreparedKey,
+  },
+  macsec_tx.specs.{
+    Answers.{PlansLeaving, Seals, frame_sealed},
+    Transmit.{Leaving, protected},
+    declared.{SealJob.SealJob, TxPlan.{TxPlan, TheVariants.{Plain, Job, NoSa, TooLong}}},
+  },
+}
 
 -- the row, with the packet number noted or not, has the same number and the same prepared key
 record IsSameKey (row other : InstalledKey) : Type 0 where

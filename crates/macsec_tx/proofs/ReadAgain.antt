@@ -1,27 +1,34 @@
 -- Reading a protected frame gives the parts that were sent.
-use Rattle.std.proofs.Common.{◌≡◌, ℕ, ◌+◌, ◌-◌, ◌<◌, ◌≤◌, Bool, true, false, List, [], ◌++◌, length, take, drop, refl, ap, sym, ◌∙◌, arith, length-take, length-drop, length-append}
-use Rattle.std.specs.Prelude.{Some, None, slice_range, if◌then◌else◌}
-use Rattle.std.specs.Option.{ForSome}
-use Rattle.std.proofs.lemmas.Bool.Decides.{nat_tests}
-use Rattle.std.proofs.lemmas.List.{take-append-drop}
-use Rattle.macsec_gcm.specs.Gcm.{seal_of}
-use Rattle.macsec_gcm.specs.Laws.{SealedLengths}
-use Rattle.macsec_tag.specs.declared.identifiers.Sci.{Sci}
-use Rattle.macsec_tag.specs.Tag.{Tag, encoding}
-use Rattle.macsec_tag.specs.Frame.{HasLengths, MpduParts, in_a_row}
-use Rattle.macsec_tag.specs.Laws.{ReadAgain}
-use Rattle.macsec_suite.specs.Keys.{PreparedKey}
-use Rattle.macsec_suite.specs.KeyRows.{InstalledKey, prepared_key}
-use Rattle.macsec_suite.specs.Parts.{aad_and_plaintext, clear_length}
-use Rattle.macsec_suite.specs.Suites.{iv_of}
-use Rattle.macsec_commands.specs.declared.form.TagForm.{TagForm}
+use Rattle.{
+  std.proofs.{
+    Common.{◌≡◌, ℕ, ◌+◌, ◌-◌, ◌<◌, ◌≤◌, Bool, true, false, List, [], ◌++◌, length, take, drop, refl, ap, sym, ◌∙◌},
+    Common.{arith, length-take, length-drop, length-append, Some, None, slice_range, if◌then◌else◌, take-append-drop},
+    lemmas.Bool.Decides.nat_tests,
+  },
+  std.specs.Option.ForSome,
+  macsec_gcm.specs.{Gcm.seal_of, Laws.SealedLengths},
+  macsec_tag.specs.{
+    Frame.{HasLengths, MpduParts, in_a_row},
+    Laws.ReadAgain,
+    Tag.{Tag, encoding},
+    declared.identifiers.Sci.Sci,
+  },
+  macsec_suite.specs.{
+    KeyRows.{InstalledKey, prepared_key},
+    Keys.PreparedKey,
+    Parts.{aad_and_plaintext, clear_length},
+    Suites.iv_of,
+  },
+  macsec_commands.specs.declared.form.TagForm.TagForm,
+  macsec_tx.proofs.SentTags.is_tag,
+  macsec_tx.specs.{
+    Laws.{CanBeSent, IsReadAsSent},
+    Tags.{is_own, sci_sent, sl_of},
+    Transmit.{parts_under, tag_sent},
+    declared.{TxOptions.TxOptions, TxRow.TxRow},
+  },
+}
 use Rattle.macsec_commands.specs.declared.form.TagForm.TheVariants as form
-use Rattle.macsec_tx.specs.declared.TxOptions.{TxOptions}
-use Rattle.macsec_tx.specs.declared.TxRow.{TxRow}
-use Rattle.macsec_tx.specs.Tags.{is_own, sci_sent, sl_of}
-use Rattle.macsec_tx.specs.Transmit.{parts_under, tag_sent}
-use Rattle.macsec_tx.specs.Laws.{CanBeSent, IsReadAsSent}
-use Rattle.macsec_tx.proofs.SentTags.{is_tag}
 
 -- ---- the SCI that the tag carries has 8 octets
 

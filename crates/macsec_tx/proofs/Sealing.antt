@@ -1,15 +1,20 @@
 -- A frame protected in place is its parts concatenated.
-use Rattle.std.proofs.Common.{◌≡◌, ℕ, ◌+◌, ◌-◌, ◌≤◌, Bool, List, [], ◌++◌, length, take, drop, ap, sym, ◌∙◌, arith, append_assoc, append-nil, length-take, length-drop}
-use Rattle.std.specs.Prelude.{slice_range}
-use Rattle.std.proofs.Math.Seq.{take-add}
-use Rattle.macsec_gcm.specs.Gcm.{seal_of}
-use Rattle.macsec_tag.specs.Tag.{Tag, encoding}
-use Rattle.macsec_tag.specs.Frame.{in_a_row}
-use Rattle.macsec_suite.specs.Keys.{PreparedKey}
-use Rattle.macsec_suite.specs.Parts.{aad_and_plaintext, clear_length}
-use Rattle.macsec_suite.specs.InPlace.{clear_and_rest, protected_octets}
-use Rattle.macsec_suite.specs.Laws.{PartsInPlace}
-use Rattle.macsec_tx.specs.Transmit.{parts_under}
+use Rattle.{
+  std.proofs.{
+    Common.{◌≡◌, ℕ, ◌+◌, ◌-◌, ◌≤◌, Bool, List, [], ◌++◌, length, take, drop, ap, sym, ◌∙◌, arith, append_assoc},
+    Common.{append-nil, length-take, length-drop, slice_range},
+    Math.Seq.take-add,
+  },
+  macsec_gcm.specs.Gcm.seal_of,
+  macsec_tag.specs.{Frame.in_a_row, Tag.{Tag, encoding}},
+  macsec_suite.specs.{
+    InPlace.{clear_and_rest, protected_octets},
+    Keys.PreparedKey,
+    Laws.PartsInPlace,
+    Parts.{aad_and_plaintext, clear_length},
+  },
+  macsec_tx.specs.Transmit.parts_under,
+}
 
 -- the authenticated octets, the ciphertext and the tag, concatenated
 abbrev sealed_row : PreparedKey → List ℕ → List ℕ × List ℕ → List ℕ

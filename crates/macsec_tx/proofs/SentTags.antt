@@ -1,16 +1,20 @@
 -- The SecTAG of a frame that is sent is valid.
-use Rattle.std.proofs.Common.{◌≡◌, ℕ, ◌<◌, ◌-◌, List, length, Bool, true, false, refl, arith}
-use Rattle.std.specs.Prelude.{Some, None, IsSome, slice_range, if◌then◌else◌}
-use Rattle.std.specs.Option.{ForSome}
-use Rattle.std.proofs.lemmas.Bool.Decides.{nat_tests}
-use Rattle.macsec_tag.specs.declared.identifiers.Sci.{Sci}
-use Rattle.macsec_tag.specs.Tag.{IsTag}
-use Rattle.macsec_commands.specs.declared.form.TagForm.{TagForm}
+use Rattle.{
+  std.proofs.{
+    Common.{◌≡◌, ℕ, ◌<◌, ◌-◌, List, length, Bool, true, false, refl, arith, Some, None, IsSome, slice_range},
+    Common.{if◌then◌else◌},
+    lemmas.Bool.Decides.nat_tests,
+  },
+  std.specs.Option.ForSome,
+  macsec_tag.specs.{Tag.IsTag, declared.identifiers.Sci.Sci},
+  macsec_commands.specs.declared.form.TagForm.TagForm,
+  macsec_tx.specs.{
+    Tags.{es_sent, is_own, scb_sent, sci_sent, sl_of},
+    Transmit.tag_sent,
+    declared.{TxOptions.TxOptions, TxRow.TxRow},
+  },
+}
 use Rattle.macsec_commands.specs.declared.form.TagForm.TheVariants as form
-use Rattle.macsec_tx.specs.declared.TxOptions.{TxOptions}
-use Rattle.macsec_tx.specs.declared.TxRow.{TxRow}
-use Rattle.macsec_tx.specs.Tags.{es_sent, is_own, scb_sent, sci_sent, sl_of}
-use Rattle.macsec_tx.specs.Transmit.{tag_sent}
 
 -- SL is below 48
 short : (n : ℕ) → sl_of n < 48

@@ -1,14 +1,12 @@
 -- Lemmas on the rows of a transmit SC: their numbers, their space, and finding them.
-use Rattle.std.proofs.Common.{◌≡◌, ℕ, suc, ◌<◌, ◌≤◌, ◌+◌, Bool, true, false, cond, List, [], ◌∷◌, ◌++◌, map, length, refl, arith, eqb, sym, ap, ◌||◌, inl, inr, drop, get_or, ◌∙◌}
-use Rattle.std.specs.Prelude.{Option, Some, None, is_some, ◌==◌, if◌then◌else◌}
+use Rattle.std.proofs.{
+  Common.{◌≡◌, ℕ, suc, ◌<◌, ◌≤◌, ◌+◌, Bool, true, false, cond, List, [], ◌∷◌, ◌++◌, map, length, refl, arith, eqb, sym},
+  Common.{ap, ◌||◌, inl, inr, drop, get_or, ◌∙◌, Option, Some, None, is_some, ◌==◌, if◌then◌else◌, ne_eqb, eq-eqb},
+  Common.eqb-true,
+  lemmas.{Bool.{eqb-false, Decides.eqb_tells}, List.drop_more, Map.Steps.length-le_from_distinct_below},
+}
 use Rattle.std.specs.List.{IsDistinct, AllByRecursion, list_any}
-use Rattle.std.proofs.lemmas.List.{drop_more}
-use Rattle.std.proofs.lemmas.Map.Steps.{length-le_from_distinct_below}
-use Rattle.std.proofs.lemmas.Bool.{ne_eqb, eq-eqb, eqb-false, eqb-true}
-use Rattle.std.proofs.lemmas.Bool.Decides.{eqb_tells}
-use Rattle.macsec_tx.specs.declared.TxRow.{TxRow}
-use Rattle.macsec_tx.specs.Transmit.{tx_row, row_on}
-use Rattle.macsec_tx.specs.Rows.{AreTxRows, IsTxRow}
+use Rattle.macsec_tx.specs.{Rows.{AreTxRows, IsTxRow}, Transmit.{tx_row, row_on}, declared.TxRow.TxRow}
 
 -- an SC without SAs has the invariant
 pub AreTxRows-nil : AreTxRows []

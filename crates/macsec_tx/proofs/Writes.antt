@@ -1,7 +1,8 @@
 -- The first octets of a list after a write.
-use Rattle.std.proofs.Common.{◌≡◌, ◌≤◌, ◌+◌, ◌++◌, ℕ, List, length, take, sym, ap, ◌∙◌, arith}
-use Rattle.std.proofs.lemmas.List.{append_assoc, length-append, length-take-le}
-use Rattle.std.proofs.Math.Seq.{take-append_seam, take-append-add}
+use Rattle.std.proofs.{
+  Common.{◌≡◌, ◌≤◌, ◌+◌, ◌++◌, ℕ, List, length, take, sym, ap, ◌∙◌, arith, append_assoc, length-append, length-take-le},
+  Math.Seq.{take-append_seam, take-append-add},
+}
 use borrow.Rule.Slice.PartMut.{put_mid, post_of}
 
 -- after a write, the front of what was written follows the octets before it

@@ -1,10 +1,12 @@
 -- Octets that are written in several pieces.
-use Rattle.std.proofs.Common.{◌≡◌, ℕ, ◌-◌, List, [], ◌++◌, length, take, drop, sym, ap, subst, ◌∙◌, append_assoc, append-nil, take-append-drop}
-use Rattle.std.specs.Prelude.{Option}
+use Rattle.std.proofs.{
+  Common.{◌≡◌, ℕ, ◌-◌, List, [], ◌++◌, length, take, drop, sym, ap, subst, ◌∙◌, append_assoc, append-nil},
+  Common.{take-append-drop, Option},
+  KnownBytes.{Appends-kept, Appends-trans},
+  Transfers.starts_with_of_append,
+  lemmas.List.take_rest,
+}
 use Rattle.std.specs.Io.KnownBytes.{Appends, Keeps}
-use Rattle.std.proofs.KnownBytes.{Appends-kept, Appends-trans}
-use Rattle.std.proofs.Transfers.{starts_with_of_append}
-use Rattle.std.proofs.lemmas.List.{take_rest}
 use Rattle.macsec_writes.specs.Fronts.{AppendsFront}
 
 -- the octets before the rest were written

@@ -1,7 +1,7 @@
-use Rattle.std.proofs.Common.{◌≡◌, ◌-◌, ◌/◌, ◌%◌, ◌<◌, eqb, true, eq-eqb, ◌∙◌, refl}
-use Rattle.macsec_aes.specs.Aes.{added_word, rot_word}
-use Rattle.macsec_aes.proofs.Tables.{ROUND_CONSTANTS_at}
-use Rattle.macsec_aes.proofs.Expansion.{quotient_small}
+use Rattle.{
+  std.proofs.Common.{◌≡◌, ◌-◌, ◌/◌, ◌%◌, ◌<◌, eqb, true, eq-eqb, ◌∙◌, refl},
+  macsec_aes.{proofs.{Expansion.quotient_small, Tables.ROUND_CONSTANTS_at}, specs.Aes.{added_word, rot_word}},
+}
 use Rattle.macsec_aes.proofs.added_word.Goals as goal
 
 pub returns-then-i-key_words-eq0 : goal.returns-then-i-key_words-eq0

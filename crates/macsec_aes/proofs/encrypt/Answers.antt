@@ -1,8 +1,9 @@
 -- The state after each round is as defined, and the block after the last round is `aes`. Proved from the loop's
 -- invariant: one more round is one more step of `after_rounds`.
-use Rattle.std.proofs.Common.{◌≡◌, ◌+◌, ◌-◌, arith, rules, sym, refl}
-use Rattle.macsec_aes.specs.Aes.{aes, after_rounds, schedule_of}
-use Rattle.macsec_aes.proofs.Expansion.{after_rounds_next}
+use Rattle.{
+  std.proofs.Common.{◌≡◌, ◌+◌, ◌-◌, arith, rules, sym, refl},
+  macsec_aes.{proofs.Expansion.after_rounds_next, specs.Aes.{aes, after_rounds, schedule_of}},
+}
 use Rattle.macsec_aes.proofs.encrypt.Goals as goal
 
 pub loop-round-init : goal.loop-round-init

@@ -1,6 +1,7 @@
-use Rattle.std.proofs.Common.{inl, inr, arith}
-use Rattle.std.proofs.lemmas.Bool.Decides.{eqb_tells}
-use Rattle.macsec_aes.proofs.SBox.{differ_is_0, differ_is_1}
+use Rattle.{
+  std.proofs.{Common.{inl, inr, arith}, lemmas.Bool.Decides.eqb_tells},
+  macsec_aes.proofs.SBox.{differ_is_0, differ_is_1},
+}
 use Rattle.macsec_aes.proofs.entry_if_same.Goals as goal
 
 pub returns : goal.returns

@@ -1,6 +1,4 @@
-use Rattle.std.proofs.Common.{◌≡◌, ◌-◌, length, take}
-use Rattle.macsec_aes.specs.Aes.{key_expansion}
-use Rattle.macsec_aes.proofs.Expansion.{words_of}
+use Rattle.{std.proofs.Common.{◌≡◌, ◌-◌, length, take}, macsec_aes.{proofs.Expansion.words_of, specs.Aes.key_expansion}}
 use Rattle.macsec_aes.proofs.expand_bytes.Given as goal
 
 -- the first i words are the key's

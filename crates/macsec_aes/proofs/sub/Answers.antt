@@ -1,6 +1,4 @@
-use Rattle.std.proofs.Common.{◌<◌, arith, ◌∙◌}
-use Rattle.std.proofs.lemmas.Bool.{lt-ltb}
-use Rattle.macsec_aes.proofs.SBox.{S_BOX_at}
+use Rattle.{std.proofs.Common.{◌<◌, arith, ◌∙◌, lt-ltb}, macsec_aes.proofs.SBox.S_BOX_at}
 use Rattle.macsec_aes.proofs.sub.Goals as goal
 
 pub returns : goal.returns

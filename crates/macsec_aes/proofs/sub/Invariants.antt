@@ -1,6 +1,4 @@
-use Rattle.std.proofs.Common.{◌≡◌, get_or}
-use Rattle.std.specs.Prelude.{nat_lt, if◌then◌else◌}
-use Rattle.macsec_aes.specs.declared.TheConstants.{S_BOX}
+use Rattle.{std.proofs.Common.{◌≡◌, get_or, nat_lt, if◌then◌else◌}, macsec_aes.specs.declared.TheConstants.S_BOX}
 use Rattle.macsec_aes.proofs.sub.Given as goal
 
 -- the entry of a, once the loop is past it

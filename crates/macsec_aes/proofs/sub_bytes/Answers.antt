@@ -1,7 +1,7 @@
-use Rattle.std.proofs.Common.{◌≡◌, get_or, rules}
-use Rattle.macsec_aes.specs.Aes.{sub_bytes, entry}
-use Rattle.macsec_aes.specs.Field.{s_box}
-use Rattle.macsec_aes.proofs.States.{table_is, place}
+use Rattle.{
+  std.proofs.Common.{◌≡◌, get_or, rules},
+  macsec_aes.{proofs.States.{table_is, place}, specs.{Aes.{sub_bytes, entry}, Field.s_box}},
+}
 use Rattle.macsec_aes.proofs.sub_bytes.Goals as goal
 
 pub returns : goal.returns

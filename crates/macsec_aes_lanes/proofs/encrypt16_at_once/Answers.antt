@@ -1,9 +1,10 @@
 -- As for `encrypt8`, of both halves.
-use Rattle.std.proofs.Common.{◌≡◌, ◌<◌, ◌+◌, ◌-◌, ◌*◌, ◌/◌, ◌%◌, ◌∙◌, arith, sym, refl, subst, [], List, ℕ, slice_index_or}
-use Rattle.macsec_aes.specs.Aes.{aes, after_rounds, round_key, schedule_of}
-use Rattle.macsec_aes_lanes.specs.AffineConstant.{kept_round_key}
-use Rattle.macsec_aes_lanes.proofs.ConstantKept.{kept_first, kept_from_one, mix_columns_keeps, round_key_cancels, shift_rows_keeps}
-use Rattle.macsec_aes_lanes.proofs.Rounds.{after_rounds_next, of_halves, same_elements}
+use Rattle.macsec_aes_lanes.proofs.{
+  Names.{[], ◌%◌, ◌*◌, ◌+◌, ◌-◌, ◌/◌, ◌<◌, ◌∙◌, ◌≡◌, aes, after_rounds, arith, kept_round_key, List, refl, round_key},
+  Names.{schedule_of, slice_index_or, subst, sym, ℕ},
+  ConstantKept.{kept_first, kept_from_one, mix_columns_keeps, round_key_cancels, shift_rows_keeps},
+  Rounds.{after_rounds_next, of_halves, same_elements},
+}
 use Rattle.macsec_aes_lanes.proofs.encrypt16_at_once.Goals as goal
 
 pub loop-round-init : goal.loop-round-init

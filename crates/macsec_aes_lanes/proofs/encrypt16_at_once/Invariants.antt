@@ -1,6 +1,5 @@
-use Rattle.std.proofs.Common.{◌≡◌, ◌+◌, ◌-◌, ◌*◌, ◌<◌, ℕ, [], slice_index_or}
-use Rattle.macsec_aes.specs.Aes.{after_rounds, schedule_of}
-use Rattle.macsec_aes_lanes.specs.Wide.{block_in_half}
+use Rattle.macsec_aes_lanes.proofs.Names.{[], ◌*◌, ◌+◌, ◌-◌, ◌<◌, ◌≡◌, after_rounds, block_in_half, schedule_of}
+use Rattle.macsec_aes_lanes.proofs.Names.{slice_index_or, ℕ}
 use Rattle.macsec_aes_lanes.proofs.encrypt16_at_once.Given as goal
 
 -- before round r the state of each block is the one after r - 1 rounds

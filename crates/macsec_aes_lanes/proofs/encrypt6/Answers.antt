@@ -1,13 +1,13 @@
 -- The state of each block after each round is as defined.
-use Rattle.std.proofs.Common.{◌≡◌, ◌<◌, ◌+◌, ◌-◌, ◌*◌, ◌∙◌, arith, ap, sym, refl, [], ◌∷◌, List, ℕ, slice_index, slice_index_or}
-use Rattle.macsec_aes.specs.Aes.{add_round_key, aes, after_rounds, mix_columns, round_key, rounds_of, schedule_of, shift_rows, sub_bytes}
-use Rattle.macsec_aes_lanes.specs.AffineConstant.{kept_round_key, with_constant}
-use Rattle.macsec_aes_lanes.specs.Lanes.{lane_at}
-use Rattle.macsec_aes_lanes.specs.Nibbles.{block_in, state_in}
-use Rattle.macsec_aes_lanes.proofs.Below.{below_two, below_six}
-use Rattle.macsec_aes_lanes.proofs.ConstantKept.{kept_first, kept_from_one, mix_columns_keeps, round_key_cancels, shift_rows_keeps}
-use Rattle.macsec_aes_lanes.proofs.NibbleRounds.{of_blocks}
-use Rattle.macsec_aes_lanes.proofs.Rounds.{after_rounds_next, same_elements}
+use Rattle.macsec_aes_lanes.proofs.{
+  Names.{[], ◌*◌, ◌+◌, ◌-◌, ◌<◌, ◌∙◌, ◌∷◌, ◌≡◌, add_round_key, aes, after_rounds, ap, arith, block_in, kept_round_key},
+  Names.{lane_at, List, mix_columns, refl, round_key, rounds_of, schedule_of, shift_rows, slice_index, slice_index_or},
+  Names.{state_in, sub_bytes, sym, with_constant, ℕ},
+  Below.{below_two, below_six},
+  ConstantKept.{kept_first, kept_from_one, mix_columns_keeps, round_key_cancels, shift_rows_keeps},
+  NibbleRounds.of_blocks,
+  Rounds.{after_rounds_next, same_elements},
+}
 use Rattle.macsec_aes_lanes.proofs.encrypt6.Goals as goal
 
 -- the first AddRoundKey

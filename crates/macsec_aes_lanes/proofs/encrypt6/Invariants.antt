@@ -1,6 +1,5 @@
-use Rattle.std.proofs.Common.{◌≡◌, ◌+◌, ◌-◌, ◌<◌, ℕ, [], slice_index_or}
-use Rattle.macsec_aes.specs.Aes.{after_rounds, schedule_of}
-use Rattle.macsec_aes_lanes.specs.Nibbles.{state_in}
+use Rattle.macsec_aes_lanes.proofs.Names.{[], ◌+◌, ◌-◌, ◌<◌, ◌≡◌, after_rounds, schedule_of, slice_index_or, state_in}
+use Rattle.macsec_aes_lanes.proofs.Names.{ℕ}
 use Rattle.macsec_aes_lanes.proofs.encrypt6.Given as goal
 
 -- before round r the state of each block is the one after r - 1 rounds

@@ -1,19 +1,22 @@
 -- Premises that the law of acceptance needs: for each of these there is a run in which the others hold and the frame
 -- does not pass.
-use Rattle.macsec_counterexamples.proofs.Link.Names.{◌≡◌, ◌≢◌, inl, ℕ, ◌+◌, ◌-◌, ◌^◌, ◌<◌, ◌≤◌, true, false, List, [], ◌∷◌, ◌++◌, length, refl, ap}
-use Rattle.macsec_counterexamples.proofs.Link.Names.{arith, subst, sym, ◌∙◌, replicate, slice_get, Option, Some, None, Result, Ok, take_all, take_at}
-use Rattle.macsec_counterexamples.proofs.Link.Names.{Sci, MpduParts, in_a_row, Suite, InstalledKey, the_key, is_xpn, TxRow, iv_sent, parts_sent}
-use Rattle.macsec_counterexamples.proofs.Link.Names.{tag_sent, Disabled, RxRow, Verdict, BadTag, Late, NoSaError, Passed, Unchecked, in_use, sci_of}
-use Rattle.macsec_counterexamples.proofs.Link.Names.{RxLow, RxOff, RxSc, Validate, EndConfig, CanAccept, new_channel_counters, State, first_options}
-use Rattle.macsec_counterexamples.proofs.Link.Names.{no_rx_counters, start, tx_options, frame_fault, sending_of, End, A, B, Event, Command, Deliver}
-use Rattle.macsec_counterexamples.proofs.Link.Names.{Send, Outcome, Heard, WorldFault, IsDeliveredAs, IsOnLink, world_after, world_at, world_step}
-use Rattle.macsec_counterexamples.proofs.Link.Names.{WorldState, end_of, new_world, other_end, fault_of, Trace}
+use Rattle.macsec_commands.specs.declared.{command.Command.TheVariants.RxOff, mode.Mode.TheVariants.Disabled}
+use Rattle.macsec_rx.specs.{Judge.{in_use, sci_of}, declared.Verdict.TheVariants.{BadTag, Late, NoSaError, Unchecked}}
+use Rattle.macsec_link.specs.Acceptance.{IsDeliveredAs}
+use Rattle.macsec_counterexamples.proofs.{
+  Names.{[], ◌++◌, ◌+◌, ◌-◌, ◌<◌, ◌^◌, ◌∙◌, ◌∷◌, ◌≡◌, ◌≢◌, ◌≤◌, A, ap, arith, B, CanAccept, Command, Deliver, End},
+  Names.{end_of, EndConfig, Event, false, fault_of, first_options, frame_fault, Heard, in_a_row, inl, InstalledKey},
+  Names.{is_xpn, IsOnLink, iv_sent, length, List, MpduParts, new_channel_counters, new_world, no_rx_counters, None, Ok},
+  Names.{Option, other_end, Outcome, parts_sent, Passed, refl, replicate, Result, rx_row, RxLow, RxRow, RxSc, Sci},
+  Names.{Send, sending_of, slice_get, Some, start, State, subst, Suite, sym, tag_sent, take_all, take_at, the_key},
+  Names.{Trace, true, tx_options, TxRow, Validate, Verdict, world_after, world_at, world_step, WorldFault, WorldState},
+  Names.ℕ,
+  Link.SealedFrames.{aad_sent, frame_with, sealed, tag_of, with_tag},
+  Link.TracedSteps.{send_step, sent_by, trace_sent},
+  Link.WorkedEnds.{Fails, client, counts, gcm_a, gcm_b, installed_key, log, new_key, no_salt, receives_from, rx_from},
+  Link.WorkedEnds.{sci_a, sends_from, tx_from, xpn_a, xpn_b},
+}
 use Rattle.macsec_commands.specs.declared.form.TagForm.TheVariants as form
-use Rattle.macsec_rx.specs.Channels.{rx_row}
-use Rattle.macsec_counterexamples.proofs.Link.SealedFrames.{Sealed, aad_sent, frame_with, sealed, tag_of, with_tag}
-use Rattle.macsec_counterexamples.proofs.Link.TracedSteps.{send_step, sent_by, trace_sent}
-use Rattle.macsec_counterexamples.proofs.Link.WorkedEnds.{Fails, client, counts, gcm_a, gcm_b, installed_key, log, new_key, no_salt}
-use Rattle.macsec_counterexamples.proofs.Link.WorkedEnds.{receives_from, rx_from, sci_a, sends_from, tx_from, xpn_a, xpn_b}
 
 -- the names of the premises
 pub data Premise : Type 0 where
@@ -90,7 +93,7 @@ module _ (left_out : Premise) (a b : EndConfig) (commands : List Event) (w : Wor
   sent = commands ++ Send A client ∷ []
 
   at_sending : world_at a b sent (length commands) ≡ w
-  at_sending = ap (world_after (new_world a b)) (take_at commands (Send A client ∷ []) (length commands) refl) ∙ before
+  at_sending = rw (take_at commands (Send A client ∷ []) (length commands) refl, before)
 
   after_sending : world_at a b sent (length sent) ≡ world_sent w tx frame
   after_sending =
@@ -150,8 +153,8 @@ frame_from a next tag = frame_with (tag_sent (tx_options (start a)) (tx_from nex
 
 pub seals_as_frame : (a : EndConfig) (next : ℕ) → in_a_row (parts_sent (tx_options (start a)) (key_row a.suite 1) (tx_from next) client) ≡ frame_from a next (tag_from a next)
 seals_as_frame a next =
-    ap (λ (it : Sealed). frame_with (tag_sent (tx_options (start a)) (tx_from next) client) client it)
-    (sealed (replicate 16 7) (iv_sent (tx_options (start a)) (key_row a.suite 1) (tx_from next)) (aad_sent (tx_options (start a)) (key_row a.suite 1) (tx_from next) client))
+    rw (sealed (replicate 16 7) (iv_sent (tx_options (start a)) (key_row a.suite 1) (tx_from next))
+    (aad_sent (tx_options (start a)) (key_row a.suite 1) (tx_from next) client))
 
 -- P holds of each premise but one
 pub each_but : (P : Premise → Type 0) (left_out : Premise) → (Validates ≢ left_out → P Validates) → (ReadsSci ≢ left_out → P ReadsSci) → (IsOn ≢ left_out → P IsOn) →
@@ -186,7 +189,7 @@ validation_needed = (
   refl,
   fails_by Validates gcm_a gcm_b (commands_of 1 1 (Command B (Validate Disabled) ∷ [])) (world_before gcm_a 1 disabled) (tx_from 1) (rx_from 1)
       (frame_from gcm_a 1 (tag_from gcm_a 1))
-      refl refl refl (ap (sent_by (tx_from 1)) (seals_as_frame gcm_a 1)) (seals_as_frame gcm_a 1)
+      refl refl refl (rw (seals_as_frame gcm_a 1)) (seals_as_frame gcm_a 1)
       (record {
         there = refl;
         holds = each_but (HoldsIn gcm_a 1 disabled (rx_from 1)) Validates (λ no. absurd (no refl)) (λ no. refl) (λ no. refl)
@@ -218,7 +221,7 @@ sci_needed = (
   refl,
   fails_by ReadsSci without_sci gcm_b (commands_of 1 1 (Command B (RxSc sci_c) ∷ [])) (world_before without_sci 1 two_channels) (tx_from 1) (rx_from 1)
       (frame_from without_sci 1 (tag_from without_sci 1))
-      refl refl refl (ap (sent_by (tx_from 1)) (seals_as_frame without_sci 1)) (seals_as_frame without_sci 1)
+      refl refl refl (rw (seals_as_frame without_sci 1)) (seals_as_frame without_sci 1)
       (record {
         there = refl;
         holds = each_but (HoldsIn without_sci 1 two_channels (rx_from 1)) ReadsSci (λ no same. cc) (λ no. absurd (no refl)) (λ no. refl)
@@ -240,7 +243,7 @@ on_needed = (
   refl,
   fails_by IsOn gcm_a gcm_b (commands_of 1 1 (Command B (RxOff sci_a 0) ∷ [])) (world_before gcm_a 1 (state_b gcm_b rx_off)) (tx_from 1) rx_off
       (frame_from gcm_a 1 (tag_from gcm_a 1))
-      refl refl refl (ap (sent_by (tx_from 1)) (seals_as_frame gcm_a 1)) (seals_as_frame gcm_a 1)
+      refl refl refl (rw (seals_as_frame gcm_a 1)) (seals_as_frame gcm_a 1)
       (record {
         there = refl;
         holds = each_but (HoldsIn gcm_a 1 (state_b gcm_b rx_off) rx_off) IsOn (λ no same. cc) (λ no. refl) (λ no. absurd (no refl))
@@ -259,7 +262,7 @@ in_time_needed = (
   refl,
   fails_by InTime gcm_a gcm_b (commands_of 1 1 (Command B (RxLow sci_a 0 2) ∷ [])) (world_before gcm_a 1 (state_b gcm_b (rx_from 2))) (tx_from 1) (rx_from 2)
       (frame_from gcm_a 1 (tag_from gcm_a 1))
-      refl refl refl (ap (sent_by (tx_from 1)) (seals_as_frame gcm_a 1)) (seals_as_frame gcm_a 1)
+      refl refl refl (rw (seals_as_frame gcm_a 1)) (seals_as_frame gcm_a 1)
       (record {
         there = refl;
         holds = each_but (HoldsIn gcm_a 1 (state_b gcm_b (rx_from 2)) (rx_from 2)) InTime (λ no same. cc) (λ no. refl) (λ no. refl)
@@ -282,7 +285,7 @@ suite_needed = (
   refl,
   fails_by SameSuite xpn_a gcm_b (commands_of (2 ^ 32) (2 ^ 32 - 1) []) of_32_bits (tx_from (2 ^ 32)) (rx_from (2 ^ 32 - 1))
       (frame_from xpn_a (2 ^ 32) (tag_from xpn_a (2 ^ 32)))
-      refl refl refl (ap (sent_by (tx_from (2 ^ 32))) (seals_as_frame xpn_a (2 ^ 32))) (seals_as_frame xpn_a (2 ^ 32))
+      refl refl refl (rw (seals_as_frame xpn_a (2 ^ 32))) (seals_as_frame xpn_a (2 ^ 32))
       (record {
         there = refl;
         holds = each_but (HoldsIn xpn_a (2 ^ 32) (state_b gcm_b (rx_from (2 ^ 32 - 1))) (rx_from (2 ^ 32 - 1))) SameSuite (λ no same. cc) (λ no. refl) (λ no. refl)
@@ -302,7 +305,7 @@ near_needed = (
   refl,
   fails_by IsNear xpn_a xpn_b (commands_of (2 ^ 32) 1 []) (world_before xpn_a (2 ^ 32) (state_b xpn_b (rx_from 1))) (tx_from (2 ^ 32)) (rx_from 1)
       (frame_from xpn_a (2 ^ 32) (tag_from xpn_a (2 ^ 32)))
-      refl refl refl (ap (sent_by (tx_from (2 ^ 32))) (seals_as_frame xpn_a (2 ^ 32))) (seals_as_frame xpn_a (2 ^ 32))
+      refl refl refl (rw (seals_as_frame xpn_a (2 ^ 32))) (seals_as_frame xpn_a (2 ^ 32))
       (record {
         there = refl;
         holds = each_but (HoldsIn xpn_a (2 ^ 32) (state_b xpn_b (rx_from 1)) (rx_from 1)) IsNear (λ no same. cc) (λ no. refl) (λ no. refl)

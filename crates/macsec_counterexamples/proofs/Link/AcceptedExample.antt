@@ -1,10 +1,11 @@
 -- A run that meets the premises of the law of acceptance, for a frame as sent and for the padded frame, which shows that
 -- the premises can be met.
-use Rattle.macsec_counterexamples.proofs.Link.Names.{◌≡◌, inl, inr, ℕ, Bool, List, [], ◌∷◌, refl, true, false, arith, replicate, Some, None}
-use Rattle.macsec_counterexamples.proofs.Link.Names.{MpduParts, Suite, Gcm128, Xpn128, the_key, TxRow, parts_sent, RxRow, Key, RxOn, RxSa, RxSc, TxOn}
-use Rattle.macsec_counterexamples.proofs.Link.Names.{TxSa, CanAccept, State, tx_options, frame_fault, sending_of, A, B, Event, Command, Send, Pad}
-use Rattle.macsec_counterexamples.proofs.Link.Names.{IsOnLink, world_at, WorldState, end_of}
-use Rattle.macsec_counterexamples.proofs.Link.WorkedEnds.{client, config, new_key, sci_a, sci_b}
+use Rattle.macsec_counterexamples.proofs.{
+  Names.{[], ◌∷◌, ◌≡◌, A, arith, B, Bool, CanAccept, Command, end_of, Event, false, frame_fault, Gcm128, inl, inr},
+  Names.{IsOnLink, Key, List, MpduParts, None, Pad, parts_sent, refl, replicate, RxOn, RxRow, RxSa, RxSc, Send},
+  Names.{sending_of, Some, State, Suite, the_key, true, tx_options, TxOn, TxRow, TxSa, world_at, WorldState, Xpn128, ℕ},
+  Link.WorkedEnds.{client, config, new_key, sci_a, sci_b},
+}
 
 abbrev pub salt : List ℕ
 salt = replicate 12 9

@@ -1,24 +1,28 @@
 -- Acceptance needs the same key bytes and, for encrypted frames, the same confidentiality offset. If B has others, another
 -- tag is valid, and the tag of A's frame is not. The first octets of both tags are computed, by AES and GHASH.
-use Rattle.macsec_counterexamples.proofs.Link.Names.{◌≡◌, ℕ, Bool, true, false, List, [], ◌∷◌, ◌++◌, length, refl, ap, sym, ◌∙◌, arith, ◌==◌, ◌&&◌}
-use Rattle.macsec_counterexamples.proofs.Link.Names.{bit_xor, drop, replicate, slice_index, slice_range, take, if◌then◌else◌, Some, None, w128}
-use Rattle.macsec_counterexamples.proofs.Link.Names.{to_be_bytes, K128, add_round_key, added_word, aes, after_rounds, key_expansion, key_words}
-use Rattle.macsec_counterexamples.proofs.Link.Names.{mix_columns, rot_word, round_key, shift_rows, sub_bytes, sub_word, sum_of_words}
-use Rattle.macsec_counterexamples.proofs.Link.Names.{affine_transformation, byte_product, inverse, polynomial_product, remainder, s_box, sum_below}
-use Rattle.macsec_counterexamples.proofs.Link.Names.{authentication_tag, gctr, hash_subkey, inc32, length_block, open_of, pre_counter_block, seal_of}
-use Rattle.macsec_counterexamples.proofs.Link.Names.{same_octets, in_a_row, parts_at, Tag, NewKey, Gcm128, InstalledKey, aad_and_plaintext, TxRow}
-use Rattle.macsec_counterexamples.proofs.Link.Names.{iv_sent, parts_sent, tag_sent, NotValid, at_row, judge_opened, judgement_of, State, rx_options}
-use Rattle.macsec_counterexamples.proofs.Link.Names.{start, tx_options, A, B, Event, Deliver, Send, world_step, WorldState}
-use Rattle.std.specs.Cmp.Lexicographic.{same_text}
+use Rattle.std.specs.{Cmp.Lexicographic.same_text, Int.w128}
 use Rattle.macsec_field128.specs.Field.{block_product, times_x}
-use Rattle.macsec_field128.specs.Field as field128
 use Rattle.macsec_ghash.specs.Ghash.{block_of, blocks_of, ghash, pad}
-use Rattle.macsec_counterexamples.proofs.Link.AcceptancePremises.{Holds, HoldsIn, LawWithout, Premise, SameBytes, SameOffset, each_but, fails_by, frame_from}
-use Rattle.macsec_counterexamples.proofs.Link.AcceptancePremises.{heard, key_row, seals_as_frame, state_b, tag_from, world_before, world_sent}
-use Rattle.macsec_counterexamples.proofs.Link.KeyPremises.{answered, cover}
-use Rattle.macsec_counterexamples.proofs.Link.SealedFrames.{Sealed, aad_sent, closes, first, first_differs, frame_with, items, rest, sealed, tag_of, with_tag}
-use Rattle.macsec_counterexamples.proofs.Link.TracedSteps.{sent_by}
-use Rattle.macsec_counterexamples.proofs.Link.WorkedEnds.{Fails, bytes, client, gcm_a, gcm_b, new_key, no_salt, receives_from, rx_from, sci_a, sends_from, tx_from}
+use Rattle.macsec_gcm.specs.Gcm.{hash_subkey, inc32, length_block}
+use Rattle.macsec_counterexamples.proofs.{
+  Names.{[], ◌&&◌, ◌++◌, ◌==◌, ◌∙◌, ◌∷◌, ◌≡◌, A, aad_and_plaintext, add_round_key, added_word, aes},
+  Names.{affine_transformation, after_rounds, ap, arith, at_row, authentication_tag, B, bit_xor, Bool, byte_product},
+  Names.{Deliver, drop, Event, false, Gcm128, gctr, if◌then◌else◌, in_a_row, InstalledKey, inverse, iv_sent},
+  Names.{judgement_of, K128, key_expansion, key_words, length, List, mix_columns, NewKey, None, NotValid, open_of},
+  Names.{parts_sent, polynomial_product, pre_counter_block, refl, remainder, replicate, rot_word, round_key, s_box},
+  Names.{same_octets, seal_of, Send, shift_rows, slice_index, slice_range, Some, start, State, sub_bytes, sub_word},
+  Names.{sum_below, sum_of_words, sym, Tag, tag_sent, take, to_be_bytes, true, tx_options, TxRow, world_step},
+  Names.{WorldState, ℕ},
+  Link.{
+    AcceptancePremises.{Holds, HoldsIn, LawWithout, Premise, SameBytes, SameOffset, each_but, fails_by, frame_from},
+    AcceptancePremises.{heard, key_row, seals_as_frame, state_b, tag_from, world_before, world_sent},
+    KeyPremises.{answered, cover},
+    SealedFrames.{aad_sent, closes, first, first_differs, frame_with, items, rest, sealed, tag_of, with_tag},
+    WorkedEnds.{Fails, bytes, client, gcm_a, gcm_b, new_key, no_salt, receives_from, rx_from, sci_a, sends_from},
+    WorkedEnds.tx_from,
+  },
+}
+use Rattle.macsec_field128.specs.Field as field128
 
 -- ---- a tag, from its hash
 
@@ -37,10 +41,7 @@ by_hash key iv aad ciphertext = refl
 first_is : (key iv aad ciphertext : List ℕ) (subkey hash octet : ℕ) → hash_subkey key ≡ subkey → hash_of subkey aad ciphertext ≡ hash → cover key iv ≡ octet →
     first (tag_with key iv aad ciphertext) ≡ bit_xor (slice_index (to_be_bytes w128 hash) 0) octet
 first_is key iv aad ciphertext subkey hash octet of_key of_text covers =
-    by_hash key iv aad ciphertext
-    ∙ ap (λ h. bit_xor (slice_index (to_be_bytes w128 (hash_of h aad ciphertext)) 0) (cover key iv)) of_key
-    ∙ ap (λ h. bit_xor (slice_index (to_be_bytes w128 h) 0) (cover key iv)) of_text
-    ∙ ap (bit_xor (slice_index (to_be_bytes w128 hash) 0)) covers
+    rw (by_hash key iv aad ciphertext, of_key, of_text, covers)
 
 of_empty : (key iv aad : List ℕ) → tag_of key iv aad ≡ tag_with key iv aad []
 unfolding tag_of seal_of gctr
@@ -93,10 +94,13 @@ other_first_is =
 
 tags_differ : (first (tag_of other_bytes iv aad) == first (tag_of bytes iv aad)) ≡ false
 tags_differ =
-    ap (λ (t : List ℕ). first t == first (tag_of bytes iv aad)) (of_empty other_bytes iv aad)
-    ∙ ap (λ (t : List ℕ). first (tag_with other_bytes iv aad []) == first t) (of_empty bytes iv aad)
-    ∙ ap (λ n. n == first (tag_with bytes iv aad [])) other_first_is
-    ∙ ap (λ n. 0x68 == n) (first_is bytes iv aad [] 0x4c83b1490bd1a72c53479846884591af 0xbed399d5a9a2be619e2d693b71f70ff0 0x85 subkey_is hash_is cover_is)
+    rw (
+      of_empty other_bytes iv aad,
+      of_empty bytes iv aad,
+      other_first_is,
+      first_is bytes iv aad []
+          0x4c83b1490bd1a72c53479846884591af 0xbed399d5a9a2be619e2d693b71f70ff0 0x85 subkey_is hash_is cover_is,
+    )
 
 abbrev other_key : NewKey
 other_key = record (new_key no_salt 2) { bytes = K128 other_bytes }
@@ -108,7 +112,7 @@ abbrev with_other : State
 with_other = record (state_b gcm_b (rx_from 1)) { keys = other_row ∷ [] }
 
 bytes_judged : (t : List ℕ) → open_of other_bytes iv aad [] (items 16 t) ≡ None → judgement_of with_other (frame_from gcm_a 1 t) ≡ at_row (rx_from 1) 1 11 NotValid None
-bytes_judged t is = ap (judge_opened (rx_options with_other) other_row (rx_from 1) 1 (parts_at (frame_from gcm_a 1 t))) is
+bytes_judged t is = rw is
 
 bytes_answered : (t : List ℕ) → open_of other_bytes iv aad [] (items 16 t) ≡ None →
     (world_step (world_sent (world_before gcm_a 1 with_other) (tx_from 1) (frame_from gcm_a 1 t)) (Deliver B 0)).0 ≡ heard NotValid None
@@ -124,7 +128,7 @@ pub bytes_needed : Fails (LawWithout SameBytes) gcm_a gcm_b (commands ++ Send A 
 bytes_needed = (
   refl,
   fails_by SameBytes gcm_a gcm_b commands (world_before gcm_a 1 with_other) (tx_from 1) (rx_from 1) (frame_from gcm_a 1 (tag_from gcm_a 1))
-      refl refl refl (ap (sent_by (tx_from 1)) (seals_as_frame gcm_a 1)) (seals_as_frame gcm_a 1)
+      refl refl refl (rw (seals_as_frame gcm_a 1)) (seals_as_frame gcm_a 1)
       (record {
         there = refl;
         holds = each_but (HoldsIn gcm_a 1 with_other (rx_from 1)) SameBytes (λ no same. cc) (λ no. refl) (λ no. refl)
@@ -151,8 +155,8 @@ closes_with key iv aad ciphertext octet others other =
         (if b && same_octets (tag_with key iv aad again) (octet ∷ others) then Some (gctr key (inc32 (pre_counter_block iv)) ciphertext) else None) ≡ None
     by_test again false is = refl
     by_test again true is =
-        ap (λ (b : Bool). if b then Some (gctr key (inc32 (pre_counter_block iv)) ciphertext) else None)
-        (ap (λ (c : List ℕ). same_octets (tag_with key iv aad c) (octet ∷ others)) (same_text again ciphertext (sym is))
+        rw (ap (λ (c : List ℕ). same_octets (tag_with key iv aad c) (octet ∷ others)) (same_text again ciphertext
+        (sym is))
         ∙ first_differs (tag_with key iv aad ciphertext) octet others (long_tag key iv aad ciphertext) other)
 
 abbrev tx_conf : TxRow
@@ -187,15 +191,18 @@ first_0_is = first_is bytes iv aad_0 user_data 0x4c83b1490bd1a72c53479846884591a
 
 offsets_differ : (first (tag_with bytes iv aad_0 user_data) == first (tag_of bytes iv aad_30)) ≡ false
 offsets_differ =
-    ap (λ (t : List ℕ). first (tag_with bytes iv aad_0 user_data) == first t) (of_empty bytes iv aad_30)
-    ∙ ap (λ n. n == first (tag_with bytes iv aad_30 [])) first_0_is
-    ∙ ap (λ n. 0xa2 == n) (first_is bytes iv aad_30 [] 0x4c83b1490bd1a72c53479846884591af 0xae500395dcf73156bf947ad36d9cadd6 0x85 subkey_is hash_30_is cover_is)
+    rw (
+      of_empty bytes iv aad_30,
+      first_0_is,
+      first_is bytes iv aad_30 [] 0x4c83b1490bd1a72c53479846884591af
+          0xae500395dcf73156bf947ad36d9cadd6 0x85 subkey_is hash_30_is cover_is,
+    )
 
 abbrev frame : List ℕ → List ℕ
 frame t = frame_with tag_conf client (with_tag t)
 
 seals_clear : in_a_row (parts_sent (tx_options (start gcm_a)) key_30 tx_conf client) ≡ frame (tag_of bytes iv aad_30)
-seals_clear = ap (λ (it : Sealed). frame_with tag_conf client it) (sealed bytes iv aad_30)
+seals_clear = rw (sealed bytes iv aad_30)
 
 abbrev offset_0 : State
 offset_0 = state_b gcm_b (rx_from 1)
@@ -206,7 +213,7 @@ at_offset_30 = record (world_before gcm_a 1 offset_0) {
 }
 
 offset_judged : (t : List ℕ) → open_of bytes iv aad_0 user_data (items 16 t) ≡ None → judgement_of offset_0 (frame t) ≡ at_row (rx_from 1) 1 11 NotValid None
-offset_judged t is = ap (judge_opened (rx_options offset_0) (key_row Gcm128 2) (rx_from 1) 1 (parts_at (frame t))) is
+offset_judged t is = rw is
 
 offset_answered : (t : List ℕ) → open_of bytes iv aad_0 user_data (items 16 t) ≡ None →
     (world_step (world_sent at_offset_30 tx_conf (frame t)) (Deliver B 0)).0 ≡ heard NotValid None
@@ -222,7 +229,7 @@ pub offset_needed : Fails (LawWithout SameOffset) gcm_a gcm_b (confidential ++ S
 offset_needed = (
   refl,
   fails_by SameOffset gcm_a gcm_b confidential at_offset_30 tx_conf (rx_from 1) (frame (tag_of bytes iv aad_30))
-      refl refl refl (ap (sent_by tx_conf) seals_clear) seals_clear
+      refl refl refl (rw seals_clear) seals_clear
       (record {
         there = refl;
         holds = each_but HoldsAt30 SameOffset (λ no same. cc) (λ no. refl) (λ no. refl)

@@ -1,12 +1,17 @@
 -- Worked events of the definitions: the limits of the link, and the order of the faults.
-use Rattle.macsec_counterexamples.proofs.Link.Names.{◌≡◌, ℕ, ◌+◌, ◌^◌, [], ◌∷◌, ◌++◌, refl, true, from_be_bytes, to_be_bytes, w32, replicate, Some}
-use Rattle.macsec_counterexamples.proofs.Link.Names.{None, Result, Ok, Err, Gcm128, Protect, EndConfig, A, B, Event, Command, Send, SendUncontrolled}
-use Rattle.macsec_counterexamples.proofs.Link.Names.{Deliver, Alter, Pad, Inject, Outcome, Done, Made, Dropped, Heard, WorldFault, WorldState}
-use Rattle.macsec_counterexamples.proofs.Link.Names.{new_world, padded_frame, results_of, world_step, make_fault}
+use Rattle.{
+  std.proofs.Common.Err,
+  macsec_commands.specs.declared.{command.Command.TheVariants.Protect, fault.NewFault.TheVariants.MaxFrame},
+  macsec_link_events.specs.declared.Outcome.TheVariants.{Done, Made, Dropped},
+  macsec_link.specs.Step.{padded_frame, results_of},
+  macsec_counterexamples.proofs.Names.{[], ◌++◌, ◌+◌, ◌^◌, ◌∷◌, ◌≡◌, A, Alter, B, Command, Deliver, EndConfig, Event},
+  macsec_counterexamples.proofs.Names.{from_be_bytes, Gcm128, Heard, Inject, make_fault, new_world, None, Ok, Outcome},
+  macsec_counterexamples.proofs.Names.{Pad, refl, replicate, Result, Send, SendUncontrolled, Some, to_be_bytes, true},
+  macsec_counterexamples.proofs.Names.{w32, world_step, WorldFault, WorldState, ℕ},
+}
 use Rattle.macsec_commands.specs.declared.form.TagForm.TheVariants as form
 use Rattle.macsec_rx.specs.declared.Verdict.TheVariants as verdict
 use Rattle.macsec_secy.specs.declared.answers.DropReason.TheVariants as reason
-use Rattle.macsec_commands.specs.declared.fault.NewFault.TheVariants.{MaxFrame}
 use Rattle.macsec_link_events.specs.declared.WorldFault.TheVariants as fault
 
 abbrev config : ℕ → ℕ → EndConfig

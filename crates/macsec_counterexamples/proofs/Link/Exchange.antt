@@ -1,18 +1,21 @@
 -- A run that meets all premises of the laws of origin and order, and delivers: A's client sends two frames, each link
 -- frame is delivered to B at once, and B delivers both client frames in order. The cipher is not computed: all that is
 -- known of a tag is that it has 16 octets and opens.
-use Rattle.macsec_counterexamples.proofs.Link.Names.{◌≡◌, ℕ, ◌+◌, ◌*◌, List, [], ◌∷◌, ◌++◌, refl, ap, sym, subst, ◌∙◌, arith, replicate, slice_get}
-use Rattle.macsec_counterexamples.proofs.Link.Names.{true, false, Some, None, open_of, parts_at, Gcm128, CipherUse, cipher_use, InstalledKey, iv_of}
-use Rattle.macsec_counterexamples.proofs.Link.Names.{TxOptions, tag_sent, RxRow, Passed, at_row, judge_opened, judgement_of, Options, RxCounters}
-use Rattle.macsec_counterexamples.proofs.Link.Names.{State, first_options, no_counters, no_rx_counters, no_tx_counters, rx_options, start, tx_options}
-use Rattle.macsec_counterexamples.proofs.Link.Names.{sending_of, A, B, Event, Deliver, Send, IsGenuine, IsGenuineAt, make_fault, AgreeOnKey}
-use Rattle.macsec_counterexamples.proofs.Link.Names.{AgreeOnKeys, sent_under, HasStrictOrder, IsStrict, WhileThere, world_after, WorldState}
-use Rattle.macsec_counterexamples.proofs.Link.Names.{new_world, Mark, Trace, new_trace, trace_after, trace_step, world_of_trace}
-use Rattle.macsec_counterexamples.proofs.Link.SealedFrames.{Sealed, aad_sent, frame_with, items, opens, parts_with, sealed, tag_of, with_tag}
-use Rattle.macsec_counterexamples.proofs.Link.TracedSteps.{AtEach, WhileLive, after_both, at_moment, deliver_step, each_append}
-use Rattle.macsec_counterexamples.proofs.Link.TracedSteps.{genuine_append, genuine_at, genuine_next, live_next, send_step, sent_by}
-use Rattle.macsec_counterexamples.proofs.Link.WorkedEnds.{bytes, counts, gcm_a, gcm_b, installed_key, log, logs_sent, new_key, no_salt}
-use Rattle.macsec_counterexamples.proofs.Link.WorkedEnds.{of_two, receives_from, rx_from, sci_a, sends_from, tx_from}
+use Rattle.macsec_counterexamples.proofs.{
+  Names.{[], ◌*◌, ◌++◌, ◌+◌, ◌∙◌, ◌∷◌, ◌≡◌, A, AgreeOnKey, AgreeOnKeys, ap, arith, at_row, B, cipher_use, CipherUse},
+  Names.{Deliver, Event, false, first_options, Gcm128, HasStrictOrder, InstalledKey, IsGenuine, IsGenuineAt, IsStrict},
+  Names.{iv_of, judgement_of, List, make_fault, Mark, new_trace, new_world, no_counters, no_rx_counters},
+  Names.{no_tx_counters, None, open_of, Options, Passed, refl, replicate, RxCounters, RxRow, Send, sending_of},
+  Names.{sent_under, slice_get, Some, start, State, sym, tag_sent, Trace, trace_after, trace_step, true, tx_options},
+  Names.{TxOptions, WhileThere, world_after, world_of_trace, WorldState, ℕ},
+  Link.{
+    SealedFrames.{Sealed, aad_sent, frame_with, items, opens, parts_with, sealed, tag_of, with_tag},
+    TracedSteps.{AtEach, WhileLive, after_both, at_moment, deliver_step, each_append, genuine_append, genuine_at},
+    TracedSteps.{genuine_next, live_next, send_step, sent_by},
+    WorkedEnds.{bytes, counts, gcm_a, gcm_b, installed_key, log, logs_sent, new_key, no_salt, of_two, receives_from},
+    WorkedEnds.{rx_from, sci_a, sends_from, tx_from},
+  },
+}
 
 -- a client frame with two octets of data
 abbrev pub client : ℕ → List ℕ
@@ -117,18 +120,19 @@ mark number = record { at = B; log = 0; number = number; replay = true; window =
 -- ---- the first frame
 
 first_sends : sending_of ready.world.a.state (client 1) ≡ sent_by (tx_from 1) (link_frame_of 1 (client 1) (tag 1 (client 1)))
-first_sends = ap (λ (it : Sealed). sent_by (tx_from 1) (link_frame_with 1 (client 1) it)) (sealed bytes (iv 1) (aad 1 (client 1)))
+first_sends = rw (sealed bytes (iv 1) (aad 1 (client 1)))
 
 first_sent : trace_step ready (Send A (client 1)) ≡
     at_numbers 1 0 (client 1 ∷ []) [] (link_frame_of 1 (client 1) (tag 1 (client 1)) ∷ []) (use_of 1 (client 1) (tag 1 (client 1)) ∷ []) []
 first_sent =
-    send_step ready (client 1) (tx_from 1) (link_frame_of 1 (client 1) (tag 1 (client 1))) refl refl first_sends
-    ∙ ap (λ (it : Sealed). at_numbers 1 0 (client 1 ∷ []) [] (link_frame_of 1 (client 1) (tag 1 (client 1)) ∷ []) (use_with 1 (client 1) it ∷ []) [])
-    (sealed bytes (iv 1) (aad 1 (client 1)))
+    rw (
+      send_step ready (client 1) (tx_from 1) (link_frame_of 1 (client 1) (tag 1 (client 1))) refl refl first_sends,
+      sealed bytes (iv 1) (aad 1 (client 1)),
+    )
 
 pub first_judged : (t : List ℕ) → Opens 1 t →
     judgement_of ready.world.b.state (link_frame_of 1 (client 1) t) ≡ at_row (rx_from 1) 1 13 Passed (Some (client 1))
-first_judged t is = ap (judge_opened (rx_options ready.world.b.state) (key_row 2 1) (rx_from 1) 1 (parts_at (link_frame_of 1 (client 1) t))) is
+first_judged t is = rw is
 
 abbrev after_first : List ℕ → Trace
 after_first t = at_numbers 1 0 (client 1 ∷ []) [] (link_frame_of 1 (client 1) t ∷ []) (use_of 1 (client 1) t ∷ []) []
@@ -147,7 +151,7 @@ first_genuine t is =
 -- ---- the second frame
 
 second_sends : (t : List ℕ) → sending_of (heard_first t).world.a.state (client 2) ≡ sent_by (tx_from 2) (link_frame_of 2 (client 2) (tag 2 (client 2)))
-second_sends t = ap (λ (it : Sealed). sent_by (tx_from 2) (link_frame_with 2 (client 2) it)) (sealed bytes (iv 2) (aad 2 (client 2)))
+second_sends t = rw (sealed bytes (iv 2) (aad 2 (client 2)))
 
 abbrev both : List (List ℕ)
 both = client 1 ∷ client 2 ∷ []
@@ -164,15 +168,15 @@ heard_second t u = both_with t u 2 both (mark 1 ∷ mark 2 ∷ [])
 
 second_sent : (t : List ℕ) → trace_step (heard_first t) (Send A (client 2)) ≡ after_second t (tag 2 (client 2))
 second_sent t =
-    send_step (heard_first t) (client 2) (tx_from 2) (link_frame_of 2 (client 2) (tag 2 (client 2))) refl refl (second_sends t)
-    ∙ ap (λ (it : Sealed).
-    at_numbers 2 1 both (client 1 ∷ []) (link_frame_of 1 (client 1) t ∷ link_frame_of 2 (client 2) (tag 2 (client 2)) ∷ [])
-    (use_of 1 (client 1) t ∷ use_with 2 (client 2) it ∷ []) (mark 1 ∷ []))
-    (sealed bytes (iv 2) (aad 2 (client 2)))
+    rw (
+      send_step (heard_first t) (client 2) (tx_from 2) (link_frame_of 2 (client 2) (tag 2 (client 2))) refl refl
+          (second_sends t),
+      sealed bytes (iv 2) (aad 2 (client 2)),
+    )
 
 second_judged : (t u : List ℕ) → Opens 2 u →
     judgement_of (after_second t u).world.b.state (link_frame_of 2 (client 2) u) ≡ at_row (rx_from 2) 2 13 Passed (Some (client 2))
-second_judged t u is = ap (judge_opened (rx_options (after_second t u).world.b.state) (key_row 2 1) (rx_from 2) 2 (parts_at (link_frame_of 2 (client 2) u))) is
+second_judged t u is = rw is
 
 second_heard : (t u : List ℕ) → Opens 2 u → trace_step (after_second t u) (Deliver B 1) ≡ heard_second t u
 second_heard t u is = deliver_step (after_second t u) 1 (link_frame_of 2 (client 2) u) (at_row (rx_from 2) 2 13 Passed (Some (client 2))) refl refl refl (second_judged t u is)
@@ -246,9 +250,10 @@ pub meets_premises : MeetsPremises
 meets_premises = record {
   made = refl;
   genuine = is_genuine;
-  agree = subst AgreeOnKeys (sym last_world_is) (of_two (λ x y. x.bytes ≡ y.bytes → AgreeOnKey x y) _ _ (λ same. record { suite = refl; salt = λ xpn. refl }));
-  strict = while_there IsStrict (λ s is. ap (λ (o : Options). o.mode) is);
-  in_order = while_there HasStrictOrder (λ s is. record { replay = ap (λ (o : Options). o.replay) is; window = ap (λ (o : Options). o.window) is });
-  sent = ap (λ (w : WorldState). sent_under w.a.sent 0) last_world_is;
-  delivered = ap (λ (w : WorldState). slice_get w.b.delivered 0) last_world_is;
+  agree = rw last_world_is (of_two (λ x y. x.bytes ≡ y.bytes → AgreeOnKey x y) _ _
+      (λ same. record { suite = refl; salt = λ xpn. refl }));
+  strict = while_there IsStrict (λ s is. rw is);
+  in_order = while_there HasStrictOrder (λ s is. record { replay = rw is; window = rw is });
+  sent = rw last_world_is;
+  delivered = rw last_world_is;
 }

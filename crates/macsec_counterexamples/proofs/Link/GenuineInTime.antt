@@ -1,22 +1,25 @@
 -- What was sealed and arrives in time is genuine when an end opens it. So for each frame within the premises of the law
 -- of acceptance, at both ends, padded or not, the premise of the laws of origin and order holds that no tag is forged.
-use Rattle.macsec_counterexamples.proofs.Link.Names.{◌≡◌, inl, inr, ℕ, zero, suc, ◌<◌, List, [], ◌∷◌, ◌++◌, length, take, refl, ap, sym, subst, ◌∙◌}
-use Rattle.macsec_counterexamples.proofs.Link.Names.{arith, Contains, slice_get, Some, None, IfSome, MpduParts, in_a_row, reading, InstalledKey}
-use Rattle.macsec_counterexamples.proofs.Link.Names.{the_key, CipherUse, TxRow, parts_sent, RxRow, Passed, Judgement, at_row, EndConfig, CanAccept}
-use Rattle.macsec_counterexamples.proofs.Link.Names.{State, tx_options, frame_fault, sending_of, End, Event, Deliver, Send, IsOnLink, fault_of}
-use Rattle.macsec_counterexamples.proofs.Link.Names.{IsGenuineAt, use_opened, use_opened_in, world_after, world_at, world_step, Trace}
-use Rattle.macsec_counterexamples.proofs.Link.Names.{added_unless_fault, new_seals, new_trace, seals_by, use_sealed_by, trace_after, trace_of}
-use Rattle.macsec_counterexamples.proofs.Link.Names.{trace_step, WorldState, end_of, frame_at, new_world, other_end, IsMember, contained}
-use Rattle.macsec_counterexamples.proofs.Link.Names.{world_of_trace}
-use Rattle.std.proofs.lemmas.List.Elements.{Contains-append_left}
+use Rattle.{
+  std.proofs.lemmas.List.Elements.Contains-append_left,
+  macsec_link.proofs.{
+    Accepted.{LawOfStep, StandsWith, stands_with},
+    EndpointLaws.EndpointLaws,
+    LinkFrames.finds,
+    Members.{IsMember, contained},
+    Seals.{fits, sound_end},
+    SentStands.{stands_on_link, stays_on_link},
+  },
+  macsec_link.specs.{Beginnings.AreSound, Sound.IsSound, Trace.{added_unless_fault, new_seals}},
+  macsec_counterexamples.proofs.Names.{[], ◌++◌, ◌<◌, ◌∷◌, ◌≡◌, arith, CanAccept, CipherUse, Contains, Deliver, End},
+  macsec_counterexamples.proofs.Names.{end_of, EndConfig, Event, fault_of, frame_at, frame_fault, in_a_row, inl, inr},
+  macsec_counterexamples.proofs.Names.{InstalledKey, IsGenuineAt, IsOnLink, length, List, MpduParts, new_trace},
+  macsec_counterexamples.proofs.Names.{new_world, None, other_end, parts_sent, refl, RxRow, Send, sending_of},
+  macsec_counterexamples.proofs.Names.{slice_get, Some, State, subst, suc, sym, take, the_key, Trace, trace_after},
+  macsec_counterexamples.proofs.Names.{trace_of, trace_step, tx_options, TxRow, use_opened, use_sealed_by, world_after},
+  macsec_counterexamples.proofs.Names.{world_at, world_of_trace, world_step, WorldState, zero, ℕ},
+}
 use Rattle.macsec_secy.specs.Sound as endpoint
-use Rattle.macsec_link.specs.Sound.{IsSound}
-use Rattle.macsec_link.proofs.Accepted.{LawOfStep, StandsWith, stands_with}
-use Rattle.macsec_link.proofs.EndpointLaws.{EndpointLaws}
-use Rattle.macsec_link.proofs.LinkFrames.{finds}
-use Rattle.macsec_link.specs.Beginnings.{AreSound}
-use Rattle.macsec_link.proofs.Seals.{fits, sound_end}
-use Rattle.macsec_link.proofs.SentStands.{stands_on_link, stays_on_link}
 
 -- ---- what is opened of a frame that can be accepted
 
@@ -43,9 +46,7 @@ module _ (law_of_step : LawOfStep) (laws : EndpointLaws) (w : WorldState) (e : E
   pub opened_in_time : use_opened s (frame_at w n) ≡ Some (use_sealed_by sender client tx)
   opened_in_time =
       let it = law_of_step sender s client tx rx at.behind sender_sound (sound_end w sound e) good by can at.may in
-      subst (λ (f : List ℕ). use_opened s f ≡ Some (use_sealed_by sender client tx)) frame_is
-      (ap (λ (j : Judgement). use_opened_in s j j.row (reading (in_a_row p ++ at.behind))) it.judged
-      ∙ ap (use_opened_in s (at_row rx tx.next 13 Passed (Some client)) (Some rx)) it.reads ∙ ap Some it.opens)
+      rw (← frame_is) (rw (it.judged, it.reads, it.opens))
 
 -- ---- what was sealed stays, and what was sent stays on the link
 
@@ -70,9 +71,9 @@ sealed_at w e client tx = use_sealed_by (end_of w e).state client tx
 sealed_now : (t : Trace) (e : End) (client : List ℕ) (tx : TxRow) → IsSentBy t.world e client tx → Contains (trace_step t (Send e client)).seals (sealed_at t.world e client tx)
 sealed_now t e client tx sent =
     let new : added_unless_fault (fault_of t.world (Send e client)) (new_seals t.world (Send e client)) ≡ sealed_at t.world e client tx ∷ [] =
-    ap (λ f. added_unless_fault f (new_seals t.world (Send e client))) sent.none ∙ ap (seals_by (end_of t.world e).state client) sent.by in
-    subst (λ (us : List CipherUse). Contains (t.seals ++ us) (sealed_at t.world e client tx)) (sym new)
-    (contained (t.seals ++ sealed_at t.world e client tx ∷ []) (sealed_at t.world e client tx) (last_member t.seals (sealed_at t.world e client tx)))
+    rw (sent.none, sent.by) in
+    rw new (contained (t.seals ++ sealed_at t.world e client tx ∷ []) (sealed_at t.world e client tx)
+    (last_member t.seals (sealed_at t.world e client tx)))
 
 sealed_later : (t : Trace) (events : List Event) (k m : ℕ) (e : End) (client : List ℕ) (tx : TxRow) (before : WorldState) → slice_get events k ≡ Some (Send e client) →
     (trace_after t (take k events)).world ≡ before → IsSentBy before e client tx → k < m → Contains (trace_after t (take m events)).seals (sealed_at before e client tx)
@@ -101,9 +102,7 @@ stands_later w (event ∷ events) zero (suc m) e client tx before found is sent 
     let it : event ≡ Send e client = cc in
     let n = length before.frames in
     let frame = in_a_row (frame_sent before e client tx) in
-    subst (λ (x : Event). slice_get (world_after (world_step w x).1 (take m events)).frames n ≡ Some frame) (sym it)
-    (subst (λ (v : WorldState). slice_get (world_after (world_step v (Send e client)).1 (take m events)).frames n ≡ Some frame) (sym is)
-    (stays_on_link (world_step before (Send e client)).1 (take m events) n frame
+    rw it (rw is (stays_on_link (world_step before (Send e client)).1 (take m events) n frame
     (stands_on_link before e client tx sent.none (fits before e client sent.none) sent.by)))
 stands_later w (event ∷ events) (suc k) (suc m) e client tx before found is sent less =
     stands_later (world_step w event).1 events k m e client tx before found is sent (omega (arith, less))
@@ -136,8 +135,7 @@ genuine_in_time law_of_step laws a b events sounds e k m n client tx rx sends le
     (record { none = sends.none; by = sends.by }) less in
     let opened = opened_in_time law_of_step laws w e n (end_of before (other_end e)).state client tx rx (sounds m) (sound_end before (sounds k) (other_end e))
     (fits before (other_end e) client sends.none) sends.by can on_link in
-    subst (λ (v : WorldState). IfSome (use_opened (end_of v e).state (frame_at v n)) (Contains seals)) (sym (world_of_trace (new_trace a b) (take m events)))
-    (subst (λ o. IfSome o (Contains seals)) (sym opened) sealed)
+    rw (world_of_trace (new_trace a b) (take m events)) (rw opened sealed)
 
 -- its link frame exists at each of these moments
 pub is_on_link : (a b : EndConfig) (events : List Event) (e : End) (k m : ℕ) (client : List ℕ) (tx : TxRow) → Protects a b events k e client tx → k < m →

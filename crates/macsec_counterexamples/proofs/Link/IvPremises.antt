@@ -1,10 +1,12 @@
 -- The law on packet numbers needs each premise: without it there is a run in which two uses of the cipher have the same
 -- key bytes and the same IV.
-use Rattle.macsec_counterexamples.proofs.Link.Names.{◌≡◌, ◌≢◌, ℕ, true, List, [], ◌∷◌, refl, AllPairs, arith, Contains, replicate, sum_with_stream}
-use Rattle.macsec_counterexamples.proofs.Link.Names.{Sci, Gcm128, CipherUse, is_xpn, InstalledKey, EndConfig, Event, AgreeOnKey, AgreeOnKeys}
-use Rattle.macsec_counterexamples.proofs.Link.Names.{DifferInSsci, world_after, trace_of, WorldState, new_world}
 use Rattle.macsec_link.specs.UniqueIvs.{HasOtherIv}
-use Rattle.macsec_counterexamples.proofs.Link.WorkedEnds.{Fails, both_send, config, gcm_a, new_key, no_salt, of_two, sci_a, sci_b, scis_differ, xpn_a, xpn_b}
+use Rattle.macsec_counterexamples.proofs.{
+  Names.{[], ◌∷◌, ◌≡◌, ◌≢◌, AgreeOnKey, AgreeOnKeys, AllPairs, arith, CipherUse, Contains, DifferInSsci, EndConfig},
+  Names.{Event, Gcm128, InstalledKey, is_xpn, List, new_world, refl, replicate, Sci, sum_with_stream, trace_of, true},
+  Names.{world_after, WorldState, ℕ},
+  Link.WorkedEnds.{Fails, both_send, config, gcm_a, new_key, no_salt, of_two, sci_a, sci_b, scis_differ, xpn_a, xpn_b},
+}
 
 abbrev no_use : CipherUse
 no_use = record { key = []; iv = []; aad = []; ciphertext = []; tag = [] }

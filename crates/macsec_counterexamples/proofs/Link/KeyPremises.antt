@@ -1,19 +1,22 @@
 -- With extended packet numbers, acceptance needs the same salt and SSCI. With others at B its IV differs, and the tag
 -- does not open. Two blocks of AES are computed for each.
-use Rattle.macsec_counterexamples.proofs.Link.Names.{◌≡◌, ◌≢◌, ℕ, false, List, [], ◌∷◌, ◌++◌, refl, ap, arith, ◌==◌, replicate, slice_index, None}
-use Rattle.macsec_counterexamples.proofs.Link.Names.{eqb-false, ne_eqb, add_round_key, added_word, aes, after_rounds, key_expansion, key_words}
-use Rattle.macsec_counterexamples.proofs.Link.Names.{mix_columns, rot_word, round_key, shift_rows, sub_bytes, sub_word, sum_of_words}
-use Rattle.macsec_counterexamples.proofs.Link.Names.{affine_transformation, byte_product, inverse, polynomial_product, remainder, s_box, sum_below}
-use Rattle.macsec_counterexamples.proofs.Link.Names.{authentication_tag, gctr, open_of, pre_counter_block, seal_of, sum_with_stream, parts_at, Xpn128}
-use Rattle.macsec_counterexamples.proofs.Link.Names.{iv_of, RxRow, NotValid, Judgement, at_row, judge_opened, judgement_of, State, rx_options, start}
-use Rattle.macsec_counterexamples.proofs.Link.Names.{tx_options, frame_fault, iv_sent, A, B, Event, Deliver, Send, fault_of, world_step, WorldState}
-use Rattle.macsec_counterexamples.proofs.Link.Names.{frame_at}
-use Rattle.macsec_counterexamples.proofs.Link.AcceptancePremises.{HoldsIn, LawWithout, SameSalt, SameSsci, each_but, fails_by, frame_from, heard}
-use Rattle.macsec_counterexamples.proofs.Link.AcceptancePremises.{key_row, seals_as_frame, state_b, tag_from, world_before, world_sent}
-use Rattle.macsec_counterexamples.proofs.Link.Ivs.{xor_same}
-use Rattle.macsec_counterexamples.proofs.Link.SealedFrames.{aad_sent, closes, first, items, rest, tag_of}
-use Rattle.macsec_counterexamples.proofs.Link.TracedSteps.{sent_by}
-use Rattle.macsec_counterexamples.proofs.Link.WorkedEnds.{Fails, bytes, client, new_key, no_salt, receives_from, rx_from, sci_a, sends_from, tx_from, xpn_a, xpn_b}
+use Rattle.std.proofs.lemmas.Bool.{eqb-false}
+use Rattle.macsec_counterexamples.proofs.{
+  Names.{[], ◌++◌, ◌==◌, ◌∷◌, ◌≡◌, ◌≢◌, A, add_round_key, added_word, aes, affine_transformation, after_rounds, arith},
+  Names.{at_row, authentication_tag, B, byte_product, Deliver, Event, false, fault_of, frame_at, frame_fault, gctr},
+  Names.{inverse, iv_of, iv_sent, Judgement, judgement_of, key_expansion, key_words, List, mix_columns, ne_eqb, None},
+  Names.{NotValid, open_of, polynomial_product, pre_counter_block, refl, remainder, replicate, rot_word, round_key},
+  Names.{RxRow, s_box, seal_of, Send, shift_rows, slice_index, start, State, sub_bytes, sub_word, sum_below},
+  Names.{sum_of_words, sum_with_stream, tx_options, world_step, WorldState, Xpn128, ℕ},
+  Link.{
+    AcceptancePremises.{HoldsIn, LawWithout, SameSalt, SameSsci, each_but, fails_by, frame_from, heard, key_row},
+    AcceptancePremises.{seals_as_frame, state_b, tag_from, world_before, world_sent},
+    Ivs.xor_same,
+    SealedFrames.{aad_sent, closes, first, items, rest, tag_of},
+    WorkedEnds.{Fails, bytes, client, new_key, no_salt, receives_from, rx_from, sci_a, sends_from, tx_from, xpn_a},
+    WorkedEnds.xpn_b,
+  },
+}
 
 -- ---- tags under two IVs
 
@@ -73,7 +76,7 @@ abbrev salted : State
 salted = record (state_b xpn_b (rx_from 1)) { keys = record (key_row Xpn128 2) { salt = other_salt } ∷ [] }
 
 salt_judged : (t : List ℕ) → open_of bytes iv_by_salt aad [] (items 16 t) ≡ None → judgement_of salted (frame_from xpn_a 1 t) ≡ at_row (rx_from 1) 1 11 NotValid None
-salt_judged t is = ap (judge_opened (rx_options salted) (record (key_row Xpn128 2) { salt = other_salt }) (rx_from 1) 1 (parts_at (frame_from xpn_a 1 t))) is
+salt_judged t is = rw is
 
 salt_answered : (t : List ℕ) → open_of bytes iv_by_salt aad [] (items 16 t) ≡ None →
     (world_step (world_sent (world_before xpn_a 1 salted) (tx_from 1) (frame_from xpn_a 1 t)) (Deliver B 0)).0 ≡ heard NotValid None
@@ -86,7 +89,7 @@ pub salt_needed : Fails (LawWithout SameSalt) xpn_a xpn_b (commands other_salt 1
 salt_needed = (
   refl,
   fails_by SameSalt xpn_a xpn_b (commands other_salt 1) (world_before xpn_a 1 salted) (tx_from 1) (rx_from 1) (frame_from xpn_a 1 (tag_from xpn_a 1))
-      refl refl refl (ap (sent_by (tx_from 1)) (seals_as_frame xpn_a 1)) (seals_as_frame xpn_a 1)
+      refl refl refl (rw (seals_as_frame xpn_a 1)) (seals_as_frame xpn_a 1)
       (record {
         there = refl;
         holds = each_but (HoldsIn xpn_a 1 salted (rx_from 1)) SameSalt (λ no same. cc) (λ no. refl) (λ no. refl)
@@ -101,7 +104,7 @@ abbrev rx_of_3 : RxRow
 rx_of_3 = record (rx_from 1) { ssci = 3 }
 
 ssci_judged : (t : List ℕ) → open_of bytes iv_by_ssci aad [] (items 16 t) ≡ None → judgement_of (state_b xpn_b rx_of_3) (frame_from xpn_a 1 t) ≡ at_row rx_of_3 1 11 NotValid None
-ssci_judged t is = ap (judge_opened (rx_options (state_b xpn_b rx_of_3)) (key_row Xpn128 2) rx_of_3 1 (parts_at (frame_from xpn_a 1 t))) is
+ssci_judged t is = rw is
 
 ssci_answered : (t : List ℕ) → open_of bytes iv_by_ssci aad [] (items 16 t) ≡ None →
     (world_step (world_sent (world_before xpn_a 1 (state_b xpn_b rx_of_3)) (tx_from 1) (frame_from xpn_a 1 t)) (Deliver B 0)).0 ≡ heard NotValid None
@@ -114,7 +117,7 @@ pub ssci_needed : Fails (LawWithout SameSsci) xpn_a xpn_b (commands no_salt 3 ++
 ssci_needed = (
   refl,
   fails_by SameSsci xpn_a xpn_b (commands no_salt 3) (world_before xpn_a 1 (state_b xpn_b rx_of_3)) (tx_from 1) rx_of_3 (frame_from xpn_a 1 (tag_from xpn_a 1))
-      refl refl refl (ap (sent_by (tx_from 1)) (seals_as_frame xpn_a 1)) (seals_as_frame xpn_a 1)
+      refl refl refl (rw (seals_as_frame xpn_a 1)) (seals_as_frame xpn_a 1)
       (record {
         there = refl;
         holds = each_but (HoldsIn xpn_a 1 (state_b xpn_b rx_of_3) rx_of_3) SameSsci (λ no same. cc) (λ no. refl) (λ no. refl)

@@ -1,18 +1,24 @@
 -- The laws of origin and order need two premises. If a tag is forged, B delivers a frame that A never sent. In the mode
 -- Check it does so without any forged tag, and the promise stays broken in the mode Strict: of two frames that differ
 -- only in the ICV at most one opens, and the other one is delivered as Invalid.
-use Rattle.macsec_counterexamples.proofs.Link.Names.{◌≡◌, ◌⊎◌, inl, inr, ℕ, zero, suc, ◌≤◌, false, List, [], ◌∷◌, ◌++◌, length, refl, ap, sym, subst}
-use Rattle.macsec_counterexamples.proofs.Link.Names.{◌∙◌, arith, Contains, ◌==◌, replicate, Some, ne_eqb, take_all, parts_at, InstalledKey, Check}
-use Rattle.macsec_counterexamples.proofs.Link.Names.{Strict, Invalid, Passed, at_row, judge_opened, Validate, EndConfig, Options, judgement_of, State}
-use Rattle.macsec_counterexamples.proofs.Link.Names.{first_options, no_rx_counters, rx_options, End, B, Event, Command, Deliver, Inject, IsGenuine}
-use Rattle.macsec_counterexamples.proofs.Link.Names.{IsGenuineAt, AgreeOnKey, AgreeOnKeys, sent_under, HasStrictOrder, IsStrict, IsSubsequence}
-use Rattle.macsec_counterexamples.proofs.Link.Names.{WasSentByOther, WasSentInOrder, WhileThere, world_after, world_at, Trace, new_trace, trace_after}
-use Rattle.macsec_counterexamples.proofs.Link.Names.{trace_step, WorldState, end_of, new_world, world_of_trace}
-use Rattle.macsec_counterexamples.proofs.Link.Exchange.{Opens, aad, at_numbers, client, commands, first_judged, first_opens, first_tag}
-use Rattle.macsec_counterexamples.proofs.Link.Exchange.{is_ready, iv, key_row, link_frame_of, link_frame_with, mark, ready, trace_at}
-use Rattle.macsec_counterexamples.proofs.Link.SealedFrames.{closes, first, tag_of}
-use Rattle.macsec_counterexamples.proofs.Link.TracedSteps.{AtEach, WhileLive, world_of, after_both, at_moment, deliver_step, each_append, genuine_append, genuine_at, genuine_next, live_next}
-use Rattle.macsec_counterexamples.proofs.Link.WorkedEnds.{Fails, bytes, gcm_a, gcm_b, of_two, only, rx_from}
+use Rattle.macsec_commands.specs.declared.mode.Mode.TheVariants.{Strict}
+use Rattle.macsec_link.specs.Origin.{WasSentByOther}
+use Rattle.macsec_counterexamples.proofs.{
+  Names.{[], ◌++◌, ◌==◌, ◌∙◌, ◌∷◌, ◌≡◌, ◌≤◌, ◌⊎◌, AgreeOnKey, AgreeOnKeys, ap, arith, at_row, B, Check, Command},
+  Names.{Contains, Deliver, End, end_of, EndConfig, Event, false, first_options, HasStrictOrder, Inject, inl, inr},
+  Names.{InstalledKey, Invalid, IsGenuine, IsGenuineAt, IsStrict, IsSubsequence, judgement_of, length, List, ne_eqb},
+  Names.{new_trace, new_world, no_rx_counters, Options, Passed, refl, replicate, sent_under, Some, State, subst, suc},
+  Names.{sym, take_all, Trace, trace_after, trace_step, Validate, WasSentInOrder, WhileThere, world_after, world_at},
+  Names.{world_of_trace, WorldState, zero, ℕ},
+  Link.{
+    Exchange.{Opens, aad, at_numbers, client, commands, first_judged, first_opens, first_tag, is_ready, iv, key_row},
+    Exchange.{link_frame_of, link_frame_with, mark, ready, trace_at},
+    SealedFrames.{closes, first, tag_of},
+    TracedSteps.{AtEach, WhileLive, world_of, after_both, at_moment, deliver_step, each_append, genuine_append},
+    TracedSteps.{genuine_at, genuine_next, live_next},
+    WorkedEnds.{Fails, bytes, gcm_a, gcm_b, of_two, only, rx_from},
+  },
+}
 
 sent_none : (y : InstalledKey) → Contains (key_row 1 1 ∷ []) y → Contains (sent_under [] y.number) (client 1) → ⊥
 sent_none y there sent =
@@ -146,9 +152,7 @@ strict_again octet =
     record (unvalidated octet) { world = record w { b = record w.b { state = record w.b.state { options = first_options gcm_b } } } }
 
 guess_judged : (octet : ℕ) → IsOther 1 octet → judgement_of in_check.world.b.state (guessed 1 octet) ≡ at_row (rx_from 1) 1 12 Invalid (Some (client 1))
-guess_judged octet other =
-    ap (judge_opened (rx_options in_check.world.b.state) (key_row 2 1) (rx_from 1) 1 (parts_at (guessed 1 octet)))
-    (closes bytes (iv 1) (aad 1 (client 1)) octet (replicate 15 0) other)
+guess_judged octet other = rw (closes bytes (iv 1) (aad 1 (client 1)) octet (replicate 15 0) other)
 
 is_on_link : (octet : ℕ) → trace_step in_check (Inject (guessed 1 octet)) ≡ on_link octet
 is_on_link octet = refl

@@ -1,9 +1,14 @@
 -- Why the law of order would hold without its premise on the suite. If one end's packet numbers are extended and the
 -- other's have 32 bits, an IV that both can have has only one upper half of the extended packet number, since salt and
 -- SCI stay. So the packet numbers, whose lower halves are in the SecTAG, rise together at both ends.
-use Rattle.macsec_counterexamples.proofs.Link.Names.{◌≡◌, ℕ, ◌^◌, ◌<◌, List, [], ◌∷◌, ◌++◌, length, take, get_or, ap, sym, ◌∙◌, arith, ◌/◌, ◌%◌, w32}
-use Rattle.macsec_counterexamples.proofs.Link.Names.{w64, to_be_bytes, get_or_append_left, shr-shr, extended_iv}
-use Rattle.macsec_counterexamples.proofs.Link.Ivs.{get_or-sum, same_of_4, xor_same}
+use Rattle.{
+  std.proofs.{Common.{◌/◌, ◌%◌, shr-shr}, lemmas.List.get_or_append_left},
+  macsec_suite.specs.Suites.extended_iv,
+  macsec_counterexamples.proofs.{
+    Names.{[], ◌++◌, ◌<◌, ◌^◌, ◌∙◌, ◌∷◌, ◌≡◌, arith, get_or, length, List, sym, take, to_be_bytes, w32, w64, ℕ},
+    Link.Ivs.{get_or-sum, same_of_4, xor_same},
+  },
+}
 
 -- the first four octets of an extended packet number are its upper half
 upper_octets : (n : ℕ) → take 4 (to_be_bytes w64 n) ≡ to_be_bytes w32 (n / 2 ^ 32)
@@ -22,8 +27,13 @@ module _ (ssci ssci' n n' m m' : ℕ) (salt sci : List ℕ) (long : length salt 
   same_octet_of_sci k within =
       let inside : k < length sci = omega (arith, within, count) in
       same_unsalted_octet ssci ssci' n n' k salt (omega (arith, within, long))
-      (ap (λ (xs : List ℕ). get_or xs k 0) iv ∙ get_or_append_left sci (to_be_bytes w32 m) 0 k inside
-      ∙ sym (get_or_append_left sci (to_be_bytes w32 m') 0 k inside) ∙ ap (λ (xs : List ℕ). get_or xs k 0) (sym iv'))
+      (rw (
+        iv,
+        get_or_append_left sci (to_be_bytes w32 m) 0 k inside,
+        ← get_or_append_left sci (to_be_bytes w32 m') 0 k
+            inside,
+        ← iv',
+      ))
 
   same_upper_half : n / 2 ^ 32 ≡ n' / 2 ^ 32
   same_upper_half =

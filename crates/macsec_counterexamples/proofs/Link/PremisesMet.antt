@@ -2,15 +2,18 @@
 -- and the verdict; nor does an event that only creates a link frame. The law on packet numbers covers runs with uses of
 -- the cipher at both ends, also with 32-bit packet numbers, the same SSCI and different salts. An end that was strict
 -- until its SA was deleted may then leave the mode Strict.
-use Rattle.macsec_counterexamples.proofs.Link.Names.{◌≡◌, ◌≢◌, ℕ, Bool, true, false, List, [], ◌∷◌, ◌++◌, length, refl, sym, subst, arith, ◌==◌}
-use Rattle.macsec_counterexamples.proofs.Link.Names.{if◌then◌else◌, replicate, Option, Some, None, IfSome, Contains, Reading, bad, tagged, untagged}
-use Rattle.macsec_counterexamples.proofs.Link.Names.{InstalledKey, is_xpn, Check, RxRow, Judgement, RxDel, Validate, EndConfig, judgement_of, State}
-use Rattle.macsec_counterexamples.proofs.Link.Names.{End, B, Event, Alter, Command, Deliver, Inject, Pad, Send, SendUncontrolled, make_fault}
-use Rattle.macsec_counterexamples.proofs.Link.Names.{IsGenuineAt, use_opened_in, AgreeOnKey, AgreeOnKeys, DifferInSsci, IsStrict, WhileThere}
-use Rattle.macsec_counterexamples.proofs.Link.Names.{world_after, Trace, use_to_open_by, trace_of, end_of, frame_at, new_world}
+use Rattle.macsec_tag.specs.Table.{Reading, bad, tagged, untagged}
+use Rattle.macsec_counterexamples.proofs.{
+  Names.{[], ◌++◌, ◌==◌, ◌∷◌, ◌≡◌, ◌≢◌, AgreeOnKey, AgreeOnKeys, Alter, arith, B, Check, Command, Contains, Deliver},
+  Names.{DifferInSsci, End, end_of, EndConfig, Event, false, frame_at, IfSome, Inject, InstalledKey, is_xpn},
+  Names.{IsGenuineAt, IsStrict, Judgement, judgement_of, length, List, make_fault, new_world, None, Option, Pad, refl},
+  Names.{replicate, RxDel, RxRow, Send, SendUncontrolled, Some, State, Trace, trace_of, true, use_opened_in, Validate},
+  Names.{WhileThere, world_after, ℕ},
+  Link.TracedSteps.{WhileLive, at_moment},
+  Link.WorkedEnds.{both_send, gcm_a, gcm_b, new_key, no_salt, of_two, receives_from, sci_a, sci_b, scis_differ, xpn_a},
+  Link.WorkedEnds.xpn_b,
+}
 use Rattle.macsec_tag.specs.Table as table
-use Rattle.macsec_counterexamples.proofs.Link.TracedSteps.{WhileLive, at_moment}
-use Rattle.macsec_counterexamples.proofs.Link.WorkedEnds.{both_send, gcm_a, gcm_b, new_key, no_salt, of_two, receives_from, sci_a, sci_b, scis_differ, xpn_a, xpn_b}
 
 -- a frame that step 13 of reception does not decide has no condition
 pub nothing_asked : (t : Trace) (e : End) (n : ℕ) → ((judgement_of (end_of t.world e).state (frame_at t.world n)).step == 13) ≡ false → IsGenuineAt t (Deliver e n)
@@ -28,7 +31,7 @@ nothing_asked t e n not13 = by_parts (judgement_of s frame) (judgement_of s fram
     by_parts j None (tagged p) not13 = tt
     by_parts j (Some row) untagged not13 = tt
     by_parts j (Some row) (bad fault) not13 = tt
-    by_parts j (Some row) (tagged p) not13 = subst (λ (b : Bool). IfSome (if b then Some (use_to_open_by s row j.number p) else None) (Contains t.seals)) (sym not13) tt
+    by_parts j (Some row) (tagged p) not13 = rw not13 tt
 
 -- an event that is no delivery has no condition
 pub others_ask_nothing : (t : Trace) (e : End) (frame : List ℕ) (n place octet : ℕ) →

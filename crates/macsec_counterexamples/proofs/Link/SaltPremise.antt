@@ -1,21 +1,23 @@
 -- The order of deliveries needs the same salt at both ends. With another salt at B, B can recover another packet number
 -- than A's, and the IV can still be the same. A sends three frames, from ffffffff on; B takes the third as number 1,
 -- and then the first as 1ffffffff.
-use Rattle.macsec_counterexamples.proofs.Link.Names.{◌≡◌, ◌≢◌, ℕ, get_or, zero, suc, ◌+◌, ◌-◌, ◌*◌, ◌^◌, ◌<◌, false, List, [], ◌∷◌, ◌++◌, refl, ap}
-use Rattle.macsec_counterexamples.proofs.Link.Names.{sym, subst, ◌∙◌, arith, replicate, Some, open_of, sum_with_stream, parts_at, Xpn128, CipherUse}
-use Rattle.macsec_counterexamples.proofs.Link.Names.{cipher_use, InstalledKey, iv_of, Sending, tag_sent, RxRow, Passed, at_row, judge_opened, RxLow}
-use Rattle.macsec_counterexamples.proofs.Link.Names.{EndConfig, Options, judgement_of, State, first_options, no_counters, no_rx_counters}
-use Rattle.macsec_counterexamples.proofs.Link.Names.{no_tx_counters, rx_options, start, tx_options, End, A, B, Event, Command, Deliver, Send}
-use Rattle.macsec_counterexamples.proofs.Link.Names.{IsGenuine, IsGenuineAt, HasStrictOrder, IsStrict, IsSubsequence, WasSentInOrder, WhileThere}
-use Rattle.macsec_counterexamples.proofs.Link.Names.{world_after, Mark, Trace, new_trace, trace_after, trace_step, WorldState, new_world}
-use Rattle.macsec_counterexamples.proofs.Link.Names.{world_of_trace}
-use Rattle.macsec_counterexamples.proofs.Link.Exchange.{client, mark}
-use Rattle.macsec_counterexamples.proofs.Link.IvPremises.{AgreeOnSuite, AgreeOnSuites}
-use Rattle.macsec_counterexamples.proofs.Link.SealedFrames.{Sealed, aad_sent, frame_with, items, opens, parts_with, sealed, tag_of, with_tag}
-use Rattle.macsec_counterexamples.proofs.Link.TracedSteps.{AtEach, WhileLive, world_of, after_both, at_moment, deliver_step, each_append}
-use Rattle.macsec_counterexamples.proofs.Link.TracedSteps.{genuine_append, genuine_at, genuine_next, live_next, send_step, sent_by}
-use Rattle.macsec_counterexamples.proofs.Link.WorkedEnds.{Fails, bytes, counts, installed_key, log, logs_sent, new_key, no_salt, of_two}
-use Rattle.macsec_counterexamples.proofs.Link.WorkedEnds.{receives_from, rx_from, sci_a, sends_from, tx_from, xpn_a, xpn_b}
+use Rattle.macsec_counterexamples.proofs.{
+  Names.{[], ◌*◌, ◌++◌, ◌+◌, ◌-◌, ◌<◌, ◌^◌, ◌∙◌, ◌∷◌, ◌≡◌, ◌≢◌, A, ap, arith, at_row, B, cipher_use, CipherUse},
+  Names.{Command, Deliver, End, EndConfig, Event, false, first_options, get_or, HasStrictOrder, InstalledKey},
+  Names.{IsGenuine, IsGenuineAt, IsStrict, IsSubsequence, iv_of, judgement_of, List, Mark, new_trace, new_world},
+  Names.{no_counters, no_rx_counters, no_tx_counters, open_of, Passed, refl, replicate, RxLow, RxRow, Send, Sending},
+  Names.{Some, start, State, suc, sum_with_stream, sym, tag_sent, Trace, trace_after, trace_step, tx_options},
+  Names.{WasSentInOrder, WhileThere, world_after, world_of_trace, Xpn128, zero, ℕ},
+  Link.{
+    Exchange.{client, mark},
+    IvPremises.{AgreeOnSuite, AgreeOnSuites},
+    SealedFrames.{Sealed, aad_sent, frame_with, items, opens, parts_with, sealed, tag_of, with_tag},
+    TracedSteps.{AtEach, WhileLive, world_of, after_both, at_moment, deliver_step, each_append, genuine_append},
+    TracedSteps.{genuine_at, genuine_next, live_next, send_step, sent_by},
+    WorkedEnds.{Fails, bytes, counts, installed_key, log, logs_sent, new_key, no_salt, of_two, receives_from, rx_from},
+    WorkedEnds.{sci_a, sends_from, tx_from, xpn_a, xpn_b},
+  },
+}
 
 -- B's salt flips the lowest bit of the upper half
 abbrev salt_b : List ℕ
@@ -123,19 +125,19 @@ sent_two t u = trace_at 2 (number 2) (rx_from 1) 0 (own 0 ∷ own 1 ∷ []) [] (
 
 first_sent : trace_step ready (Send A (client 1)) ≡ sent_one (tag 0)
 first_sent =
-    send_step ready (client 1) (tx_from (number 0)) (frame 0 (tag 0)) refl refl
-    (ap (sending_by 0) (sealed bytes (iv 0) (aad 0)))
-    ∙ ap (λ (it : Sealed). trace_at 1 (number 1) (rx_from 1) 0 (own 0 ∷ []) [] (frame 0 (tag 0) ∷ [])
-    (use_by 0 it ∷ []) []) (sealed bytes (iv 0) (aad 0))
+    rw (
+      send_step ready (client 1) (tx_from (number 0)) (frame 0 (tag 0)) refl refl
+          (rw (sealed bytes (iv 0) (aad 0))),
+      sealed bytes (iv 0) (aad 0),
+    )
 
 second_sent : (t : List ℕ) → trace_step (sent_one t) (Send A (client 2)) ≡ sent_two t (tag 1)
 second_sent t =
-    send_step (sent_one t) (client 2) (tx_from (number 1)) (frame 1 (tag 1)) refl refl
-    (ap (sending_by 1) (sealed bytes (iv 1) (aad 1)))
-    ∙ ap (λ (it : Sealed).
-    trace_at 2 (number 2) (rx_from 1) 0 (own 0 ∷ own 1 ∷ []) [] (frame 0 t ∷ frame 1 (tag 1) ∷ [])
-    (use_of 0 t ∷ use_by 1 it ∷ []) [])
-    (sealed bytes (iv 1) (aad 1))
+    rw (
+      send_step (sent_one t) (client 2) (tx_from (number 1)) (frame 1 (tag 1)) refl refl
+          (rw (sealed bytes (iv 1) (aad 1))),
+      sealed bytes (iv 1) (aad 1),
+    )
 
 abbrev all_sent : List (List ℕ)
 all_sent = own 0 ∷ own 1 ∷ own 2 ∷ []
@@ -147,12 +149,11 @@ three_sent t u v row m delivered marks =
 
 third_sent : (t u : List ℕ) → trace_step (sent_two t u) (Send A (client 3)) ≡ three_sent t u (tag 2) (rx_from 1) 0 [] []
 third_sent t u =
-    send_step (sent_two t u) (client 3) (tx_from (number 2)) (frame 2 (tag 2)) refl refl
-    (ap (sending_by 2) (sealed bytes (iv 2) (aad 2)))
-    ∙ ap (λ (it : Sealed).
-    trace_at 3 (number 3) (rx_from 1) 0 all_sent [] (frame 0 t ∷ frame 1 u ∷ frame 2 (tag 2) ∷ [])
-    (use_of 0 t ∷ use_of 1 u ∷ use_by 2 it ∷ []) [])
-    (sealed bytes (iv 2) (aad 2))
+    rw (
+      send_step (sent_two t u) (client 3) (tx_from (number 2)) (frame 2 (tag 2)) refl refl
+          (rw (sealed bytes (iv 2) (aad 2))),
+      sealed bytes (iv 2) (aad 2),
+    )
 
 -- ---- what B recovers
 
@@ -181,10 +182,7 @@ after_first t u v = three_sent t u v (rx_from (2 ^ 33)) 2 (own 2 ∷ own 0 ∷ [
 
 third_judged : (t u v : List ℕ) → Opens 2 v →
     judgement_of (before_delivery t u v).world.b.state (frame 2 v) ≡ at_row (rx_from 1) 1 13 Passed (Some (own 2))
-third_judged t u v is =
-    ap (judge_opened (rx_options (before_delivery t u v).world.b.state) (key_row salt_b 2 1) (rx_from 1) 1
-    (parts_at (frame 2 v)))
-    (ap (λ (i : List ℕ). open_of bytes i (aad 2) [] (items 16 v)) iv_of_third ∙ is)
+third_judged t u v is = rw (ap (λ (i : List ℕ). open_of bytes i (aad 2) [] (items 16 v)) iv_of_third ∙ is)
 
 third_heard : (t u v : List ℕ) → Opens 2 v → trace_step (before_delivery t u v) (Deliver B 2) ≡ after_third t u v
 third_heard t u v is = deliver_step (before_delivery t u v) 2 (frame 2 v)
@@ -194,7 +192,7 @@ third_genuine : (t u v : List ℕ) → Opens 2 v → IsGenuineAt (before_deliver
 third_genuine t u v is =
     genuine_at (before_delivery t u v).world.b.state (frame 2 v) (at_row (rx_from 1) 1 13 Passed (Some (own 2)))
     (before_delivery t u v).seals (third_judged t u v is)
-    (2, omega arith, ap (λ (i : List ℕ). record (use_of 2 v) { iv = i }) (sym iv_of_third))
+    (2, omega arith, rw (← iv_of_third))
 
 is_raised : (t u v : List ℕ) → trace_step (after_third t u v) (Command B (RxLow sci_a 0 (2 ^ 32))) ≡ after_raising t u v
 is_raised t u v = refl
@@ -202,10 +200,7 @@ is_raised t u v = refl
 first_judged : (t u v : List ℕ) → Opens 0 t →
     judgement_of (after_raising t u v).world.b.state (frame 0 t) ≡
     at_row (rx_from (2 ^ 32)) (2 ^ 33 - 1) 13 Passed (Some (own 0))
-first_judged t u v is =
-    ap (judge_opened (rx_options (after_raising t u v).world.b.state) (key_row salt_b 2 1) (rx_from (2 ^ 32))
-    (2 ^ 33 - 1) (parts_at (frame 0 t)))
-    (ap (λ (i : List ℕ). open_of bytes i (aad 0) [] (items 16 t)) iv_of_first ∙ is)
+first_judged t u v is = rw (ap (λ (i : List ℕ). open_of bytes i (aad 0) [] (items 16 t)) iv_of_first ∙ is)
 
 first_heard : (t u v : List ℕ) → Opens 0 t → trace_step (after_raising t u v) (Deliver B 0) ≡ after_first t u v
 first_heard t u v is = deliver_step (after_raising t u v) 0 (frame 0 t)
@@ -216,7 +211,7 @@ first_genuine t u v is =
     genuine_at (after_raising t u v).world.b.state (frame 0 t)
     (at_row (rx_from (2 ^ 32)) (2 ^ 33 - 1) 13 Passed (Some (own 0))) (after_raising t u v).seals
     (first_judged t u v is)
-    (0, omega arith, ap (λ (i : List ℕ). record (use_of 0 t) { iv = i }) (sym iv_of_first))
+    (0, omega arith, rw (← iv_of_first))
 
 -- ---- the run
 
@@ -332,11 +327,10 @@ same_salt_needed_for_order = (
   refl,
   λ law.
       let in_order : WasSentInOrder heard_first.world B 0 =
-      subst (λ (w : WorldState). WasSentInOrder w B 0) last_world_is
-      (law is_genuine (subst AgreeOnSuites (sym last_world_is) (of_two AgreeOnSuite _ _ (λ same. refl))) B 0
-      (while_there IsStrict (λ s is. ap (λ (o : Options). o.mode) is))
+      rw last_world_is at (law is_genuine (rw last_world_is (of_two AgreeOnSuite _ _ (λ same. refl))) B 0
+      (while_there IsStrict (λ s is. rw is))
       (while_there HasStrictOrder
-      (λ s is. record { replay = ap (λ (o : Options). o.replay) is; window = ap (λ (o : Options). o.window) is }))) in
+      (λ s is. record { replay = rw is; window = rw is }))) in
       no_subsequence (own 0) (own 1) (own 2) (differ 2 1 (λ same. omega (arith, same)))
       (differ 3 1 (λ same. omega (arith, same)))
       (in_order (key_row no_salt 1 (number 3)) (0, omega arith, refl) refl),

@@ -1,9 +1,12 @@
 -- Frames sealed for integrity only, octet by octet. Sealing gives a tag of 16 octets, whatever they are, so runs with
 -- such frames are computed without the cipher.
-use Rattle.macsec_counterexamples.proofs.Link.Names.{◌≡◌, ℕ, zero, suc, List, [], ◌∷◌, ◌++◌, length, take, drop, true, false, refl, ap, sym, ◌∙◌}
-use Rattle.macsec_counterexamples.proofs.Link.Names.{arith, eq-eqb, ◌==◌, ◌&&◌, slice_range, if◌then◌else◌, Some, None, authentication_tag, gctr}
-use Rattle.macsec_counterexamples.proofs.Link.Names.{open_of, seal_of, same_octets, MpduParts, in_a_row, Tag, InstalledKey, aad_and_plaintext}
-use Rattle.macsec_counterexamples.proofs.Link.Names.{TxOptions, TxRow, tag_sent}
+use Rattle.{
+  std.proofs.Common.eq-eqb,
+  macsec_counterexamples.proofs.Names.{[], ◌++◌, ◌==◌, ◌∷◌, ◌≡◌, aad_and_plaintext, arith, authentication_tag, drop},
+  macsec_counterexamples.proofs.Names.{false, gctr, in_a_row, InstalledKey, length, List, MpduParts, None, open_of},
+  macsec_counterexamples.proofs.Names.{refl, same_octets, seal_of, slice_range, Some, suc, sym, Tag, tag_sent, take},
+  macsec_counterexamples.proofs.Names.{true, TxOptions, TxRow, zero, ℕ},
+}
 
 -- ---- a list of a known length, element by element
 
@@ -24,7 +27,7 @@ unfolding first rest
 each_item zero [] long = refl
 each_item zero (x ∷ xs) long = absurd (omega (arith, long))
 each_item (suc n) [] long = absurd (omega (arith, long))
-each_item (suc n) (x ∷ xs) long = ap (λ (ys : List ℕ). x ∷ ys) (each_item n xs (omega (arith, long)))
+each_item (suc n) (x ∷ xs) long = rw (each_item n xs (omega (arith, long)))
 
 -- ---- the cipher with an empty plaintext
 
@@ -56,21 +59,21 @@ same_refl (x ∷ xs) = rw (eq-eqb x x refl, same_refl xs) refl
 
 opens_tag : (key iv aad : List ℕ) → open_of key iv aad [] (tag_of key iv aad) ≡ Some []
 unfolding open_of seal_of gctr tag_of
-opens_tag key iv aad = ap (λ b. if b then Some [] else None) (same_refl (seal_of key iv aad []).1)
+opens_tag key iv aad = rw (same_refl (seal_of key iv aad []).1)
 
 pub opens : (key iv aad : List ℕ) → open_of key iv aad [] (items 16 (tag_of key iv aad)) ≡ Some []
-opens key iv aad = ap (open_of key iv aad []) (each_item 16 (tag_of key iv aad) (long_tag key iv aad)) ∙ opens_tag key iv aad
+opens key iv aad = rw (each_item 16 (tag_of key iv aad) (long_tag key iv aad), opens_tag key iv aad)
 
 -- at most one tag opens: a tag with another first octet does not
 pub first_differs : (xs : List ℕ) (octet : ℕ) (others : List ℕ) → length xs ≡ 16 → (first xs == octet) ≡ false → same_octets xs (octet ∷ others) ≡ false
 unfolding first
 first_differs [] octet others long other = absurd (omega (arith, long))
-first_differs (x ∷ xs) octet others long other = ap (λ b. b && same_octets xs others) other
+first_differs (x ∷ xs) octet others long other = rw other
 
 pub closes : (key iv aad : List ℕ) (octet : ℕ) (others : List ℕ) → (first (tag_of key iv aad) == octet) ≡ false → open_of key iv aad [] (octet ∷ others) ≡ None
 unfolding open_of seal_of gctr tag_of
 closes key iv aad octet others other =
-    ap (λ b. if b then Some [] else None) (first_differs (seal_of key iv aad []).1 octet others (long_tag key iv aad) other)
+    rw (first_differs (seal_of key iv aad []).1 octet others (long_tag key iv aad) other)
 
 -- ---- frames
 

@@ -1,12 +1,17 @@
 -- One event of a trace, from the endpoint's result. So a worked run continues from a world that is written out, and
 -- never computes earlier events again.
-use Rattle.macsec_counterexamples.proofs.Link.Names.{◌≡◌, ℕ, ◌≤◌, zero, suc, List, [], ◌∷◌, ◌++◌, length, take, refl, ap, sym, subst, arith}
-use Rattle.macsec_counterexamples.proofs.Link.Names.{slice_get, true, Some, None, IfSome, Contains, reading, CipherUse, TxRow, Sending, protected}
-use Rattle.macsec_counterexamples.proofs.Link.Names.{Judgement, State, client_frame, frame_fault, leaves, link_frame, received_output, sending_of}
-use Rattle.macsec_counterexamples.proofs.Link.Names.{state_after_sending, judgement_of, state_after_receiving, A, B, Event, Deliver, Send, fault_of}
-use Rattle.macsec_counterexamples.proofs.Link.Names.{IsGenuine, IsGenuineAt, use_opened, use_opened_in, world_after, world_step, Trace, marks_by}
-use Rattle.macsec_counterexamples.proofs.Link.Names.{use_sealed_by, trace_after, trace_step, WorldState, frame_at}
-use Rattle.macsec_link_logs.specs.Ends.{end_after}
+use Rattle.{
+  macsec_tx.specs.Transmit.protected,
+  macsec_secy.specs.Step.{leaves, received_output, state_after_sending},
+  macsec_link_logs.specs.Ends.end_after,
+  macsec_link.specs.Trace.marks_by,
+  macsec_counterexamples.proofs.Names.{[], ◌++◌, ◌∷◌, ◌≡◌, ◌≤◌, A, ap, arith, B, CipherUse, client_frame, Contains},
+  macsec_counterexamples.proofs.Names.{Deliver, Event, fault_of, frame_at, frame_fault, IfSome, IsGenuine, IsGenuineAt},
+  macsec_counterexamples.proofs.Names.{Judgement, judgement_of, length, link_frame, List, None, reading, refl, Send},
+  macsec_counterexamples.proofs.Names.{Sending, sending_of, slice_get, Some, State, state_after_receiving, suc, take},
+  macsec_counterexamples.proofs.Names.{Trace, trace_after, trace_step, true, TxRow, use_opened, use_opened_in},
+  macsec_counterexamples.proofs.Names.{use_sealed_by, world_after, world_step, WorldState, zero, ℕ},
+}
 
 abbrev pub world_of : Trace → WorldState
 world_of t = t.world
@@ -50,16 +55,16 @@ deliver_step t n frame j none there fits judged = rw (none, there, fits, judged)
 
 pub genuine_at : (s : State) (frame : List ℕ) (j : Judgement) (seals : List CipherUse) → judgement_of s frame ≡ j →
     IfSome (use_opened_in s j j.row (reading frame)) (Contains seals) → IfSome (use_opened s frame) (Contains seals)
-genuine_at s frame j seals judged it = subst (λ (j : Judgement). IfSome (use_opened_in s j j.row (reading frame)) (Contains seals)) (sym judged) it
+genuine_at s frame j seals judged it = rw judged it
 
 -- ---- several events, in order
 
 pub genuine_next : (t after : Trace) (event : Event) (events : List Event) → IsGenuineAt t event → trace_step t event ≡ after →
     IsGenuine after events → IsGenuine t (event ∷ events)
-genuine_next t after event events now is later = (now, subst (λ (x : Trace). IsGenuine x events) (sym is) later)
+genuine_next t after event events now is later = (now, rw is later)
 
 pub genuine_append : (t after : Trace) (events more : List Event) → IsGenuine t events → trace_after t events ≡ after → IsGenuine after more → IsGenuine t (events ++ more)
-genuine_append t after [] more now is later = subst (λ (x : Trace). IsGenuine x more) (sym is) later
+genuine_append t after [] more now is later = rw is later
 genuine_append t after (event ∷ events) more now is later = (now.0, genuine_append (trace_step t event) after events more now.1 is later)
 
 abbrev pub AtEach : (WorldState → Type 0) → WorldState → List Event → Type 0
@@ -76,7 +81,7 @@ AtEachBefore P w (event ∷ events) = P w × AtEachBefore P (world_step w event)
 
 pub each_next : (P : WorldState → Type 0) (w after : WorldState) (event : Event) (events : List Event) → P w → (world_step w event).1 ≡ after →
     AtEach P after events → AtEach P w (event ∷ events)
-each_next P w after event events now is later = (now, subst (λ (x : WorldState). AtEach P x events) (sym is) later)
+each_next P w after event events now is later = (now, rw is later)
 
 -- the same for a property of B along a trace
 pub live_next : (P : State → Type 0) (t after : Trace) (event : Event) (events : List Event) → WhileLive P t.world → trace_step t event ≡ after →
@@ -85,7 +90,7 @@ live_next P t after event events now is later = each_next (WhileLive P) t.world 
 
 pub each_append : (P : WorldState → Type 0) (w after : WorldState) (events more : List Event) → AtEachBefore P w events →
     world_after w events ≡ after → AtEach P after more → AtEach P w (events ++ more)
-each_append P w after [] more now is later = subst (λ (x : WorldState). AtEach P x more) (sym is) later
+each_append P w after [] more now is later = rw is later
 each_append P w after (event ∷ events) more now is later = (now.0, each_append P (world_step w event).1 after events more now.1 is later)
 
 pub at_moment : (P : WorldState → Type 0) (w : WorldState) (events : List Event) → AtEach P w events → (k : ℕ) → k ≤ length events → P (world_after w (take k events))
@@ -95,5 +100,5 @@ at_moment P w (event ∷ events) each zero within = each.0
 at_moment P w (event ∷ events) each (suc k) within = at_moment P (world_step w event).1 events each.1 k (omega (arith, within))
 
 pub after_both : (t after : Trace) (events more : List Event) → trace_after t events ≡ after → trace_after t (events ++ more) ≡ trace_after after more
-after_both t after [] more is = subst (λ (x : Trace). trace_after t more ≡ trace_after x more) is refl
+after_both t after [] more is = rw (← is) refl
 after_both t after (event ∷ events) more is = after_both (trace_step t event) after events more is

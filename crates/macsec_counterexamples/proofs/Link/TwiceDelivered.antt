@@ -1,19 +1,21 @@
 -- The order of deliveries needs replay protection with a window of 0, at every moment. With it off, or with a window of
 -- 1, one frame is delivered twice, though no tag is forged, B validates strictly, and B has both settings afterwards.
 -- With it off, the later packet number is not above the earlier one either.
-use Rattle.macsec_counterexamples.proofs.Link.Names.{◌≡◌, ℕ, zero, ◌+◌, ◌<◌, Bool, true, false, List, [], ◌∷◌, ◌++◌, refl, ap, sym, subst, ◌∙◌}
-use Rattle.macsec_counterexamples.proofs.Link.Names.{arith, AllPairs, Some, parts_at, RxRow, Verdict, Delayed, Passed, at_row, judge_opened, Replay}
-use Rattle.macsec_counterexamples.proofs.Link.Names.{EndConfig, Options, RxCounters, judgement_of, State, first_options, no_rx_counters, rx_options}
-use Rattle.macsec_counterexamples.proofs.Link.Names.{sending_of, End, A, B, Event, Command, Deliver, Send, IsGenuine, IsGenuineAt, AgreeOnKey}
-use Rattle.macsec_counterexamples.proofs.Link.Names.{AgreeOnKeys, HasStrictOrder, IsStrict, IsSubsequence, WasSentInOrder, WhileThere, world_after}
-use Rattle.macsec_counterexamples.proofs.Link.Names.{Mark, Trace, marks_of, new_trace, trace_after, trace_of, trace_step, WorldState, end_of}
-use Rattle.macsec_counterexamples.proofs.Link.Names.{new_world, world_of_trace}
-use Rattle.macsec_counterexamples.proofs.Link.Exchange.{Opens, aad, client, first_opens, first_tag, iv, key_row, link_frame_of, link_frame_with, trace_at, use_of, use_with}
+use Rattle.macsec_counterexamples.proofs.{
+  Names.{[], ◌++◌, ◌+◌, ◌<◌, ◌∙◌, ◌∷◌, ◌≡◌, A, AgreeOnKey, AgreeOnKeys, AllPairs, ap, arith, at_row, B, Bool, Command},
+  Names.{Delayed, Deliver, End, end_of, EndConfig, Event, false, first_options, HasStrictOrder, IsGenuine, IsGenuineAt},
+  Names.{IsStrict, IsSubsequence, judgement_of, List, Mark, marks_of, new_trace, new_world, no_rx_counters, Options},
+  Names.{Passed, refl, Replay, RxCounters, RxRow, Send, sending_of, Some, State, subst, sym, Trace, trace_after},
+  Names.{trace_of, trace_step, true, Verdict, WasSentInOrder, WhileThere, world_after, world_of_trace, zero, ℕ},
+  Link.{
+    Exchange.{Opens, aad, client, first_opens, first_tag, iv, key_row, link_frame_of, trace_at, use_of},
+    SealedFrames.sealed,
+    TracedSteps.{AtEach, WhileLive, after_both, at_moment, deliver_step, each_append, genuine_append, genuine_at},
+    TracedSteps.{genuine_next, live_next, send_step, sent_by},
+    WorkedEnds.{Fails, bytes, gcm_a, gcm_b, of_two, rx_from, tx_from},
+  },
+}
 use Rattle.macsec_counterexamples.proofs.Link.Exchange as exchange
-use Rattle.macsec_counterexamples.proofs.Link.SealedFrames.{Sealed, sealed}
-use Rattle.macsec_counterexamples.proofs.Link.TracedSteps.{AtEach, WhileLive, after_both, at_moment, deliver_step, each_append}
-use Rattle.macsec_counterexamples.proofs.Link.TracedSteps.{genuine_append, genuine_at, genuine_next, live_next, send_step, sent_by}
-use Rattle.macsec_counterexamples.proofs.Link.WorkedEnds.{Fails, bytes, gcm_a, gcm_b, of_two, rx_from, tx_from}
 
 -- the window is 1 with replay protection on, and 0 with it off
 abbrev window : Bool → ℕ
@@ -92,22 +94,20 @@ at_end replay t =
 -- ---- the steps
 
 sends : (replay : Bool) → sending_of (ready replay).world.a.state (client 1) ≡ sent_by (tx_from 1) (frame first_tag)
-sends replay = ap (λ (it : Sealed). sent_by (tx_from 1) (link_frame_with 1 (client 1) it))
-    (sealed bytes (iv 1) (aad 1 (client 1)))
+sends replay = rw (sealed bytes (iv 1) (aad 1 (client 1)))
 
 is_sent : (replay : Bool) → trace_step (ready replay) (Send A (client 1)) ≡ after_sending replay first_tag
 is_sent replay =
-    send_step (ready replay) (client 1) (tx_from 1) (frame first_tag) refl refl (sends replay)
-    ∙ ap (λ (it : Sealed). trace_at (options_of replay) 1 (rx_from 1) 0 no_rx_counters (client 1 ∷ []) []
-    (frame first_tag ∷ []) (use_with 1 (client 1) it ∷ []) [])
-    (sealed bytes (iv 1) (aad 1 (client 1)))
+    rw (
+      send_step (ready replay) (client 1) (tx_from 1) (frame first_tag) refl refl (sends replay),
+      sealed bytes (iv 1)
+          (aad 1 (client 1)),
+    )
 
 once_judged : (replay : Bool) (t : List ℕ) → Opens 1 t →
     judgement_of (after_sending replay t).world.b.state (frame t) ≡ at_row (rx_from 1) 1 13 Passed (Some (client 1))
-once_judged true t is = ap (judge_opened (rx_options (after_sending true t).world.b.state) (key_row 2 1) (rx_from 1) 1
-    (parts_at (frame t))) is
-once_judged false t is = ap (judge_opened (rx_options (after_sending false t).world.b.state) (key_row 2 1) (rx_from 1) 1
-    (parts_at (frame t))) is
+once_judged true t is = rw is
+once_judged false t is = rw is
 
 once_heard : (replay : Bool) (t : List ℕ) → Opens 1 t →
     trace_step (after_sending replay t) (Deliver B 0) ≡ after_once replay t
@@ -125,10 +125,8 @@ once_genuine replay t is =
 again_judged : (replay : Bool) (t : List ℕ) → Opens 1 t →
     judgement_of (after_once replay t).world.b.state (frame t) ≡
     at_row (heard_row replay) 1 13 (again replay) (Some (client 1))
-again_judged true t is = ap (judge_opened (rx_options (after_once true t).world.b.state) (key_row 2 1)
-    (heard_row true) 1 (parts_at (frame t))) is
-again_judged false t is = ap (judge_opened (rx_options (after_once false t).world.b.state) (key_row 2 1)
-    (heard_row false) 1 (parts_at (frame t))) is
+again_judged true t is = rw is
+again_judged false t is = rw is
 
 again_heard : (replay : Bool) (t : List ℕ) → Opens 1 t →
     trace_step (after_once replay t) (Deliver B 0) ≡ after_twice replay t
@@ -225,20 +223,18 @@ keys_agree replay = of_two (λ x y. x.bytes ≡ y.bytes → AgreeOnKey x y) _ _
     (λ same. record { suite = refl; salt = λ xpn. refl })
 
 has_rest : (replay : Bool) → WhileThere gcm_a gcm_b (events replay) B 0 (HasRest replay)
-has_rest true = while_there true (HasRest true) (λ s is. ap (λ (o : Options). o.replay) is)
-    (λ s is. ap (λ (o : Options). o.replay) is)
-has_rest false = while_there false (HasRest false) (λ s is. ap (λ (o : Options). o.window) is)
-    (λ s is. ap (λ (o : Options). o.window) is)
+has_rest true = while_there true (HasRest true) (λ s is. rw is)
+    (λ s is. rw is)
+has_rest false = while_there false (HasRest false) (λ s is. rw is)
+    (λ s is. rw is)
 
 order_fails : (replay : Bool) → OrderWithRest replay gcm_a gcm_b (events replay) → ⊥
 order_fails replay law =
     let in_order : WasSentInOrder (at_end replay first_tag).world B 0 =
-    subst (λ (w : WorldState). WasSentInOrder w B 0) (last_world_is replay)
-    (law (is_genuine replay) (subst AgreeOnKeys (sym (last_world_is replay)) (keys_agree replay)) B 0
-    (while_there replay IsStrict (λ s is. ap (λ (o : Options). o.mode) is) (λ s is. ap (λ (o : Options). o.mode) is))
+    rw (last_world_is replay) at (law (is_genuine replay) (rw (last_world_is replay) (keys_agree replay)) B 0
+    (while_there replay IsStrict (λ s is. rw is) (λ s is. rw is))
     (has_rest replay)
-    (subst (λ (w : WorldState). HasStrictOrder w.b.state) (sym (last_world_is replay))
-    (record { replay = refl; window = refl }))) in
+    (rw (last_world_is replay) (record { replay = refl; window = refl }))) in
     no_subsequence (client 1) (in_order (key_row 1 2) (0, omega arith, refl) refl)
 
 -- a window of 1 is too wide

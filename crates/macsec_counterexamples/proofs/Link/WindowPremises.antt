@@ -1,15 +1,18 @@
 -- The law of windows needs the premise that the earlier frame was validated. In the mode Check a frame with packet
 -- number 2 and a wrong ICV is delivered as Invalid, the packet numbers of the SA stay, and then the frame with packet
 -- number 1 passes.
-use Rattle.macsec_counterexamples.proofs.Link.Names.{◌≡◌, ◌⊎◌, ℕ, ◌+◌, ◌<◌, true, false, List, [], ◌∷◌, ◌++◌, refl, ap, subst, ◌∙◌, arith, AllPairs}
-use Rattle.macsec_counterexamples.proofs.Link.Names.{replicate, Some, parts_at, Invalid, Passed, at_row, judge_opened, EndConfig, RxCounters}
-use Rattle.macsec_counterexamples.proofs.Link.Names.{judgement_of, no_rx_counters, rx_options, sending_of, End, A, B, Event, Deliver, Inject, Send}
-use Rattle.macsec_counterexamples.proofs.Link.Names.{Mark, Trace, marks_of, new_trace, trace_after, trace_of, trace_step}
-use Rattle.macsec_counterexamples.proofs.Link.Exchange.{Opens, aad, client, first_opens, first_tag, iv, key_row, link_frame_of, link_frame_with, mark, trace_at, use_of, use_with}
-use Rattle.macsec_counterexamples.proofs.Link.OriginPremises.{IsOther, commands_check, guessed, in_check, is_in_check, of_one, options_check}
-use Rattle.macsec_counterexamples.proofs.Link.SealedFrames.{Sealed, closes, sealed}
-use Rattle.macsec_counterexamples.proofs.Link.TracedSteps.{after_both, deliver_step, send_step, sent_by}
-use Rattle.macsec_counterexamples.proofs.Link.WorkedEnds.{Fails, bytes, gcm_a, gcm_b, rx_from, tx_from}
+use Rattle.macsec_counterexamples.proofs.{
+  Names.{[], ◌++◌, ◌+◌, ◌<◌, ◌∙◌, ◌∷◌, ◌≡◌, ◌⊎◌, A, AllPairs, ap, arith, at_row, B, Deliver, End, EndConfig, Event},
+  Names.{false, Inject, Invalid, judgement_of, List, Mark, marks_of, new_trace, no_rx_counters, Passed, refl},
+  Names.{replicate, RxCounters, Send, sending_of, Some, subst, Trace, trace_after, trace_of, trace_step, true, ℕ},
+  Link.{
+    Exchange.{Opens, aad, client, first_opens, first_tag, iv, link_frame_of, mark, trace_at, use_of},
+    OriginPremises.{IsOther, commands_check, guessed, in_check, is_in_check, of_one, options_check},
+    SealedFrames.{closes, sealed},
+    TracedSteps.{after_both, deliver_step, send_step, sent_by},
+    WorkedEnds.{Fails, bytes, gcm_a, gcm_b, rx_from, tx_from},
+  },
+}
 
 -- a frame with packet number 2 and a guessed ICV, and then A's own with packet number 1
 abbrev then_sent : List Event
@@ -49,27 +52,25 @@ is_on_link : (octet : ℕ) → trace_step in_check (Inject (guessed 2 octet)) �
 is_on_link octet = refl
 
 guess_judged : (octet : ℕ) → IsOther 2 octet → judgement_of in_check.world.b.state (guessed 2 octet) ≡ at_row (rx_from 1) 2 12 Invalid (Some (client 2))
-guess_judged octet other =
-    ap (judge_opened (rx_options in_check.world.b.state) (key_row 2 1) (rx_from 1) 2 (parts_at (guessed 2 octet)))
-    (closes bytes (iv 2) (aad 2 (client 2)) octet (replicate 15 0) other)
+guess_judged octet other = rw (closes bytes (iv 2) (aad 2 (client 2)) octet (replicate 15 0) other)
 
 is_unvalidated : (octet : ℕ) → IsOther 2 octet → trace_step (on_link octet) (Deliver B 0) ≡ unvalidated octet
 is_unvalidated octet other = deliver_step (on_link octet) 0 (guessed 2 octet) (at_row (rx_from 1) 2 12 Invalid (Some (client 2))) refl refl refl (guess_judged octet other)
 
 sends : (octet : ℕ) → sending_of (unvalidated octet).world.a.state (client 1) ≡ sent_by (tx_from 1) (link_frame_of 1 (client 1) first_tag)
-sends octet = ap (λ (it : Sealed). sent_by (tx_from 1) (link_frame_with 1 (client 1) it)) (sealed bytes (iv 1) (aad 1 (client 1)))
+sends octet = rw (sealed bytes (iv 1) (aad 1 (client 1)))
 
 is_sent : (octet : ℕ) → trace_step (unvalidated octet) (Send A (client 1)) ≡ after_sending octet first_tag
 is_sent octet =
-    send_step (unvalidated octet) (client 1) (tx_from 1) (link_frame_of 1 (client 1) first_tag) refl refl (sends octet)
-    ∙ ap (λ (it : Sealed).
-    trace_at options_check 1 (rx_from 1) 2 one_invalid (client 1 ∷ []) (client 2 ∷ [])
-    (guessed 2 octet ∷ link_frame_of 1 (client 1) first_tag ∷ []) (use_with 1 (client 1) it ∷ []) (invalid ∷ []))
-    (sealed bytes (iv 1) (aad 1 (client 1)))
+    rw (
+      send_step (unvalidated octet) (client 1) (tx_from 1) (link_frame_of 1 (client 1) first_tag) refl refl
+          (sends octet),
+      sealed bytes (iv 1) (aad 1 (client 1)),
+    )
 
 sent_judged : (octet : ℕ) (t : List ℕ) → Opens 1 t →
     judgement_of (after_sending octet t).world.b.state (link_frame_of 1 (client 1) t) ≡ at_row (rx_from 1) 1 13 Passed (Some (client 1))
-sent_judged octet t is = ap (judge_opened (rx_options (after_sending octet t).world.b.state) (key_row 2 1) (rx_from 1) 1 (parts_at (link_frame_of 1 (client 1) t))) is
+sent_judged octet t is = rw is
 
 is_passed : (octet : ℕ) (t : List ℕ) → Opens 1 t → trace_step (after_sending octet t) (Deliver B 1) ≡ passed octet t
 is_passed octet t is =

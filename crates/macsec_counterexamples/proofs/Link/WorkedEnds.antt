@@ -1,10 +1,14 @@
 -- The ends of worked runs: their configurations and keys, and the commands by which SA 0 sends or receives.
-use Rattle.macsec_counterexamples.proofs.Link.Names.{◌≡◌, ◌≢◌, ◌⊎◌, inl, inr, ℕ, true, false, List, [], ◌∷◌, ◌++◌, ap, get_or, subst, Contains}
-use Rattle.macsec_counterexamples.proofs.Link.Names.{replicate, Bool, Some, None, K128, Sci, NewKey, Suite, Gcm128, Xpn128, InstalledKey, TxRow}
-use Rattle.macsec_counterexamples.proofs.Link.Names.{RxRow, Key, RxOn, RxSa, RxSc, TxOn, TxSa, EndConfig, End, A, B, Event, Command, Send, RxCounters}
-use Rattle.macsec_counterexamples.proofs.Link.Names.{new_channel_counters, make_fault, DeliveryLog, SentLogs, member}
+use Rattle.{
+  macsec_secy.specs.declared.counters.ChannelCounters.ChannelCounters,
+  macsec_link_logs.specs.Logs.{DeliveryLog, SentLogs},
+  macsec_link.proofs.Members.member,
+  macsec_counterexamples.proofs.Names.{[], ◌++◌, ◌∷◌, ◌≡◌, ◌≢◌, ◌⊎◌, A, B, Bool, Command, Contains, End, EndConfig},
+  macsec_counterexamples.proofs.Names.{Event, false, Gcm128, get_or, inl, inr, InstalledKey, K128, Key, List},
+  macsec_counterexamples.proofs.Names.{make_fault, new_channel_counters, NewKey, None, replicate, RxCounters, RxOn},
+  macsec_counterexamples.proofs.Names.{RxRow, RxSa, RxSc, Sci, Send, Some, Suite, true, TxOn, TxRow, TxSa, Xpn128, ℕ},
+}
 use Rattle.macsec_commands.specs.declared.form.TagForm.TheVariants as form
-use Rattle.macsec_secy.specs.declared.counters.ChannelCounters.{ChannelCounters}
 
 abbrev pub sci_a : Sci
 sci_a = record { 0 = 2 ∷ 0 ∷ 0 ∷ 0 ∷ 0 ∷ 1 ∷ 0 ∷ 1 ∷ [] }
@@ -13,7 +17,7 @@ abbrev pub sci_b : Sci
 sci_b = record { 0 = 2 ∷ 0 ∷ 0 ∷ 0 ∷ 0 ∷ 2 ∷ 0 ∷ 1 ∷ [] }
 
 pub scis_differ : (s t : Sci) → get_or s.0 5 0 ≢ get_or t.0 5 0 → s ≢ t
-scis_differ s t differ same = differ (ap (λ (x : Sci). get_or x.0 5 0) same)
+scis_differ s t differ same = differ (rw same)
 
 -- a configuration with which each sent frame carries the SCI
 abbrev pub config : Suite → Sci → EndConfig
@@ -94,4 +98,4 @@ only key x there = by_place (member (key ∷ []) x there)
 
 -- if each end has one key, what holds of these two holds of any two
 pub of_two : {X : Type 0} (R : X → X → Type 0) (a b : X) → R a b → (x y : X) → Contains (a ∷ []) x → Contains (b ∷ []) y → R x y
-of_two R a b holds x y there there' = subst (λ k. R k y) (only a x there) (subst (R a) (only b y there') holds)
+of_two R a b holds x y there there' = rw (← only a x there) (rw (only b y there') at holds)

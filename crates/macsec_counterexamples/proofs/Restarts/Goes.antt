@@ -1,21 +1,20 @@
 -- How a run goes, input by input: what it seals, its last state, and that it is sound at each moment. So a worked run
 -- continues from a state that is written out.
-use Rattle.macsec_counterexamples.proofs.Restarts.Names.{◌≡◌, ℕ, zero, suc, Bool, true, false, List, [], ◌∷◌, ◌++◌, take, refl, ap, sym, subst, ◌∙◌}
-use Rattle.macsec_counterexamples.proofs.Restarts.Names.{◌&&◌, ◌||◌, not, nat_lt, nat_le, and_right, lt-leb, ◌<◌, CipherUse, IsSound, client_frame}
-use Rattle.macsec_counterexamples.proofs.Restarts.Names.{link_frame, operator_command, step, Reservation, StaysSound, newly_sealed, sealed}
-use Rattle.macsec_counterexamples.proofs.Restarts.Names.{sealed_from, sealed_if, highest, Keeping, KeepingInput, begins_at, endpoint_input}
-use Rattle.macsec_counterexamples.proofs.Restarts.Names.{keeping_after, keeping_step, may_go, was_reserved}
-use Rattle.macsec_commands.specs.declared.command.Command.{Command}
-use Rattle.macsec_reserve.proofs.Steps.{by_tests}
-use Rattle.macsec_counterexamples.proofs.Restarts.Names.{map, max, if◌then◌else◌, and_from, le-leb, lt-ltb, ◌≤◌, arith, None, Option, same_octets-refl}
-use Rattle.macsec_counterexamples.proofs.Restarts.Names.{effect}
-use Rattle.macsec_counterexamples.proofs.Restarts.Tables.{after_commands, all_fit, first_carried, first_sound, none_refused}
-use Rattle.std.specs.List.{list_any}
-use Rattle.macsec_suite.specs.declared.refusal.Refusal.{Refusal}
-use Rattle.macsec_secy.specs.Commands.{refusal, unless_refused}
-use Rattle.macsec_secy.specs.Laws.{UsedNumber, number_used}
-use Rattle.macsec_reserve.specs.Entries.{raised_by}
-use Rattle.macsec_reserve.specs.Keeping.{may_use}
+use Rattle.{
+  std.{proofs.{Common.{◌||◌, lt-ltb}, lemmas.Bool.{and_right, lt-leb}}},
+  macsec_commands.specs.declared.command.Command.Command,
+  macsec_secy.specs.Step.operator_command,
+  macsec_reserve.{
+    specs.{Entries.raised_by, Histories.{newly_sealed}, Keeping.{begins_at, was_reserved, may_use}},
+  },
+  macsec_counterexamples.proofs.{
+    Names.{[], ◌&&◌, ◌++◌, ◌<◌, ◌∷◌, ◌≡◌, ◌≤◌, and_from, arith, Bool, CipherUse, client_frame, effect, endpoint_input},
+    Names.{false, highest, IsSound, Keeping, keeping_after, keeping_step, KeepingInput, le-leb, link_frame, List, map},
+    Names.{max, may_go, nat_le, nat_lt, None, not, number_used, refl, refusal, Reservation, same_octets-refl, sealed},
+    Names.{sealed_from, StaysSound, step, subst, suc, sym, take, true, zero, ℕ},
+    Restarts.Tables.{after_commands, all_fit, first_carried, first_sound, none_refused},
+  },
+}
 
 abbrev pub command : Command → KeepingInput
 command c = endpoint_input (operator_command c)
@@ -42,10 +41,7 @@ pub next_seals : (k : Keeping) {after : Keeping} (input : KeepingInput) (inputs 
     {now uses : List CipherUse} →
     newly_sealed k input ≡ now → (keeping_step k input).1 ≡ after → sealed_from after inputs ≡ uses →
     sealed_from k (input ∷ inputs) ≡ now ++ uses
-next_seals k input inputs {now} is_now is_after rest =
-    ap (λ us. us ++ sealed_from (keeping_step k input).1 inputs) is_now
-    ∙ ap (λ k'. now ++ sealed_from k' inputs) is_after
-    ∙ ap (λ us. now ++ us) rest
+next_seals k input inputs {now} is_now is_after rest = rw (is_now, is_after, rest)
 
 pub next_goes : {k after last : Keeping} {input : KeepingInput} {inputs : List KeepingInput}
     {now uses : List CipherUse} →
@@ -53,7 +49,7 @@ pub next_goes : {k after last : Keeping} {input : KeepingInput} {inputs : List K
     Goes k (input ∷ inputs) (now ++ uses) last
 next_goes {k} {input} {inputs} sound is_now is_after rest = record {
   seals = next_seals k input inputs is_now is_after rest.seals;
-  ends = ap (λ k'. keeping_after k' inputs) is_after ∙ rest.ends;
+  ends = rw (is_after, rest.ends);
   sound = sound_next k input inputs sound is_after rest.sound;
 }
 
@@ -67,9 +63,7 @@ or_true false = refl
 pub command_step : (k : Keeping) (c : Command) → was_reserved k.before (begins_at k.salt k.secy c) ≡ false →
     (keeping_step k (command c)).1 ≡ record k { secy = (step k.secy (operator_command c)).1 }
 command_step k c new =
-    ap (λ (b : Bool). (by_tests b (may_go k (operator_command c)) k (step k.secy (operator_command c))).1)
-    (and_right k.keeps (was_reserved k.before (begins_at k.salt k.secy c)) new)
-    ∙ ap (λ (b : Bool). (by_tests false b k (step k.secy (operator_command c))).1) (or_true (not k.keeps))
+    rw (and_right k.keeps (was_reserved k.before (begins_at k.salt k.secy c)) new, or_true (not k.keeps))
 
 pub is_new : (before : List Reservation) (name : List ℕ) (n : ℕ) → highest before name < n →
     (nat_lt 0 n && nat_le n (highest before name)) ≡ false
@@ -77,22 +71,22 @@ is_new before name n free = and_right (nat_lt 0 n) (nat_le n (highest before nam
     (lt-leb n (highest before name) free)
 
 pub command_seals : (k : Keeping) (c : Command) → newly_sealed k (command c) ≡ []
-command_seals k c = ap (λ (b : Bool). sealed_if b []) (or_true (not k.keeps))
+command_seals k c = rw (or_true (not k.keeps))
 
 pub frame_step : (k : Keeping) (frame : List ℕ) → may_go k (client_frame frame) ≡ true →
     (keeping_step k (endpoint_input (client_frame frame))).1 ≡ record k { secy = (step k.secy (client_frame frame)).1 }
-frame_step k frame goes = ap (λ (b : Bool). (by_tests false b k (step k.secy (client_frame frame))).1) goes
+frame_step k frame goes = rw goes
 
 pub frame_seals : (k : Keeping) (frame : List ℕ) → may_go k (client_frame frame) ≡ true →
     newly_sealed k (endpoint_input (client_frame frame)) ≡ sealed k.secy (client_frame frame)
-frame_seals k frame goes = ap (λ (b : Bool). sealed_if b (sealed k.secy (client_frame frame))) goes
+frame_seals k frame goes = rw goes
 
 pub link_step : (k : Keeping) (frame : List ℕ) → (keeping_step k (endpoint_input (link_frame frame))).1 ≡ record k
     { secy = (step k.secy (link_frame frame)).1 }
-link_step k frame = ap (λ (b : Bool). (by_tests false b k (step k.secy (link_frame frame))).1) (or_true (not k.keeps))
+link_step k frame = rw (or_true (not k.keeps))
 
 pub link_seals : (k : Keeping) (frame : List ℕ) → newly_sealed k (endpoint_input (link_frame frame)) ≡ []
-link_seals k frame = ap (λ (b : Bool). sealed_if b []) (or_true (not k.keeps))
+link_seals k frame = rw (or_true (not k.keeps))
 
 -- ---- commands that are carried out
 
@@ -104,8 +98,7 @@ AreNew k (c ∷ cs) =
 
 pub carried_step : (k : Keeping) (c : Command) → was_reserved k.before (begins_at k.salt k.secy c) ≡ false →
     refusal k.secy c ≡ None → (keeping_step k (command c)).1 ≡ record k { secy = effect k.secy c }
-carried_step k c new fits =
-    command_step k c new ∙ ap (λ (r : Option Refusal). record k { secy = unless_refused r k.secy c }) fits
+carried_step k c new fits = rw (command_step k c new, fits)
 
 pub commands_by : (P : Keeping → List KeepingInput → Type 0) →
     ((k : Keeping) (c : Command) (inputs : List KeepingInput) → (keeping_step k (command c)).1 ≡ record k
@@ -133,7 +126,7 @@ pub commands_end : (cs : List Command) (k : Keeping) (inputs : List KeepingInput
     keeping_after k (map command cs ++ inputs) ≡ last
 commands_end cs k inputs {last} new none rest =
     commands_by (λ k' is. keeping_after k' is ≡ last)
-    (λ k' c is step more. ap (λ x. keeping_after x is) step ∙ more) cs k inputs
+    (λ k' c is step more. rw (step, more)) cs k inputs
     new none rest
 
 pub commands_stay : (cs : List Command) (k : Keeping) (inputs : List KeepingInput) → AreNew k cs →
@@ -163,18 +156,14 @@ pub raised_alone : (name : List ℕ) (n : ℕ) →
     raised_by (record { name = name; last = n }) (record { name = name; last = 0 }) ≡ record { name = name; last = n }
 raised_alone name n =
     let most : max 0 n ≡ n = omega arith in
-    ap (λ (same : Bool). if same then record { name = name; last = max 0 n } else record { name = name; last = 0 })
-    (same_octets-refl name) ∙ ap (λ (m : ℕ). record { name = name; last = m }) most
+    rw (same_octets-refl name, most)
 
 pub is_within : (before : List Reservation) (name : List ℕ) (n last : ℕ) → highest before name < n → n ≤ last →
     (nat_lt (highest before name) n && nat_le n (highest (record { name = name; last = last } ∷ []) name)) ≡ true
 is_within before name n last free most =
     and_from _ _ (lt-ltb (highest before name) n free)
-    (ap (λ (same : Bool). nat_le n (if same then max last 0 else 0)) (same_octets-refl name)
-    ∙ le-leb n (max last 0) (omega (arith, most)))
+    (rw (same_octets-refl name, le-leb n (max last 0) (omega (arith, most))))
 
 pub may_send : (k : Keeping) (frame : List ℕ) (n : ℕ) → number_used k.secy (client_frame frame) ≡ (0, n) ∷ [] →
     may_use k (0, n) ≡ true → may_go k (client_frame frame) ≡ true
-may_send k frame n uses may =
-    ap (λ (us : List UsedNumber). not k.keeps || not (list_any (λ u. not (may_use k u)) us)) uses
-    ∙ ap (λ (b : Bool). not k.keeps || not (not b || false)) may ∙ or_true (not k.keeps)
+may_send k frame n uses may = rw (uses, may, or_true (not k.keeps))

@@ -1,16 +1,20 @@
 -- The first promise needs each premise: without it there are runs that meet the others and seal two frames with the
 -- same key octets and the same IV.
-use Rattle.macsec_counterexamples.proofs.Restarts.Names.{◌≡◌, ◌≢◌, ℕ, ◌+◌, ◌<◌, Bool, true, false, List, [], ◌∷◌, ◌++◌, length, refl, ap, sym, subst}
-use Rattle.macsec_counterexamples.proofs.Restarts.Names.{◌∙◌, arith, All, AllPairs, Contains, All-cons, All-nil, compress, digest_bytes, first_words}
-use Rattle.macsec_counterexamples.proofs.Restarts.Names.{hash_after, rounds, schedule, sha256, length-sha256, same_octets, sum_with_stream, CipherUse}
-use Rattle.macsec_counterexamples.proofs.Restarts.Names.{InstalledKey, is_xpn, Reservation, IsReservation, reduced, IsHistory, KeepsDurable, Run}
-use Rattle.macsec_counterexamples.proofs.Restarts.Names.{SameSalt, StaysSound, closing, opening, sealed_in, sealed_in_all, highest, reservations}
-use Rattle.macsec_counterexamples.proofs.Restarts.Names.{sending_name, Keeping, HasOtherIv, highest_of_one, one_alone, reduced_reserves}
-use Rattle.macsec_counterexamples.proofs.Restarts.Names.{same_octets-refl, bytes, of_two}
 use Rattle.std.proofs.lemmas.List.Kept.{AllPairs-cons}
-use Rattle.macsec_counterexamples.proofs.Restarts.Goes.{Goes}
-use Rattle.macsec_counterexamples.proofs.Restarts.Journals.{journal, salt, salt_is, says}
-use Rattle.macsec_counterexamples.proofs.Restarts.Senders.{Extended, OtherSalt, ReadSalt, Sender, Short, at_end, config_of, goes, inputs, kept, key_at, key_salt, number_of, reserves, suite_of, use_of}
+use Rattle.macsec_counterexamples.proofs.{
+  Names.{[], ◌+◌, ◌<◌, ◌∙◌, ◌∷◌, ◌≡◌, ◌≢◌, All, All-cons, All-nil, AllPairs, arith, Bool, CipherUse, closing, compress},
+  Names.{Contains, digest_bytes, false, first_words, hash_after, HasOtherIv, highest, highest_of_one, InstalledKey},
+  Names.{is_xpn, IsHistory, IsReservation, Keeping, KeepsDurable, length, length-sha256, List, one_alone, opening},
+  Names.{reduced, reduced_reserves, refl, Reservation, reservations, rounds, Run, same_octets, same_octets-refl},
+  Names.{SameSalt, schedule, sealed_in_all, sending_name, sha256, StaysSound, subst, sum_with_stream, sym, true, ℕ},
+  Link.WorkedEnds.{bytes, of_two},
+  Restarts.{
+    Goes.Goes,
+    Journals.{journal, salt, salt_is, says},
+    Senders.{Extended, OtherSalt, ReadSalt, Sender, Short, at_end, config_of, goes, inputs, kept, key_at, key_salt},
+    Senders.{number_of, reserves, suite_of, use_of},
+  },
+}
 
 -- the names of the premises
 pub data Premise : Type 0 where
@@ -70,9 +74,7 @@ run_goes w other rs are free =
     let above : highest before (sending_name (salt other) bytes) < number_of w =
     let name = sending_name (salt other) bytes in
     omega (arith, reduced_reserves (reservations (journal other rs)) name, says other rs are name, free) in
-    subst (λ (s : List ℕ). Goes (record (opening (run_of w other rs)) { salt = s }) (run_of w other rs).inputs
-    (use_of w ∷ []) (kept (salt other) before (reserves w (salt other) ∷ []) (at_end w)))
-    (sym (salt_is other rs)) (goes (salt other) before w above)
+    rw (salt_is other rs) (goes (salt other) before w above)
 
 pair : {X : Type 0} (R : X → X → Type 0) (x y : X) → R x y → AllPairs R (x ∷ y ∷ [])
 pair R x y holds = AllPairs-cons R x (y ∷ []) (All-cons (R x) y [] holds (All-nil (R x))) (one_alone R y)
@@ -81,8 +83,7 @@ refuted : (p q : Run) (u v : CipherUse) (k l : Keeping) → Goes (opening p) p.i
     Goes (opening q) q.inputs (v ∷ []) l → u.key ≡ v.key → u.iv ≡ v.iv →
     AllPairs HasOtherIv (sealed_in_all (p ∷ q ∷ [])) → ⊥
 refuted p q u v k l first second same_key same_iv pairs =
-    let is : sealed_in_all (p ∷ q ∷ []) ≡ u ∷ v ∷ [] = ap (λ us. us ++ (sealed_in q ++ [])) first.seals
-    ∙ ap (λ us. u ∷ (us ++ [])) second.seals in
+    let is : sealed_in_all (p ∷ q ∷ []) ≡ u ∷ v ∷ [] = rw (first.seals, second.seals) in
     subst (AllPairs HasOtherIv) is pairs 0 1 u (omega arith) (omega arith) same_key same_iv
 
 both_sound : (p q : Run) → StaysSound (opening p) p.inputs → StaysSound (opening q) q.inputs →
@@ -100,8 +101,8 @@ pub of_keys : (R : InstalledKey → InstalledKey → Type 0) (p q : Run) (w v : 
     (x y : InstalledKey) → Contains (closing p).secy.keys x → Contains (closing q).secy.keys y → R x y
 of_keys R p q w v is is' holds x y there there' =
     of_two R (key_at w (number_of w + 1)) (key_at v (number_of v + 1)) holds x y
-    (subst (λ (ks : List InstalledKey). Contains ks x) is there)
-    (subst (λ (ks : List InstalledKey). Contains ks y) is' there')
+    (rw is at there)
+    (rw is' at there')
 
 reserves_is : (w : Sender) (s : List ℕ) → All IsReservation (reserves w s ∷ [])
 reserves_is w s = All-cons IsReservation (reserves w s) [] (by_number w) (All-nil IsReservation)
@@ -143,14 +144,14 @@ holds_but left_out w v other rs k l us vs first second keys keys' suite key_salt
     differ =
     pair AgreeOnSuites (run_of w false []) (run_of v other rs)
     (of_keys (λ x y. x.bytes ≡ y.bytes → x.suite ≡ y.suite) (run_of w false []) (run_of v other rs) w v
-    (ap (λ (k' : Keeping). k'.secy.keys) first.ends ∙ keys) (ap (λ (k' : Keeping). k'.secy.keys) second.ends ∙ keys')
+    (rw (first.ends, keys)) (rw (second.ends, keys'))
     (λ same. suite differ))
 holds_but left_out w v other rs k l us vs first second keys keys' suite key_salts journal_salt durable SameKeySalt
     differ =
     pair AgreeOnSalts (run_of w false []) (run_of v other rs)
     (of_keys (λ x y. x.bytes ≡ y.bytes → is_xpn x.suite ≡ true → x.salt ≡ y.salt) (run_of w false [])
     (run_of v other rs) w v
-    (ap (λ (k' : Keeping). k'.secy.keys) first.ends ∙ keys) (ap (λ (k' : Keeping). k'.secy.keys) second.ends ∙ keys')
+    (rw (first.ends, keys)) (rw (second.ends, keys'))
     (λ same. key_salts differ))
 holds_but left_out w v other rs k l us vs first second keys keys' suite key_salts journal_salt durable SameJournalSalt
     differ =

@@ -1,13 +1,17 @@
 -- The journals of worked runs: a header whose salt ends with eight zeros, so that it reserves nothing even if it reads
 -- as a record, and whole records.
-use Rattle.macsec_counterexamples.proofs.Restarts.Names.{◌≡◌, ℕ, ◌≤◌, Bool, true, false, List, [], ◌∷◌, ◌++◌, length, take, drop, refl, ap, ◌∙◌, arith}
-use Rattle.macsec_counterexamples.proofs.Restarts.Names.{length-append, All, codes, replicate, slice_range, max, nat_le, if◌then◌else◌, and_from}
-use Rattle.macsec_counterexamples.proofs.Restarts.Names.{le-leb, sha256, length-sha256, same_octets, Reservation, IsReservation, check_of}
-use Rattle.macsec_counterexamples.proofs.Restarts.Names.{check_of_header, header, highest, is_journal, records_of, reservations, reserved_in, salt_of}
-use Rattle.macsec_counterexamples.proofs.Restarts.Names.{title, highest-append, same_octets-refl}
-use Rattle.std.specs.Int.{w64, from_be_bytes}
-use Rattle.std.proofs.lemmas.List.{drop_at, length-take-le, take_at}
-use Rattle.macsec_reserve.proofs.ShorterJournals.{reads_records, reservations_split}
+use Rattle.{
+  std.proofs.Common.{length-append, codes, drop_at, length-take-le},
+  macsec_reserve.{
+    proofs.{HighestOf.highest-append, ShorterJournals.{reads_records, reservations_split}},
+    specs.Journal.{check_of, check_of_header, header, is_journal, records_of, reserved_in, title},
+  },
+  macsec_counterexamples.proofs.Names.{[], ◌++◌, ◌∙◌, ◌∷◌, ◌≡◌, ◌≤◌, All, and_from, ap, arith, Bool, drop, false},
+  macsec_counterexamples.proofs.Names.{from_be_bytes, highest, if◌then◌else◌, IsReservation, le-leb, length},
+  macsec_counterexamples.proofs.Names.{length-sha256, List, max, nat_le, refl, replicate, Reservation, reservations},
+  macsec_counterexamples.proofs.Names.{salt_of, same_octets, same_octets-refl, sha256, slice_range, take, take_at},
+  macsec_counterexamples.proofs.Names.{true, w64, ℕ},
+}
 
 -- two salts
 abbrev pub salt : Bool → List ℕ

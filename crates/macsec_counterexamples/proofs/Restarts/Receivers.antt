@@ -1,20 +1,17 @@
 -- An endpoint that receives the frame that another one sealed with packet number 1: its commands and its states. The
 -- cipher is not computed: all that is known of the frame's tag is that it opens.
-use Rattle.macsec_counterexamples.proofs.Restarts.Names.{◌≡◌, ℕ, ◌<◌, Bool, true, false, List, [], ◌∷◌, refl, ap, Some}
-use Rattle.macsec_counterexamples.proofs.Restarts.Names.{Key, Replay, RxOn, RxSa, RxSc, Judgement, at_row, judge_opened}
-use Rattle.macsec_counterexamples.proofs.Restarts.Names.{judgement_of, state_after_receiving, IsSound, State}
-use Rattle.macsec_counterexamples.proofs.Restarts.Names.{rx_options, start, link_frame, step}
-use Rattle.macsec_counterexamples.proofs.Restarts.Names.{Reservation, highest, receiving_name, sending_name, KeepingInput, Opens}
-use Rattle.macsec_counterexamples.proofs.Restarts.Names.{key_row, link_frame_of, bytes, gcm_b, new_key, no_salt, rx_from, sci_a}
-use Rattle.macsec_tag.specs.Table.{parts_at}
-use Rattle.macsec_rx.specs.declared.Verdict.{Verdict}
-use Rattle.macsec_rx.specs.declared.Verdict.TheVariants.{Delayed, Passed}
-use Rattle.macsec_counterexamples.proofs.Link.Exchange.{client}
-use Rattle.macsec_counterexamples.proofs.Restarts.Goes.{Goes, command, commands_go, ended, is_new}
-use Rattle.macsec_counterexamples.proofs.Restarts.Senders.{kept}
-use Rattle.macsec_counterexamples.proofs.Restarts.Tables.{after_commands, all_fit, begins_sound, commands_sound, heard_sound as link_sound, none_refused, tables_fit}
 use Rattle.macsec_commands.specs.declared.command.Command.{Command}
-use Rattle.macsec_counterexamples.proofs.Restarts.Names.{map}
+use Rattle.macsec_counterexamples.proofs.{
+  Names.{[], ◌<◌, ◌∷◌, ◌≡◌, at_row, Bool, Delayed, false, highest, IsSound, Judgement, judgement_of, KeepingInput, Key},
+  Names.{link_frame, List, map, Passed, receiving_name, refl, Replay, Reservation, RxOn, RxSa, RxSc, sending_name},
+  Names.{Some, start, State, state_after_receiving, step, true, Verdict, ℕ},
+  Link.{Exchange.{Opens, link_frame_of, client}, WorkedEnds.{bytes, gcm_b, new_key, no_salt, rx_from, sci_a}},
+  Restarts.{
+    Goes.{Goes, command, commands_go, ended, is_new},
+    Senders.kept,
+    Tables.{after_commands, all_fit, begins_sound, commands_sound, heard_sound as link_sound, none_refused, tables_fit},
+  },
+}
 
 -- one that drops late frames; one with a window of 1; one that delivers late frames, from packet number 2 on
 pub data Receiver : Type 0 where
@@ -59,17 +56,15 @@ abbrev pub judged_as : Receiver → Judgement
 judged_as r = at_row (rx_from (lowest_of r)) 1 13 (verdict_of r) (Some (client 1))
 
 pub judged : (r : Receiver) (t : List ℕ) → Opens 1 t → judgement_of (ready r) (frame t) ≡ judged_as r
-judged Plain t is = ap (judge_opened (rx_options (ready Plain)) (key_row 2 1) (rx_from (lowest_of Plain)) 1
-    (parts_at (frame t))) is
-judged it t is = ap (judge_opened (rx_options (ready it)) (key_row 2 1) (rx_from (lowest_of it)) 1 (parts_at (frame t)))
-    is
+judged Plain t is = rw is
+judged it t is = rw is
 
 -- the state after the frame
 abbrev pub heard : Receiver → List ℕ → State
 heard r t = state_after_receiving (ready r) (frame t) (judged_as r)
 
 pub is_heard : (r : Receiver) (t : List ℕ) → Opens 1 t → (step (ready r) (link_frame (frame t))).1 ≡ heard r t
-is_heard r t is = ap (λ (j : Judgement). state_after_receiving (ready r) (frame t) j) (judged r t is)
+is_heard r t is = rw (judged r t is)
 
 -- ---- they are sound
 

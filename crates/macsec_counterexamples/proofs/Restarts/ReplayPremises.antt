@@ -1,21 +1,26 @@
 -- The second promise needs each premise: without it there are two runs that meet the others, and the later run delivers
 -- the frame that the earlier one accepted.
-use Rattle.macsec_counterexamples.proofs.Restarts.Names.{◌≡◌, ◌≢◌, ℕ, ◌+◌, ◌<◌, ◌≤◌, Bool, true, false, List, [], ◌∷◌, ◌++◌, refl, ap, sym, subst, ◌∙◌}
-use Rattle.macsec_counterexamples.proofs.Restarts.Names.{arith, All, Contains, ◌==◌, max, Some, if◌then◌else◌, All-cons, All-nil, same_octets}
-use Rattle.macsec_counterexamples.proofs.Restarts.Names.{compress, digest_bytes, first_words, hash_after, rounds, schedule, sha256, length-sha256}
-use Rattle.macsec_counterexamples.proofs.Restarts.Names.{the_key, RxDel, RxSa, RxRow, rx_row, Judgement, effect, judgement_of, State}
-use Rattle.macsec_counterexamples.proofs.Restarts.Names.{link_frame, Reservation, IsReservation, reduced, KeepsDurable, Run, opening}
-use Rattle.macsec_counterexamples.proofs.Restarts.Names.{reported, highest, receiving_name, reservations, salt_of, sending_name, Keeping, KeepingInput}
-use Rattle.macsec_counterexamples.proofs.Restarts.Names.{endpoint_input, keeping_after, keeping_step, now_durable, highest_of_one, reduced_reserves}
-use Rattle.macsec_counterexamples.proofs.Restarts.Names.{first_opens, first_tag, bytes, gcm_b, rx_from, sci_a}
-use Rattle.macsec_tag.specs.declared.identifiers.Sci.{Sci}
-use Rattle.macsec_reserve.specs.Replay.{HasSaved, IsAccepted, KeepsAssociation, row_name, saved_for}
-use Rattle.macsec_counterexamples.proofs.Link.Exchange.{client}
-use Rattle.macsec_counterexamples.proofs.Restarts.Goes.{Goes, command, commands_go, ended, is_new, link_seals, link_step, next_goes}
-use Rattle.macsec_counterexamples.proofs.Restarts.Tables.{commands_sound}
-use Rattle.macsec_counterexamples.proofs.Restarts.Journals.{journal, salt, salt_is, says}
-use Rattle.macsec_counterexamples.proofs.Restarts.Receivers.{Off, Plain, Receiver, Wide, frame, goes, heard, heard_sound, inputs, is_heard, judged, judged_as, lowest_of, name_of, ready, ready_sound, verdict_of}
-use Rattle.macsec_counterexamples.proofs.Restarts.Senders.{kept}
+use Rattle.macsec_reserve.specs.{
+  Histories.reported,
+  Replay.{HasSaved, IsAccepted, KeepsAssociation, row_name, saved_for},
+}
+use Rattle.macsec_counterexamples.proofs.{
+  Names.{[], ◌++◌, ◌+◌, ◌<◌, ◌∷◌, ◌≡◌, ◌≢◌, ◌≤◌, All, All-cons, All-nil, arith, Bool, compress, Contains, digest_bytes},
+  Names.{effect, endpoint_input, false, first_words, hash_after, highest, highest_of_one, if◌then◌else◌, IsReservation},
+  Names.{judgement_of, Keeping, keeping_after, keeping_step, KeepingInput, KeepsDurable, length-sha256, link_frame},
+  Names.{List, max, now_durable, opening, receiving_name, reduced, reduced_reserves, refl, Reservation, reservations},
+  Names.{rounds, Run, rx_row, RxDel, RxRow, RxSa, salt_of, same_octets, schedule, Sci, sending_name, sha256, Some},
+  Names.{State, sym, the_key, true, ℕ},
+  Link.{Exchange.{first_opens, first_tag, client}, WorkedEnds.{bytes, gcm_b, rx_from, sci_a}},
+  Restarts.{
+    Goes.{Goes, command, commands_go, ended, is_new, link_seals, link_step, next_goes},
+    Journals.{journal, salt, salt_is, says},
+    Receivers.{Off, Plain, Receiver, Wide, frame, goes, heard, heard_sound, inputs, is_heard, judged, judged_as},
+    Receivers.{lowest_of, name_of, ready, ready_sound, verdict_of},
+    Senders.kept,
+    Tables.commands_sound,
+  },
+}
 
 -- the names of the premises
 pub data Premise : Type 0 where
@@ -93,8 +98,7 @@ run_goes : (r : Receiver) (rs : List Reservation) (all : List KeepingInput) → 
 run_goes r rs all are free =
     let above : highest (reads rs) name < lowest_of r =
     omega (arith, reduced_reserves (reservations (journal false rs)) name, says false rs are name, free) in
-    subst (λ (s : List ℕ). Goes (record (opening (run_with rs all)) { salt = s }) (inputs r) []
-    (kept (salt false) (reads rs) [] (ready r))) (sym (salt_is false rs)) (goes (salt false) (reads rs) r above)
+    rw (salt_is false rs) (goes (salt false) (reads rs) r above)
 
 nothing : All IsReservation []
 nothing = All-nil IsReservation
@@ -113,16 +117,14 @@ later_refutes : (left_out : Premise) (r : Receiver) (run : Run) (rs : List Reser
 later_refutes left_out r run rs are free drops named saved durable law =
     let it = run_goes r rs [] are free in
     let s = (keeping_after (opening (run_with rs [])) (inputs r)).secy in
-    let same : s ≡ ready r = ap (λ (k : Keeping). k.secy) it.ends in
-    let is : judgement_of s (frame first_tag) ≡ judged_as r =
-    ap (λ (s' : State). judgement_of s' (frame first_tag)) same ∙ judged r first_tag first_opens in
+    let same : s ≡ ready r = rw it.ends in
+    let is : judgement_of s (frame first_tag) ≡ judged_as r = rw (same, judged r first_tag first_opens) in
     let less : 1 < (judgement_of s (frame first_tag)).number =
     law saved durable (inputs r) (frame first_tag) (rx_from (lowest_of r)) (client 1)
-    (λ d. ap (λ (s' : State). s'.options.replay) same ∙ drops d)
-    (ap (λ (j : Judgement). j.row) is) (ap (λ (j : Judgement). j.delivered) is)
-    (ap (λ (x : List ℕ). row_name x s (rx_from (lowest_of r))) (salt_is false rs)
-    ∙ ap (λ (s' : State). row_name (salt false) s' (rx_from (lowest_of r))) same ∙ named) in
-    let one : (judgement_of s (frame first_tag)).number ≡ 1 = ap (λ (j : Judgement). j.number) is in
+    (λ d. rw (same, drops d))
+    (rw is) (rw is)
+    (rw (salt_is false rs, same, named)) in
+    let one : (judgement_of s (frame first_tag)).number ≡ 1 = rw is in
     omega (arith, less, one)
 
 -- ---- the earlier run: it accepts the frame, and then does more
@@ -132,13 +134,13 @@ accepts : (r : Receiver) (all : List KeepingInput) → verdict_of r ≡ verdict_
 accepts r all passed free =
     let it = run_goes r [] all nothing free in
     let is : judgement_of (keeping_after (opening (run_with [] all)) (inputs r)).secy (frame first_tag) ≡ judged_as r =
-    ap (λ (k : Keeping). judgement_of k.secy (frame first_tag)) it.ends ∙ judged r first_tag first_opens in
+    rw (it.ends, judged r first_tag first_opens) in
     record {
       fits = refl;
-      row = ap (λ (j : Judgement). j.row) is;
+      row = rw is;
       delivered = client 1;
-      gives = ap (λ (j : Judgement). j.delivered) is;
-      step = ap (λ (j : Judgement). j.step == 13) is;
+      gives = rw is;
+      step = rw is;
     }
 
 -- the state after the frame
@@ -153,8 +155,7 @@ frame_goes : (r : Receiver) (then_on : List KeepingInput) (last : Keeping) → G
     Goes (at_ready r) (link ∷ then_on) [] last
 frame_goes r then_on last rest =
     next_goes (ready_sound r) (link_seals (at_ready r) (frame first_tag))
-    (link_step (at_ready r) (frame first_tag) ∙ ap (λ (s : State). kept (salt false) (reads []) [] s)
-    (is_heard r first_tag first_opens)) rest
+    (rw (link_step (at_ready r) (frame first_tag), is_heard r first_tag first_opens)) rest
 
 saved_but : (left_out : Premise) (r : Receiver) (all then_on : List KeepingInput) (last : Keeping) (row : RxRow) →
     verdict_of r ≡ verdict_of Plain → highest [] name < lowest_of r →
@@ -171,12 +172,11 @@ saved_but left_out r all then_on last row passed free rest keeps window there na
       frame = frame first_tag;
       from = rx_from (lowest_of r);
       accepted = accepts r all passed free;
-      number = ap (λ (k : Keeping). (judgement_of k.secy (frame first_tag)).number) it.ends
-          ∙ ap (λ (j : Judgement). j.number) (judged r first_tag first_opens);
+      number = rw (it.ends, judged r first_tag first_opens);
       then_on = then_on;
       keeps = keeps;
       last = last;
-      last_is = sym (ap (λ (k : Keeping). keeping_after (keeping_step k link).1 then_on) it.ends ∙ both.ends);
+      last_is = sym (rw (it.ends, both.ends));
       window = window;
       row = row;
       there = there;
@@ -235,8 +235,7 @@ report_needed =
 saves_0 : (left_out : Premise) (inputs' : List KeepingInput) → reported (run_with [] inputs') ≡ only_name 0 ∷ [] →
     IsDurable ≢ left_out → KeepsDurable (run_with [] inputs') (run_with [] [])
 saves_0 left_out inputs' is d n =
-    let none : highest (reported (run_with [] inputs')) n < 0 + 1 =
-    subst (λ (rs : List Reservation). highest rs n < 0 + 1) (sym is) (at_most 0 n) in
+    let none : highest (reported (run_with [] inputs')) n < 0 + 1 = rw is (at_most 0 n) in
     omega (arith, none)
 
 -- at a window of 1 the lowest acceptable packet number is still 1
@@ -307,9 +306,7 @@ plain_has_saved : HasSaved (run_with [] (reports Plain 1))
     (receiving_name (sending_name (salt_of (journal false [])) bytes) sci_a 0) 1
 plain_has_saved =
     let it = plain_saved IsDurable in
-    subst (λ (s : List ℕ). HasSaved (run_with [] (reports Plain 1)) (receiving_name (sending_name s bytes) sci_a 0) 1)
-    (sym (salt_is false []))
-    (premises_suffice IsDurable (run_with [] (reports Plain 1)) name 1 it (it.keeps (λ same. cc))
+    rw (salt_is false []) (premises_suffice IsDurable (run_with [] (reports Plain 1)) name 1 it (it.keeps (λ same. cc))
     (it.window (λ same. cc)) (it.durable (λ same. cc)))
 
 salted_goes : Goes (opening salted) (inputs Plain) []
@@ -322,21 +319,19 @@ salted_goes =
     let other = name_of (salt true) in
     let none = highest_of_one (only_name 1) other false salted_names_differ in
     omega (arith, reduced_reserves (reservations (journal true rs)) other, says true rs are other, none) in
-    subst (λ (s : List ℕ). Goes (record (opening salted) { salt = s }) (inputs Plain) []
-    (kept (salt true) before [] (ready Plain))) (sym (salt_is true rs)) (goes (salt true) before Plain above)
+    rw (salt_is true rs) (goes (salt true) before Plain above)
 
 pub same_salt_needed : LawWithoutSameSalt (run_with [] (reports Plain 1)) salted bytes sci_a 0 1 → ⊥
 same_salt_needed law =
     let it = salted_goes in
     let s = (keeping_after (opening salted) (inputs Plain)).secy in
-    let same : s ≡ ready Plain = ap (λ (k : Keeping). k.secy) it.ends in
-    let is : judgement_of s (frame first_tag) ≡ judged_as Plain =
-    ap (λ (s' : State). judgement_of s' (frame first_tag)) same ∙ judged Plain first_tag first_opens in
+    let same : s ≡ ready Plain = rw it.ends in
+    let is : judgement_of s (frame first_tag) ≡ judged_as Plain = rw (same, judged Plain first_tag first_opens) in
     let less : 1 < (judgement_of s (frame first_tag)).number =
     law plain_has_saved (λ n. omega (arith, says true (only_name 1 ∷ []) (is_reservation 1 (omega arith)) n))
     (inputs Plain) (frame first_tag) (rx_from 1) (client 1)
-    (ap (λ (s' : State). s'.options.replay) same) (ap (λ (j : Judgement). j.row) is)
-    (ap (λ (j : Judgement). j.delivered) is)
-    (ap (λ (s' : State). (the_key s'.keys (rx_from 1).key).bytes) same) refl refl in
-    let one : (judgement_of s (frame first_tag)).number ≡ 1 = ap (λ (j : Judgement). j.number) is in
+    (rw same) (rw is)
+    (rw is)
+    (rw same) refl refl in
+    let one : (judgement_of s (frame first_tag)).number ≡ 1 = rw is in
     omega (arith, less, one)

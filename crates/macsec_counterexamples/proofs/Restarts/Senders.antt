@@ -1,22 +1,18 @@
 -- An endpoint that sends one frame for integrity only: its commands, the report that its packet number is reserved, and
 -- its states. The cipher is not computed.
-use Rattle.macsec_counterexamples.proofs.Restarts.Names.{◌≡◌, ℕ, ◌+◌, ◌<◌, Bool, true, false, List, [], ◌∷◌, ◌++◌, refl, ap, ◌∙◌, arith}
-use Rattle.macsec_counterexamples.proofs.Restarts.Names.{replicate}
-use Rattle.macsec_counterexamples.proofs.Restarts.Names.{CipherUse, InstalledKey, Key, TxOn, TxSa}
-use Rattle.macsec_counterexamples.proofs.Restarts.Names.{use_sent, IsSound, State, no_tx_counters, start, tx_options, client_frame, step}
-use Rattle.macsec_counterexamples.proofs.Restarts.Names.{Reservation, sealed, highest, sending_name}
-use Rattle.macsec_counterexamples.proofs.Restarts.Names.{Keeping, KeepingInput, endpoint_input, may_go, now_durable}
-use Rattle.macsec_counterexamples.proofs.Restarts.Names.{bytes, gcm_a, installed_key, new_key, no_salt, xpn_a, xpn_b}
-use Rattle.macsec_suite.specs.declared.key_row.NewKey.{NewKey}
-use Rattle.macsec_suite.specs.declared.suite.Suite.{Suite}
-use Rattle.macsec_commands.specs.declared.config.EndConfig.{EndConfig}
-use Rattle.macsec_tx.specs.declared.TxRow.{TxRow}
-use Rattle.macsec_counterexamples.proofs.Link.WorkedEnds.{client}
-use Rattle.macsec_counterexamples.proofs.Restarts.Goes.{Goes, command, commands_go, ended, frame_seals, frame_step, is_new, is_within, may_send, next_goes, raised_alone}
-use Rattle.macsec_counterexamples.proofs.Restarts.Tables.{after_commands, begins_sound, begins_well, all_fit, commands_sound, none_refused, sent_sound, tables_fit}
-use Rattle.macsec_counterexamples.proofs.Restarts.Names.{map}
 use Rattle.macsec_commands.specs.declared.command.Command.{Command}
-use Rattle.macsec_secy.specs.Laws.{number_used}
+use Rattle.macsec_counterexamples.proofs.{
+  Names.{[], ◌++◌, ◌+◌, ◌<◌, ◌∙◌, ◌∷◌, ◌≡◌, ap, arith, Bool, CipherUse, client_frame, EndConfig, endpoint_input, false},
+  Names.{highest, InstalledKey, IsSound, Keeping, KeepingInput, Key, List, map, may_go, NewKey, no_tx_counters},
+  Names.{now_durable, number_used, refl, replicate, Reservation, sealed, sending_name, start, State, step, Suite, true},
+  Names.{tx_options, TxOn, TxRow, TxSa, use_sent, ℕ},
+  Link.WorkedEnds.{bytes, gcm_a, installed_key, new_key, no_salt, xpn_a, xpn_b, client},
+  Restarts.{
+    Goes.{Goes, command, commands_go, ended, frame_seals, frame_step, is_new, is_within, may_send, next_goes},
+    Goes.raised_alone,
+    Tables.{after_commands, begins_sound, begins_well, all_fit, commands_sound, none_refused, sent_sound, tables_fit},
+  },
+}
 
 -- in this order: with 32-bit packet numbers; with extended ones and a salt of zeros; with another salt; with the salt
 -- under which the IV reads as one of 32-bit packet numbers. The last three are at the other end: with the same own SSCI;

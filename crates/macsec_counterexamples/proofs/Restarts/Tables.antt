@@ -1,30 +1,17 @@
 -- What holds of the tables of a worked endpoint, by tests that compute: so a worked run owes `refl` for each state.
-use Rattle.std.proofs.Common.{◌≡◌, ℕ, ◌<◌, Bool, true, false, List, [], ◌∷◌, length, refl, sym, subst}
-use Rattle.std.specs.Prelude.{◌^◌, ◌&&◌, ◌==◌, not, nat_lt, nat_le, is_some, Option, Some, None}
-use Rattle.std.proofs.lemmas.Bool.{and_parts, leb-true, ltb-true}
-use Rattle.std.proofs.lemmas.Bool.Decides.{Decides-eqb}
-use Rattle.std.proofs.lemmas.List.Elements.{All-cons, All-nil}
-use Rattle.macsec_tag.specs.Laws.{AreOctets}
-use Rattle.macsec_tag.specs.declared.identifiers.Sci.{Sci}
-use Rattle.macsec_suite.specs.KeyNumbers.{max_key_count}
-use Rattle.macsec_suite.specs.KeyRows.{AreKeyRows, InstalledKey, key_row}
-use Rattle.macsec_suite.specs.Suites.{key_length}
-use Rattle.macsec_commands.specs.Configs.{config_fault}
-use Rattle.macsec_commands.specs.Scis.{IsSci}
-use Rattle.macsec_commands.specs.declared.command.Command.{Command}
-use Rattle.macsec_commands.specs.declared.config.EndConfig.{EndConfig}
-use Rattle.macsec_tx.specs.Rows.{AreTxRows}
-use Rattle.macsec_tx.specs.Transmit.{tx_row}
-use Rattle.macsec_tx.specs.declared.TxRow.{TxRow}
-use Rattle.macsec_rx.specs.Channels.{rx_row}
-use Rattle.macsec_rx.specs.Commands.{has_channel}
-use Rattle.macsec_rx.specs.Rows.{AreRxRows, AreScis}
-use Rattle.macsec_rx.specs.declared.RxRow.{RxRow}
-use Rattle.macsec_secy.specs.Commands.{effect, refusal}
-use Rattle.macsec_secy.specs.Sound.{IsSound}
-use Rattle.macsec_secy.specs.State.{State, start}
-use Rattle.macsec_secy.specs.Step.{client_frame, link_frame, step}
-use Rattle.macsec_secy.proofs.StaysSound.{TablesHold, after_client_frame, after_effect, after_link_frame, at_start}
+use Rattle.{
+  std.proofs.{Common.{is_some, leb-true, ltb-true}, lemmas.Bool.{and_parts, Decides.Decides-eqb}},
+  macsec_tag.specs.Laws.AreOctets,
+  macsec_suite.specs.{KeyNumbers.max_key_count, KeyRows.{AreKeyRows, key_row}, Suites.key_length},
+  macsec_commands.specs.{Configs.config_fault, Scis.IsSci, declared.command.Command.Command},
+  macsec_tx.specs.{Rows.AreTxRows, Transmit.tx_row},
+  macsec_rx.specs.{Commands.has_channel, Rows.{AreRxRows, AreScis}},
+  macsec_secy.proofs.StaysSound.{TablesHold, after_client_frame, after_effect, after_link_frame, at_start},
+  macsec_counterexamples.proofs.Names.{[], ◌&&◌, ◌<◌, ◌==◌, ◌^◌, ◌∷◌, ◌≡◌, All-cons, All-nil, Bool, client_frame},
+  macsec_counterexamples.proofs.Names.{effect, EndConfig, false, InstalledKey, IsSound, length, link_frame, List},
+  macsec_counterexamples.proofs.Names.{nat_le, nat_lt, None, not, Option, refl, refusal, rx_row, RxRow, Sci, Some},
+  macsec_counterexamples.proofs.Names.{start, State, step, true, TxRow, ℕ},
+}
 
 pub none_by : {X : Type 0} (o : Option X) → is_some o ≡ false → o ≡ None
 none_by None is = refl
@@ -219,10 +206,8 @@ commands_sound (c ∷ cs) {s} none fit sound =
 pub sent_sound : {s after : State} (frame : List ℕ) → (step s (client_frame frame)).1 ≡ after →
     tables_fit after ≡ true →
     IsSound s → IsSound after
-sent_sound frame is fits sound =
-    subst IsSound is (after_client_frame _ frame (subst TablesHold (sym is) (tables_hold _ fits)) sound)
+sent_sound frame is fits sound = rw is at (after_client_frame _ frame (rw is (tables_hold _ fits)) sound)
 
 pub heard_sound : {s after : State} (frame : List ℕ) → (step s (link_frame frame)).1 ≡ after → tables_fit after ≡ true →
     IsSound s → IsSound after
-heard_sound frame is fits sound =
-    subst IsSound is (after_link_frame _ frame (subst TablesHold (sym is) (tables_hold _ fits)) sound)
+heard_sound frame is fits sound = rw is at (after_link_frame _ frame (rw is (tables_hold _ fits)) sound)

@@ -1,14 +1,19 @@
 -- The first promise at two ends needs each premise on the ends: without it there are two runs, one of each end, that
 -- meet the others and seal two frames with the same key octets and the same IV.
-use Rattle.macsec_counterexamples.proofs.Restarts.Names.{◌≡◌, ◌≢◌, ◌+◌, true, false, [], ◌∷◌, ◌++◌, refl, ap, subst, ◌∙◌, arith, AllPairs, Contains}
-use Rattle.macsec_counterexamples.proofs.Restarts.Names.{All-cons, All-nil, sum_with_stream, InstalledKey, is_xpn, reduced, AgreeOnKeys, IsHistory}
-use Rattle.macsec_counterexamples.proofs.Restarts.Names.{KeepsDurable, Run, SameSalt, StaysSound, closing, opening, sealed_in, sealed_in_all}
-use Rattle.macsec_counterexamples.proofs.Restarts.Names.{reservations, Keeping, HasOtherIv, one_alone, sci_a, sci_b, scis_differ}
-use Rattle.macsec_reserve.specs.TwoEnds.{AreOfTwoEnds}
-use Rattle.macsec_counterexamples.proofs.Restarts.Goes.{Goes}
-use Rattle.macsec_counterexamples.proofs.Restarts.IvPremises.{extended_goes, nothing, of_keys, run_goes, run_of, short_goes}
-use Rattle.macsec_counterexamples.proofs.Restarts.Journals.{journal, salt}
-use Rattle.macsec_counterexamples.proofs.Restarts.Senders.{AtB, AtBReads, AtBSalted, Extended, Sender, Short, at_end, config_of, kept, key_at, number_of, reserves, use_of}
+use Rattle.macsec_reserve.specs.{Histories.AgreeOnKeys, TwoEnds.AreOfTwoEnds}
+use Rattle.macsec_counterexamples.proofs.{
+  Names.{[], ◌++◌, ◌+◌, ◌∷◌, ◌≡◌, ◌≢◌, All-cons, All-nil, AllPairs, arith, closing, Contains, false, HasOtherIv},
+  Names.{InstalledKey, is_xpn, IsHistory, Keeping, KeepsDurable, one_alone, opening, reduced, refl, reservations, Run},
+  Names.{SameSalt, sealed_in_all, StaysSound, subst, sum_with_stream, true},
+  Link.WorkedEnds.{sci_a, sci_b, scis_differ},
+  Restarts.{
+    Goes.Goes,
+    IvPremises.{extended_goes, nothing, of_keys, run_goes, run_of, short_goes},
+    Journals.{journal, salt},
+    Senders.{AtB, AtBReads, AtBSalted, Extended, Sender, Short, at_end, config_of, kept, key_at, number_of, reserves},
+    Senders.use_of,
+  },
+}
 
 -- the names of the premises
 pub data Premise : Type 0 where
@@ -70,15 +75,14 @@ refuted : (left_out : Premise) (w v : Sender) (k l : Keeping) →
     (use_of w).key ≡ (use_of v).key → (use_of w).iv ≡ (use_of v).iv → LawWithout left_out (run_with w) (run_with v) → ⊥
 refuted left_out w v k l first second keys keys' sci agree same_key same_iv law =
     let is : sealed_in_all (run_with w ∷ []) ++ sealed_in_all (run_with v ∷ []) ≡ use_of w ∷ use_of v ∷ [] =
-    ap (λ us. (us ++ []) ++ (sealed_in (run_with v) ++ [])) first.seals
-    ∙ ap (λ us. use_of w ∷ (us ++ [])) second.seals in
+    rw (first.seals, second.seals) in
     let pairs = law (one_run (run_with w) first.sound) (one_run (run_with v) second.sound)
     (record {
       sci = sci;
       keys = λ p differ.
           of_keys (λ x y. x.bytes ≡ y.bytes → Agree x y p) (run_with w) (run_with v) w v
-          (ap (λ (k' : Keeping). k'.secy.keys) first.ends ∙ keys)
-          (ap (λ (k' : Keeping). k'.secy.keys) second.ends ∙ keys') (λ same. agree p differ);
+          (rw (first.ends, keys))
+          (rw (second.ends, keys')) (λ same. agree p differ);
     }) in
     subst (AllPairs HasOtherIv) is pairs 0 1 (use_of w) (omega arith) (omega arith) same_key same_iv
 

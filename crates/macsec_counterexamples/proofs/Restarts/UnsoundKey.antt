@@ -1,20 +1,23 @@
 -- The first promise needs the premise that the endpoint is sound at each moment. Each call of a `Keeper` keeps it; an
 -- input that no call can be given breaks it: a key whose salt has no octets. Under it all packet numbers have the same
 -- IV.
-use Rattle.macsec_counterexamples.proofs.Restarts.Names.{◌≡◌, ◌≢◌, ℕ, true, false, List, [], ◌∷◌, ◌++◌, refl, ap, subst, ◌∙◌, arith}
-use Rattle.macsec_counterexamples.proofs.Restarts.Names.{AllPairs, sum_with_stream}
-use Rattle.macsec_counterexamples.proofs.Restarts.Names.{Xpn128, CipherUse, InstalledKey, Key, TxOn, TxSa, use_sent, State, no_tx_counters, start}
-use Rattle.macsec_counterexamples.proofs.Restarts.Names.{tx_options, client_frame, Reservation, reduced, KeepsDurable, Run, SameSalt}
-use Rattle.macsec_counterexamples.proofs.Restarts.Names.{sealed_from, sealed_in_all, highest, reservations, sending_name, Keeping, KeepingInput}
-use Rattle.macsec_counterexamples.proofs.Restarts.Names.{endpoint_input, may_go, now_durable, HasOtherIv, one_alone, reduced_reserves}
-use Rattle.macsec_counterexamples.proofs.Restarts.Names.{bytes, installed_key, new_key, xpn_a}
-use Rattle.macsec_counterexamples.proofs.Link.WorkedEnds.{client}
-use Rattle.macsec_counterexamples.proofs.Restarts.Goes.{command, commands_seal, frame_seals, frame_step, is_new, is_within, may_send, next_seals, raised_alone}
-use Rattle.macsec_counterexamples.proofs.Restarts.Tables.{after_commands}
 use Rattle.macsec_commands.specs.declared.command.Command.{Command}
-use Rattle.macsec_counterexamples.proofs.Restarts.IvPremises.{AgreeOnSalts, AgreeOnSuites, Holds, IsDurable, IsSoundAtEachMoment, LawWithout, Premise, SameJournalSalt, SameKeySalt, SameSuite, nothing}
-use Rattle.macsec_counterexamples.proofs.Restarts.Journals.{journal, salt, says}
-use Rattle.macsec_counterexamples.proofs.Restarts.Senders.{kept, row_at}
+use Rattle.macsec_counterexamples.proofs.{
+  Names.{[], ◌++◌, ◌∙◌, ◌∷◌, ◌≡◌, ◌≢◌, AllPairs, ap, arith, CipherUse, client_frame, endpoint_input, false, HasOtherIv},
+  Names.{highest, InstalledKey, Keeping, KeepingInput, KeepsDurable, Key, List, may_go, no_tx_counters, now_durable},
+  Names.{one_alone, reduced, reduced_reserves, refl, Reservation, reservations, Run, SameSalt, sealed_from},
+  Names.{sealed_in_all, sending_name, start, State, subst, sum_with_stream, true, tx_options, TxOn, TxSa, use_sent},
+  Names.{Xpn128, ℕ},
+  Link.WorkedEnds.{bytes, installed_key, new_key, xpn_a, client},
+  Restarts.{
+    Goes.{command, commands_seal, frame_seals, frame_step, is_new, is_within, may_send, next_seals, raised_alone},
+    IvPremises.{AgreeOnSalts, AgreeOnSuites, Holds, IsDurable, IsSoundAtEachMoment, LawWithout, Premise},
+    IvPremises.{SameJournalSalt, SameKeySalt, SameSuite, nothing},
+    Journals.{journal, salt, says},
+    Senders.{kept, row_at},
+    Tables.after_commands,
+  },
+}
 
 -- both packet numbers are reserved
 abbrev name : List ℕ
@@ -101,5 +104,5 @@ holds IsDurable differ = one_alone KeepsDurable run
 pub soundness_needed : LawWithout IsSoundAtEachMoment runs → ⊥
 unfolding sum_with_stream
 soundness_needed law =
-    let is : sealed_in_all runs ≡ first_use ∷ second_use ∷ [] = ap (λ us. us ++ []) seals in
+    let is : sealed_in_all runs ≡ first_use ∷ second_use ∷ [] = rw seals in
     subst (AllPairs HasOtherIv) is (law holds) 0 1 first_use (omega arith) (omega arith) refl refl

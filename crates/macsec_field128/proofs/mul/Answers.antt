@@ -1,11 +1,10 @@
 -- The loop adds up the product bit by bit, and after 128 bits the sum is `block_product`. Each step adds one term, a
 -- bit times the power (`Sums`), and multiplies the power by x.
-use Rattle.std.proofs.Common.{◌≡◌, ℕ, ◌-◌, ◌*◌, ◌∙◌, sym, arith}
-use Rattle.std.proofs.lemmas.Nat.Bits.{shr_and_one}
-use Rattle.std.specs.Fn.{iterate}
-use Rattle.macsec_field128.specs.Field.{bit_of, block_product, times_x}
-use Rattle.macsec_field128.proofs.Iterations.{iterate_none, iterate_more}
-use Rattle.macsec_field128.proofs.Sums.{sum_below_more, sum_below_none}
+use Rattle.std.{proofs.{Common.{◌≡◌, ℕ, ◌-◌, ◌*◌, ◌∙◌, sym, arith}, lemmas.Nat.Bits.shr_and_one}, specs.Fn.iterate}
+use Rattle.macsec_field128.{
+  proofs.{Iterations.{iterate_none, iterate_more}, Sums.{sum_below_more, sum_below_none}},
+  specs.Field.{bit_of, block_product, times_x},
+}
 use Rattle.macsec_field128.proofs.mul.Goals as goal
 
 pub loop-i-init : goal.loop-i-init

@@ -1,6 +1,4 @@
-use Rattle.std.proofs.Common.{◌≡◌, ◌*◌}
-use Rattle.std.specs.Fn.{iterate}
-use Rattle.macsec_field128.specs.Field.{bit_of, sum_below, times_x}
+use Rattle.{std.{proofs.Common.{◌≡◌, ◌*◌}, specs.Fn.iterate}, macsec_field128.specs.Field.{bit_of, sum_below, times_x}}
 use Rattle.macsec_field128.proofs.mul.Given as goal
 
 -- the sum has the first i terms, and the power is the second block multiplied i times by x

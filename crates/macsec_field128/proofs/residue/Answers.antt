@@ -1,5 +1,4 @@
-use Rattle.std.proofs.Common.{refl, arith}
-use Rattle.macsec_field128.proofs.Carryless.{residue_of_halves}
+use Rattle.{std.proofs.Common.{refl, arith}, macsec_field128.proofs.Carryless.residue_of_halves}
 use Rattle.macsec_field128.proofs.residue.Goals as goal
 
 pub returns : goal.returns

@@ -1,7 +1,8 @@
 -- The mask of 0 is 0, and the mask of 1 is all ones.
-use Rattle.std.proofs.Common.{◌≡◌, ◌+◌, ◌-◌, ◌*◌, ◌%◌, ◌^◌, ◌<◌, ◌∙◌, ℕ, zero, suc, bit_and, arith}
-use Rattle.std.specs.Int.Bits.{and_zero_r}
-use Rattle.std.proofs.lemmas.Nat.{and_mask}
+use Rattle.std.{
+  proofs.{Common.{◌≡◌, ◌+◌, ◌-◌, ◌*◌, ◌%◌, ◌^◌, ◌<◌, ◌∙◌, ℕ, zero, suc, bit_and, arith}, lemmas.Nat.and_mask},
+  specs.Int.Bits.and_zero_r,
+}
 use Rattle.macsec_field128.proofs.where_set.Goals as goal
 
 masked : (bit block : ℕ) → bit < 2 → block < 2 ^ 128 → bit_and block ((0 + (2 ^ 128 - bit)) % 2 ^ 128) ≡ bit * block

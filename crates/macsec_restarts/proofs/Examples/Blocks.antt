@@ -1,39 +1,23 @@
 -- How a run goes, input by input, in a list of happenings: what it sends and delivers, and that it meets all premises
 -- of order and once except one. So a worked run continues from a state that is written out.
-use Rattle.std.proofs.Common.{◌≡◌, ◌≢◌, ◌⊎◌, inl, inr, ◌<◌, ℕ, Bool, true, false, List, [], ◌∷◌, ◌++◌, map, refl, ap, sym, subst, ◌∙◌, Contains, append-nil, append_assoc}
-use Rattle.std.specs.Prelude.{if◌then◌else◌, option_map, Option, Some, None, IfSome}
-use Rattle.std.proofs.lemmas.List.{map-append}
-use Rattle.std.proofs.lemmas.List.Elements.{All-nil}
-use Rattle.macsec_tag.specs.declared.identifiers.Sci.{Sci}
-use Rattle.macsec_suite.specs.CipherUses.{CipherUse}
-use Rattle.macsec_commands.specs.declared.config.EndConfig.{EndConfig}
-use Rattle.macsec_commands.specs.declared.event.End.{End}
-use Rattle.macsec_commands.specs.declared.event.End.TheVariants.{A, B}
-use Rattle.macsec_secy.specs.Sound.{IsSound}
-use Rattle.macsec_secy.specs.Step.{client_frame, link_frame, operator_command, uncontrolled_frame}
-use Rattle.macsec_link.specs.Genuine.{use_opened}
-use Rattle.macsec_link.proofs.Members.{IsMember, contained, member}
-use Rattle.macsec_reserve.specs.Histories.{Run, StaysSound, closing, opening, sealed_in_all}
-use Rattle.macsec_reserve.specs.Keeping.{Keeping, KeepingInput, endpoint_input, keeping_after, keeping_step, now_durable}
-use Rattle.macsec_commands.specs.declared.command.Command.{Command}
-use Rattle.macsec_rx.specs.Judge.{Judgement}
-use Rattle.macsec_tag.specs.Laws.{AreOctets}
-use Rattle.macsec_commands.specs.declared.mode.Mode.TheVariants.{Strict}
-use Rattle.macsec_secy.specs.declared.fault.FrameFault.{FrameFault}
-use Rattle.macsec_secy.specs.Reception.{judgement_of, state_after_receiving}
-use Rattle.macsec_secy.specs.State.{State}
-use Rattle.macsec_secy.specs.Step.{frame_fault, received_output, step, unless_fault}
-use Rattle.macsec_counterexamples.proofs.Restarts.Goes.{AreNew, command, commands_by, commands_stay, link_step, sound_end, sound_next}
-use Rattle.macsec_counterexamples.proofs.Restarts.Tables.{after_commands, all_fit, heard_sound, none_refused, tables_fit}
-use Rattle.macsec_restarts.specs.Delivered.{Delivery, delivered_at, delivered_by, delivered_from, delivered_in_all, newly_delivered}
-use Rattle.macsec_restarts.specs.Happenings.{AtEach, Happening, begins, comes_in, inputs_until, last_run, runs_of, same_end}
-use Rattle.macsec_restarts.specs.Order.{CreatesAbove, SavedIn, delivered_in, delivered_so_far}
-use Rattle.macsec_restarts.specs.Peers.{HasOctets, IsGenuineAt}
-use Rattle.macsec_restarts.specs.Sent.{SentIn, newly_sent, sent_from, sent_in_all}
-use Rattle.macsec_restarts.proofs.Examples.Premises.{HasStrictOrderBut, IsCreatedAbove, IsNotForged, IsOrderedInputBut, IsOrderlyBut, IsSaved, Premise}
-use Rattle.macsec_restarts.proofs.Lists.{at_end, either_list, in_front}
-use Rattle.macsec_restarts.proofs.Pushed.{closing-input, delivered_in-input, last_run-push, last_run-with_last, runs_of-begins, runs_of-input, sends_more, with_input}
-use Rattle.macsec_restarts.proofs.Sends.{seal_of_sent, seals_of_runs}
+use Rattle.macsec_counterexamples.proofs.Restarts.{Goes.{commands_by, link_step}, Tables.heard_sound}
+use Rattle.macsec_restarts.proofs.{
+  Names.{[], ◌++◌, ◌<◌, ◌∙◌, ◌∷◌, ◌≡◌, ◌≢◌, ◌⊎◌, A, after_commands, All-nil, all_fit, ap, append-nil, append_assoc},
+  Names.{AreNew, AreOctets, AtEach, B, begins, Bool, CipherUse, client_frame, closing, comes_in, Command, command},
+  Names.{commands_stay, contained, Contains, CreatesAbove, delivered_at, delivered_by, delivered_from, delivered_in},
+  Names.{delivered_in_all, delivered_so_far, Delivery, End, EndConfig, endpoint_input, false, frame_fault, Happening},
+  Names.{HasOctets, IfSome, if◌then◌else◌, inl, inputs_until, inr, IsGenuineAt, IsMember, IsSound, Judgement},
+  Names.{judgement_of, Keeping, keeping_after, keeping_step, KeepingInput, last_run, link_frame, List, map, map-append},
+  Names.{member, newly_delivered, newly_sent, None, none_refused, now_durable, opening, operator_command, Option, refl},
+  Names.{Run, runs_of, same_end, SavedIn, Sci, sealed_in_all, sent_from, sent_in_all, SentIn, Some, sound_end},
+  Names.{sound_next, State, state_after_receiving, StaysSound, step, Strict, subst, sym, tables_fit, true},
+  Names.{uncontrolled_frame, use_opened, ℕ},
+  Examples.Premises.{HasStrictOrderBut, IsCreatedAbove, IsNotForged, IsOrderlyBut, IsSaved, Premise},
+  Lists.{at_end, either_list, in_front},
+  Pushed.{closing-input, delivered_in-input, last_run-push, last_run-with_last, runs_of-begins, runs_of-input},
+  Pushed.{sends_more, with_input},
+  Sends.{seal_of_sent, seals_of_runs},
+}
 
 -- ---- what a run sends and delivers
 
@@ -51,12 +35,9 @@ pub does_next : {k after last : Keeping} {input : KeepingInput} {inputs : List K
     (keeping_step k input).1 ≡ after →
     Does after inputs sends ds last → Does k (input ∷ inputs) (now ++ sends) (new ++ ds) last
 does_next {k} {input} {inputs} {now} {new} is_now is_new is_after rest = record {
-  sends = ap (λ xs. xs ++ sent_from (keeping_step k input).1 inputs) is_now
-      ∙ ap (λ k'. now ++ sent_from k' inputs) is_after
-      ∙ ap (λ xs. now ++ xs) rest.sends;
-  delivers = ap (λ xs. xs ++ delivered_from (keeping_step k input).1 inputs) is_new
-      ∙ ap (λ k'. new ++ delivered_from k' inputs) is_after ∙ ap (λ xs. new ++ xs) rest.delivers;
-  ends = ap (λ k'. keeping_after k' inputs) is_after ∙ rest.ends;
+  sends = rw (is_now, is_after, rest.sends);
+  delivers = rw (is_new, is_after, rest.delivers);
+  ends = rw (is_after, rest.ends);
 }
 
 pub commands_do : (cs : List Command) {k last : Keeping} {inputs : List KeepingInput} {xs : List SentIn}
@@ -106,10 +87,7 @@ commands_told cs {k} {inputs} new none fit sound rest =
 
 received_by : (s : State) (f : List ℕ) {j : Judgement} → frame_fault f ≡ None → judgement_of s f ≡ j →
     (step s (link_frame f)).1 ≡ state_after_receiving s f j
-received_by s f whole is =
-    ap (λ (o : Option FrameFault). (unless_fault o s
-    (received_output f (judgement_of s f), state_after_receiving s f (judgement_of s f))).1) whole
-    ∙ ap (λ (j' : Judgement). state_after_receiving s f j') is
+received_by s f whole is = rw (whole, is)
 
 pub heard_by : {s : State} (f : List ℕ) {j : Judgement} → frame_fault f ≡ None → judgement_of s f ≡ j →
     tables_fit (state_after_receiving s f j) ≡ true → IsSound s → IsSound (state_after_receiving s f j)
@@ -117,14 +95,11 @@ heard_by {s} f whole is fit sound = heard_sound f (received_by s f whole is) fit
 
 pub link_step_by : (k : Keeping) (f : List ℕ) (j : Judgement) → frame_fault f ≡ None → judgement_of k.secy f ≡ j →
     (keeping_step k (endpoint_input (link_frame f))).1 ≡ record k { secy = state_after_receiving k.secy f j }
-link_step_by k f j whole is =
-    link_step k f ∙ ap (λ (s : State). record k { secy = s }) (received_by k.secy f whole is)
+link_step_by k f j whole is = rw (link_step k f, received_by k.secy f whole is)
 
 pub gives_by : (k : Keeping) (f : List ℕ) (j : Judgement) → frame_fault f ≡ None → judgement_of k.secy f ≡ j →
     newly_delivered k (endpoint_input (link_frame f)) ≡ delivered_by k.secy j None j.row j.delivered
-gives_by k f j whole is =
-    ap (λ (o : Option FrameFault). let j' = judgement_of k.secy f in delivered_by k.secy j' o j'.row j'.delivered) whole
-    ∙ ap (λ (j' : Judgement). delivered_by k.secy j' None j'.row j'.delivered) is
+gives_by k f j whole is = rw (whole, is)
 
 pub told_link : {k last : Keeping} {f : List ℕ} {inputs : List KeepingInput} {xs : List SentIn}
     {ds : List Delivery} (j : Judgement) →
@@ -166,13 +141,11 @@ seals_more : (e : End) (before : List Happening) (h : Happening) (u : CipherUse)
 seals_more e before h u there =
     let more = sends_more e before h in
     let old = sent_in_all (runs_of e before) in
-    let first : IsMember (map seal_of_sent old) u =
-    subst (λ (us : List CipherUse). IsMember us u) (sym (seals_of_runs (runs_of e before))) there in
+    let first : IsMember (map seal_of_sent old) u = rw (seals_of_runs (runs_of e before)) there in
     let both : IsMember (map seal_of_sent (old ++ more.added)) u =
-    subst (λ (us : List CipherUse). IsMember us u) (sym (map-append seal_of_sent old more.added))
-    (in_front (map seal_of_sent old) (map seal_of_sent more.added) u first) in
-    subst (λ (us : List CipherUse). IsMember us u)
-    (ap (map seal_of_sent) (sym more.more) ∙ seals_of_runs (runs_of e (before ++ h ∷ []))) both
+    rw (map-append seal_of_sent old more.added) (in_front (map seal_of_sent old) (map seal_of_sent more.added) u
+    first) in
+    rw (ap (map seal_of_sent) (sym more.more) ∙ seals_of_runs (runs_of e (before ++ h ∷ []))) at both
 
 pub more_sealed : (before : List Happening) (h : Happening) (u : CipherUse) → Contains (sealed_so_far before) u →
     Contains (sealed_so_far (before ++ h ∷ [])) u
@@ -210,12 +183,7 @@ pub step_next : {left_out : Premise} {bytes : List ℕ} {sci : Sci} {an : ℕ} {
     AreSteps left_out bytes sci an after (ds ++ delivered_at bytes sci an new) uses inputs →
     AreSteps left_out bytes sci an k ds uses (input ∷ inputs)
 step_next {left_out} {bytes} {sci} {an} {k} {after} {ds} {uses} {input} {inputs} now is_after is_new rest =
-    a_step now (subst (λ (k' : Keeping).
-    AreSteps left_out bytes sci an k' (ds ++ delivered_at bytes sci an (newly_delivered k input)) uses inputs)
-    (sym is_after)
-    (subst (λ (xs : List Delivery). AreSteps left_out bytes sci an after
-    (ds ++ delivered_at bytes sci an xs) uses inputs)
-    (sym is_new) rest))
+    a_step now (rw is_after (rw is_new rest))
 
 pub step_link : {left_out : Premise} {bytes : List ℕ} {sci : Sci} {an : ℕ} {k : Keeping} {f : List ℕ}
     {ds : List Delivery}
@@ -316,8 +284,7 @@ module _ (left_out : Premise) (bytes : List ℕ) (sci : Sci) (an : ℕ) where
   a_inputs (input ∷ inputs) before more own rest = (
     a_input before input own.0,
     a_inputs inputs (before ++ comes_in A input ∷ []) more own.1
-        (subst (λ (hs : List Happening). AtEach IsMet hs more)
-        (sym (append_assoc before (comes_in A input ∷ []) (map (comes_in A) inputs))) rest),
+        (rw (append_assoc before (comes_in A input ∷ []) (map (comes_in A) inputs)) rest),
   )
 
   among_more : (xs ys : List CipherUse) → ((u : CipherUse) → Contains xs u → Contains ys u) → (o : Option CipherUse) →
@@ -342,8 +309,7 @@ module _ (left_out : Premise) (bytes : List ℕ) (sci : Sci) (an : ℕ) where
   b_input before run last uses within input now = record {
     genuine = λ d. is_genuine before run last uses within input (now.genuine d);
     octets = now.octets;
-    ordered = λ same. subst (λ (o : Option Run). IfSome o (λ q. IsOrderedInputBut left_out q bytes sci an input))
-        (sym last) (record { order = now.order; creates = now.creates });
+    ordered = λ same. rw last (record { order = now.order; creates = now.creates });
   }
 
   pub b_inputs : (inputs : List KeepingInput) (before more : List Happening) (run : Run) →
@@ -356,16 +322,15 @@ module _ (left_out : Premise) (bytes : List ℕ) (sci : Sci) (an : ℕ) where
       let hs = before ++ comes_in B input ∷ [] in
       let run' = with_input input run in (
         b_input before run last uses within input now,
-        b_inputs inputs hs more run' (ap last_run (runs_of-input B B input before refl)
-            ∙ last_run-with_last input (runs_of B before) ∙ ap (option_map (with_input input)) last)
+        b_inputs inputs hs more run' (rw (
+          runs_of-input B B input before refl,
+          last_run-with_last input
+              (runs_of B before),
+          last,
+        ))
             uses (λ u there. more_sealed before (comes_in B input) u (within u there))
-            (subst (λ (ds : List Delivery). AreSteps left_out bytes sci an (closing run') ds uses inputs)
-            (sym (delivered_in-input bytes sci an input run))
-            (subst (λ (k : Keeping). AreSteps left_out bytes sci an k
-            (delivered_in run bytes sci an ++ delivered_at bytes sci an (newly_delivered (closing run) input)) uses
-            inputs) (sym (closing-input input run)) later))
-            (subst (λ (hs' : List Happening). AtEach IsMet hs' more)
-            (sym (append_assoc before (comes_in B input ∷ []) (map (comes_in B) inputs))) rest),
+            (rw (delivered_in-input bytes sci an input run) (rw (closing-input input run) later))
+            (rw (append_assoc before (comes_in B input ∷ []) (map (comes_in B) inputs)) rest),
       )
 
 -- ---- a list of runs of either end; each run ends before the next one begins
@@ -406,11 +371,7 @@ none_before e (it ∷ more) = by_end (same_end e it.0) refl (none_before e more)
     by_end : (b : Bool) → same_end e it.0 ≡ b → inputs_until e (blocks more) ≡ [] →
         (if b then [] else inputs_until e (map (comes_in it.0) it.1.inputs ++ blocks more)) ≡ []
     by_end true same none = refl
-    by_end false other none =
-        inputs_passed e it.0 it.1.inputs (blocks more)
-        ∙ ap (λ (b : Bool). if b then it.1.inputs ++ inputs_until e (blocks more) else inputs_until e (blocks more))
-        other
-        ∙ none
+    by_end false other none = rw (inputs_passed e it.0 it.1.inputs (blocks more), other, none)
 
 runs_passed : (e f : End) (inputs : List KeepingInput) (more : List Happening) →
     runs_of e (map (comes_in f) inputs ++ more) ≡ runs_of e more
@@ -436,28 +397,22 @@ runs_of-blocks e (it ∷ more) = by_end (same_end e it.0) refl
     by_end false other rest = rest
     by_end true same rest =
         let all : inputs ≡ it.1.inputs =
-        inputs_passed e it.0 it.1.inputs (blocks more)
-        ∙ ap (λ (b : Bool). if b then it.1.inputs ++ inputs_until e (blocks more) else inputs_until e (blocks more))
-        same
-        ∙ ap (λ (is : List KeepingInput). it.1.inputs ++ is) (none_before e more)
-        ∙ append-nil it.1.inputs in
-        ap (λ (is : List KeepingInput). record { journal = it.1.journal; config = it.1.config; inputs = is }
-        ∷ runs_of e (map (comes_in it.0) it.1.inputs ++ blocks more)) all
-        ∙ ap (λ (rs : List Run). it.1 ∷ rs) rest
+        rw (inputs_passed e it.0 it.1.inputs (blocks more), same, none_before e more, append-nil it.1.inputs) in
+        rw (all, rest)
 
 blocks-push : (its : List EndRun) (it : EndRun) →
     blocks (its ++ it ∷ []) ≡ (blocks its ++ begins it.0 it.1.config it.1.journal ∷ [])
     ++ map (comes_in it.0) it.1.inputs
-blocks-push [] it = ap (λ (hs : List Happening). begins it.0 it.1.config it.1.journal ∷ hs)
-    (append-nil (map (comes_in it.0) it.1.inputs))
+blocks-push [] it = rw (append-nil (map (comes_in it.0) it.1.inputs))
 blocks-push (x ∷ its) it =
-    ap (λ (hs : List Happening). begins x.0 x.1.config x.1.journal ∷ (map (comes_in x.0) x.1.inputs ++ hs))
-    (blocks-push its it)
-    ∙ ap (λ (hs : List Happening). begins x.0 x.1.config x.1.journal ∷ hs)
-    (sym (append_assoc (map (comes_in x.0) x.1.inputs) (blocks its ++ begins it.0 it.1.config it.1.journal ∷ [])
-    (map (comes_in it.0) it.1.inputs))
-    ∙ ap (λ (hs : List Happening). hs ++ map (comes_in it.0) it.1.inputs)
-    (sym (append_assoc (map (comes_in x.0) x.1.inputs) (blocks its) (begins it.0 it.1.config it.1.journal ∷ []))))
+    rw (
+      blocks-push its it,
+      (sym (append_assoc (map (comes_in x.0) x.1.inputs) (blocks its ++ begins it.0 it.1.config it.1.journal ∷ [])
+          (map (comes_in it.0) it.1.inputs))
+          ∙ ap (λ (hs : List Happening). hs ++ map (comes_in it.0) it.1.inputs)
+          (sym (append_assoc (map (comes_in x.0) x.1.inputs) (blocks its) (begins it.0 it.1.config it.1.journal
+          ∷ [])))),
+    )
 
 module _ (left_out : Premise) (bytes : List ℕ) (sci : Sci) (an : ℕ) where
   -- what each run has to meet, where `done` were before
@@ -480,24 +435,21 @@ module _ (left_out : Premise) (bytes : List ℕ) (sci : Sci) (an : ℕ) where
   one_met done A run more own rest =
       a_begins left_out bytes sci an (blocks done) (map (comes_in A) run.inputs ++ more) run.config run.journal
       (a_inputs left_out bytes sci an run.inputs (blocks done ++ begins A run.config run.journal ∷ []) more own
-      (subst (λ (hs : List Happening). AtEach (IsOrderlyBut left_out B bytes sci an) hs more)
-      (blocks-push done (A, run)) rest))
+      (rw (blocks-push done (A, run)) at rest))
   one_met done B run more it rest =
       b_begins left_out bytes sci an (blocks done) (map (comes_in B) run.inputs ++ more) run.config run.journal
-      (λ d. subst (λ (rs : List Run). SavedIn run.journal bytes sci an
-      (delivered_at bytes sci an (delivered_in_all rs))) (sym (runs_of-blocks B done)) (it.0 d))
+      (λ d. rw (runs_of-blocks B done) (it.0 d))
       (b_inputs left_out bytes sci an run.inputs (blocks done ++ begins B run.config run.journal ∷ []) more
       (record { journal = run.journal; config = run.config; inputs = [] })
-      (ap last_run (runs_of-begins B B run.config run.journal (blocks done))
-      ∙ last_run-push (runs_of B (blocks done)) (record { journal = run.journal; config = run.config; inputs = [] }))
+      (rw (
+        runs_of-begins B B run.config run.journal (blocks done),
+        last_run-push (runs_of B (blocks done))
+            (record { journal = run.journal; config = run.config; inputs = [] }),
+      ))
       (sealed_in_all (of_end A done) ++ sealed_in_all (of_end B done))
       (λ u there. more_sealed (blocks done) (begins B run.config run.journal) u
-      (subst (λ (ra : List Run). Contains (sealed_in_all ra ++ sealed_in_all (runs_of B (blocks done))) u)
-      (sym (runs_of-blocks A done))
-      (subst (λ (rb : List Run). Contains (sealed_in_all (of_end A done) ++ sealed_in_all rb) u)
-      (sym (runs_of-blocks B done)) there)))
-      it.1 (subst (λ (hs : List Happening). AtEach (IsOrderlyBut left_out B bytes sci an) hs more)
-      (blocks-push done (B, run)) rest))
+      (rw (runs_of-blocks A done) (rw (runs_of-blocks B done) there)))
+      it.1 (rw (blocks-push done (B, run)) at rest))
 
   pub met : (done more : List EndRun) → AreMet done more →
       AtEach (IsOrderlyBut left_out B bytes sci an) (blocks done) (blocks more)

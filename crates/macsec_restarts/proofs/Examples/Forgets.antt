@@ -1,29 +1,26 @@
 -- A run in which a key is installed and retired, with the option of reserving ahead: the endpoint that forgets keys is
 -- sound at each moment. In the end the key has its fingerprint instead of its octets.
-use Rattle.std.proofs.Common.{◌≡◌, ℕ, zero, suc, Bool, true, false, List, [], ◌∷◌, length, refl, ap, sym, subst, arith}
-use Rattle.std.specs.Prelude.{if◌then◌else◌}
-use Rattle.sha2.specs.Sha256.{compress, digest_bytes, first_words, hash_after, rounds, schedule, sha256}
-use Rattle.macsec_tag.specs.Limits.{max_frame_len}
-use Rattle.macsec_suite.specs.KeyRows.{AreKeyRows, keys_replacing}
-use Rattle.macsec_suite.specs.Replacing.{can_replace}
-use Rattle.macsec_commands.specs.declared.command.Command.TheVariants.{Key, Retire}
-use Rattle.macsec_secy.specs.Commands.{effect}
-use Rattle.macsec_secy.specs.GivenUp.{replacing}
-use Rattle.macsec_secy.specs.Sound.{IsReady, IsSound}
-use Rattle.macsec_secy.specs.State.{State, start}
-use Rattle.macsec_secy.proofs.KeyReplaced.{ready_by_keys}
-use Rattle.macsec_reserve.specs.Forgetting.{fingerprint, forgetting}
-use Rattle.macsec_reserve.specs.Histories.{Run}
-use Rattle.macsec_reserve.specs.Keeping.{Keeping, KeepingInput}
-use Rattle.macsec_counterexamples.proofs.Link.Exchange.{key_row}
-use Rattle.macsec_counterexamples.proofs.Link.WorkedEnds.{bytes, gcm_b, new_key, no_salt}
-use Rattle.macsec_counterexamples.proofs.Restarts.Goes.{command}
-use Rattle.macsec_counterexamples.proofs.Restarts.Journals.{journal, salt}
-use Rattle.macsec_counterexamples.proofs.Restarts.Senders.{kept}
-use Rattle.macsec_counterexamples.proofs.Restarts.Tables.{begins_sound, commands_sound}
-use Rattle.macsec_restarts.specs.AheadForgetting.{IsSoundForgetting}
-use Rattle.macsec_restarts.specs.ForgettingOrder.{closing_forgetting}
-use Rattle.macsec_restarts.proofs.Examples.TwoRunsEach.{reads}
+use Rattle.macsec_suite.specs.{KeyRows.IsKeyRow, Suites.key_length}
+use Rattle.macsec_restarts.proofs.{
+  Names.{◌<◌, ◌^◌, ◌≤◌, InstalledKey},
+  Names.{[], ◌∷◌, ◌≡◌, AreKeyRows, arith, begins_sound, bytes, can_replace, closing_forgetting, command},
+  Names.{commands_sound, compress, digest_bytes, effect, false, fingerprint, first_words, gcm_b, hash_after, IsReady},
+  Names.{IsSound, IsSoundForgetting, journal, Keeping, KeepingInput, kept, Key, key_row, keys_replacing, length, List},
+  Names.{max_frame_len, new_key, no_salt, ready_by_keys, refl, replacing, Retire, rounds, Run, salt, schedule, sha256},
+  Names.{start, State, suc, sym, true, zero, ℕ},
+  Examples.TwoRunsEach.reads,
+}
+
+pub is_row : (row : InstalledKey) → row.number < 4096 → length row.bytes ≡ key_length row.suite →
+    length row.salt ≡ 12 → row.ssci < 2 ^ 32 → 1 ≤ row.first_unused → row.first_unused ≤ 2 ^ 64 → IsKeyRow row
+is_row row number bytes salt ssci least most = record {
+  number = number;
+  bytes = bytes;
+  salt = salt;
+  ssci = ssci;
+  first_unused_least = least;
+  first_unused = most;
+}
 
 abbrev inputs : List KeepingInput
 inputs = command (Key (new_key no_salt 2)) ∷ command (Retire 0) ∷ []
@@ -64,18 +61,7 @@ unfolding first_words schedule rounds compress hash_after digest_bytes sha256
 long = refl
 
 forgotten_is : AreKeyRows forgotten.keys
-forgotten_is = (
-  record {
-    number = omega arith;
-    bytes = long;
-    salt = refl;
-    ssci = omega arith;
-    first_unused_least = omega arith;
-    first_unused = omega arith;
-  },
-  refl,
-  tt,
-)
+forgotten_is = (is_row _ (omega arith) long refl (omega arith) (omega arith) (omega arith), refl, tt)
 
 forgotten_sound : IsSound forgotten
 forgotten_sound =
@@ -90,13 +76,13 @@ abbrev k_retired : Keeping
 k_retired = kept (salt false) (reads []) [] retired
 
 is_forgotten : (closing_forgetting true run).k.secy ≡ forgotten
-is_forgotten = ap (λ (b : Bool). (if b then forgetting k_retired 0 else k_retired).secy) can
+is_forgotten = rw can
 
 is_sound : IsSoundForgetting true run
 is_sound zero = start_sound
 is_sound (suc zero) = key_sound
-is_sound (suc (suc zero)) = subst IsSound (sym is_forgotten) forgotten_sound
-is_sound (suc (suc (suc n))) = subst IsSound (sym is_forgotten) forgotten_sound
+is_sound (suc (suc zero)) = rw is_forgotten forgotten_sound
+is_sound (suc (suc (suc n))) = rw is_forgotten forgotten_sound
 
 -- the endpoint is sound at each moment, and the octets of the key are gone
 pub record ForgetsKey : Type 0 where
@@ -104,4 +90,4 @@ pub record ForgetsKey : Type 0 where
   pub keys : (closing_forgetting true run).k.secy.keys ≡ record (key_row 2 1) { bytes = octets; retired = true } ∷ []
 
 pub forgets_key : ForgetsKey
-forgets_key = record { sound = is_sound; keys = ap (λ (s : State). s.keys) is_forgotten }
+forgets_key = record { sound = is_sound; keys = rw is_forgotten }

@@ -1,26 +1,20 @@
 -- Two ends whose runs have the key of worked runs: what makes them peers, and what a history of them shows.
-use Rattle.std.proofs.Common.{◌≡◌, ◌≢◌, ℕ, ◌≤◌, true, List, [], ◌∷◌, map, get_or, refl, ap, sym, subst, ◌∙◌, arith, All, AllPairs, Contains}
-use Rattle.std.proofs.lemmas.List.Elements.{All-cons, All-nil, All-weaker}
-use Rattle.macsec_tag.specs.declared.identifiers.Sci.{Sci}
-use Rattle.macsec_suite.specs.KeyRows.{InstalledKey}
-use Rattle.macsec_suite.specs.Suites.{is_xpn}
-use Rattle.macsec_commands.specs.declared.event.End.TheVariants.{A, B}
-use Rattle.macsec_link.specs.Origin.{IsSubsequence}
-use Rattle.macsec_reserve.specs.Histories.{AgreeOnKey, AgreeOnKeys, IsHistory, KeepsDurable, Run, SameSalt, closing, opening, sealed_in_all}
-use Rattle.macsec_reserve.specs.Journal.{highest, receiving_name, reservations, salt_of, sending_name}
-use Rattle.macsec_reserve.specs.Keeping.{Keeping}
-use Rattle.macsec_reserve.proofs.Pairs.{one_alone}
-use Rattle.macsec_counterexamples.proofs.Link.Exchange.{key_row}
-use Rattle.macsec_counterexamples.proofs.Link.WorkedEnds.{bytes, only, sci_a, sci_b}
-use Rattle.macsec_restarts.specs.Delivered.{Delivery, delivered_at, delivered_in_all}
-use Rattle.macsec_restarts.specs.Happenings.{AtEach, runs_of}
-use Rattle.macsec_restarts.specs.Order.{IsOrderly, SavedIn, delivered_so_far, numbered_delivery, numbered_sent}
-use Rattle.macsec_restarts.specs.Peers.{ArePeers, IsSameEnd}
-use Rattle.macsec_restarts.specs.Sent.{SentIn, sent_in_all, sent_under}
-use Rattle.macsec_restarts.proofs.Examples.Blocks.{AreMet, EndRun, Told, blocks, met, of_end, runs_of-blocks}
-use Rattle.macsec_restarts.proofs.Examples.Premises.{AgreeAtBothBut, AgreeInRunsBut, ArePeersBut, HasOneSalt, HasOneSuite, IsHistoryBut, IsSameEndBut, LawWithout, NoPremise, Premise, StaysSoundAlways, each_suffices, history_but, keys_but, peers_suffice, same_end_but}
-use Rattle.macsec_restarts.proofs.Sends.{seal_of_sent, seals_of_runs}
-use Rattle.macsec_restarts.proofs.SoundRuns.{IsSoundRun}
+use Rattle.macsec_restarts.proofs.{
+  Names.{[], ◌∙◌, ◌∷◌, ◌≡◌, ◌≢◌, ◌≤◌, A, AgreeOnKey, AgreeOnKeys, All, All-cons, All-nil, All-weaker, AllPairs, ap},
+  Names.{ArePeers, arith, AtEach, B, bytes, closing, Contains, delivered_at, delivered_in_all, delivered_so_far},
+  Names.{Delivery, get_or, highest, InstalledKey, is_xpn, IsHistory, IsOrderly, IsSameEnd, IsSubsequence, Keeping},
+  Names.{KeepsDurable, key_row, List, map, numbered_delivery, numbered_sent, one_alone, only, opening, receiving_name},
+  Names.{refl, reservations, Run, runs_of, salt_of, SameSalt, SavedIn, Sci, sci_a, sci_b, sealed_in_all, sending_name},
+  Names.{sent_in_all, sent_under, SentIn, subst, sym, true, ℕ},
+  Examples.{
+    Blocks.{AreMet, EndRun, Told, blocks, met, of_end, runs_of-blocks},
+    Premises.{AgreeAtBothBut, AgreeInRunsBut, ArePeersBut, HasOneSalt, HasOneSuite, IsHistoryBut, IsSameEndBut},
+    Premises.{LawWithout, NoPremise, Premise, StaysSoundAlways, each_suffices, history_but, keys_but, peers_suffice},
+    Premises.same_end_but,
+  },
+  Sends.{seal_of_sent, seals_of_runs},
+  SoundRuns.IsSoundRun,
+}
 
 -- ---- a run of an end
 
@@ -36,7 +30,7 @@ run_told ssci unused sci run sends ds last of_sci keys told = record {
   sound = told.sound;
   of_sci = of_sci;
   keys = λ x there.
-      (unused, sym (only (key_row ssci unused) x (subst (λ (ks : List InstalledKey). Contains ks x) (ap (λ (k : Keeping). k.secy.keys) told.ends ∙ keys) there)));
+      (unused, sym (only (key_row ssci unused) x (rw (ap (λ (k : Keeping). k.secy.keys) told.ends ∙ keys) at there)));
 }
 
 pub of_keys : (R : InstalledKey → InstalledKey → Type 0) (ssci other : ℕ) (sci sci' : Sci) (p q : Run) → IsRunOf ssci sci p → IsRunOf other sci' q →
@@ -44,7 +38,7 @@ pub of_keys : (R : InstalledKey → InstalledKey → Type 0) (ssci other : ℕ) 
 of_keys R ssci other sci sci' p q a b holds x y there there' =
     let k = a.keys x there in
     let l = b.keys y there' in
-    subst (λ (z : InstalledKey). R z y) (sym k.1) (subst (R (key_row ssci k.0)) (sym l.1) (holds k.0 l.0))
+    rw k.1 (rw l.1 (holds k.0 l.0))
 
 pub agree : (ssci other : ℕ) (sci sci' : Sci) (p q : Run) → IsRunOf ssci sci p → IsRunOf other sci' q → AgreeOnKeys p q
 agree ssci other sci sci' p q a b = of_keys (λ x y. x.bytes ≡ y.bytes → AgreeOnKey x y) ssci other sci sci' p q a b (λ n m same. record { suite = refl; salt = λ xpn. refl })
@@ -75,17 +69,15 @@ peers_of left_out its ra past_a rb past_b =
     let a = sym (runs_of-blocks A its) in
     let b = sym (runs_of-blocks B its) in
     record {
-      a = subst (IsHistoryBut left_out) a past_a;
-      b = subst (IsHistoryBut left_out) b past_b;
-      agree = subst (λ (rs : List Run). All (λ run. All (AgreeAtBothBut left_out run) (runs_of B (blocks its))) rs) a
-          (subst (λ (rs : List Run). All (λ run. All (AgreeAtBothBut left_out run) rs) (of_end A its)) b
-          (All-weaker (IsRunOf 1 sci_a) (λ run. All (AgreeAtBothBut left_out run) (of_end B its))
+      a = rw a at past_a;
+      b = rw b at past_b;
+      agree = rw (← a) (rw b at (All-weaker (IsRunOf 1 sci_a) (λ run. All (AgreeAtBothBut left_out run) (of_end B its))
           (λ run it. All-weaker (IsRunOf 2 sci_b) (AgreeAtBothBut left_out run)
           (λ other it'. keys_but HasOneSuite HasOneSalt left_out run other (agree 1 2 sci_a sci_b run other it it')) (of_end B its) rb) (of_end A its) ra));
-      one_a = subst (AllPairs (IsSameEndBut left_out)) a
-          (pairs_of_all (IsRunOf 1 sci_a) (IsSameEndBut left_out) (λ p q x y. same_end_but left_out p q (same_runs 1 sci_a p q x y)) (of_end A its) ra);
-      one_b = subst (AllPairs (IsSameEndBut left_out)) b
-          (pairs_of_all (IsRunOf 2 sci_b) (IsSameEndBut left_out) (λ p q x y. same_end_but left_out p q (same_runs 2 sci_b p q x y)) (of_end B its) rb);
+      one_a = rw a at (pairs_of_all (IsRunOf 1 sci_a) (IsSameEndBut left_out) (λ p q x y. same_end_but left_out p q
+          (same_runs 1 sci_a p q x y)) (of_end A its) ra);
+      one_b = rw b at (pairs_of_all (IsRunOf 2 sci_b) (IsSameEndBut left_out) (λ p q x y. same_end_but left_out p q
+          (same_runs 2 sci_b p q x y)) (of_end B its) rb);
     }
 
 pub peers : (left_out : Premise) (its : List EndRun) → All (IsRunOf 1 sci_a) (of_end A its) → AllPairs SameSalt (of_end A its) → AllPairs KeepsDurable (of_end A its) →
@@ -108,20 +100,19 @@ pub one_run_each : (left_out : Premise) (a b : Run) → (StaysSoundAlways ≢ le
 one_run_each left_out a b sound sound' agree' =
     let its : List EndRun = (A, a) ∷ (B, b) ∷ [] in
     record {
-      a = subst (IsHistoryBut left_out) (sym (runs_of-blocks A its)) (one_history left_out a sound);
-      b = subst (IsHistoryBut left_out) (sym (runs_of-blocks B its)) (one_history left_out b sound');
+      a = rw (runs_of-blocks A its) (one_history left_out a sound);
+      b = rw (runs_of-blocks B its) (one_history left_out b sound');
       agree = subst (λ (ra : List Run). All (λ run. All (AgreeAtBothBut left_out run) (runs_of B (blocks its))) ra) (sym (runs_of-blocks A its))
-          (subst (λ (rb : List Run). All (λ run. All (AgreeAtBothBut left_out run) rb) (a ∷ [])) (sym (runs_of-blocks B its))
-          (All-cons (λ run. All (AgreeAtBothBut left_out run) (b ∷ [])) a []
+          (rw (runs_of-blocks B its) (All-cons (λ run. All (AgreeAtBothBut left_out run) (b ∷ [])) a []
           (All-cons (AgreeAtBothBut left_out a) b [] agree' (All-nil (AgreeAtBothBut left_out a)))
           (All-nil (λ run. All (AgreeAtBothBut left_out run) (b ∷ [])))));
       one_a = subst (AllPairs (IsSameEndBut left_out)) (sym (runs_of-blocks A its)) (one_alone (IsSameEndBut left_out) a);
-      one_b = subst (AllPairs (IsSameEndBut left_out)) (sym (runs_of-blocks B its)) (one_alone (IsSameEndBut left_out) b);
+      one_b = rw (runs_of-blocks B its) (one_alone (IsSameEndBut left_out) b);
     }
 
 -- the uses of the cipher belong to what was sent
 pub seals_are : (runs : List Run) (sends : List SentIn) → sent_in_all runs ≡ sends → sealed_in_all runs ≡ map seal_of_sent sends
-seals_are runs sends is = sym (seals_of_runs runs) ∙ ap (map seal_of_sent) is
+seals_are runs sends is = rw (← seals_of_runs runs, is)
 
 pub nothing_saved : (journal : List ℕ) → SavedIn journal bytes sci_a 0 []
 nothing_saved journal = All-nil (λ (d : Delivery). d.number ≤ highest (reservations journal) (receiving_name (sending_name (salt_of journal) bytes) sci_a 0))
@@ -141,9 +132,8 @@ pub meets_all : (its : List EndRun) (sends : List SentIn) (ds : List Delivery) �
 meets_all its sends ds are peers' sent delivered = record {
   orderly = each_suffices B bytes sci_a 0 [] (blocks its) (met NoPremise bytes sci_a 0 [] its are);
   are_peers = peers_suffice (blocks its) peers';
-  sends = ap (λ (rs : List Run). map numbered_sent (sent_under bytes (sent_in_all rs))) (runs_of-blocks A its) ∙ ap (λ xs. map numbered_sent (sent_under bytes xs)) sent;
-  delivers = ap (λ (rs : List Run). map numbered_delivery (delivered_at bytes sci_a 0 (delivered_in_all rs))) (runs_of-blocks B its)
-      ∙ ap (λ xs. map numbered_delivery (delivered_at bytes sci_a 0 xs)) delivered;
+  sends = rw (runs_of-blocks A its, sent);
+  delivers = rw (runs_of-blocks B its, delivered);
 }
 
 -- the history meets all premises except one, and what B delivered is no subsequence of what A sent
@@ -151,8 +141,6 @@ pub refuted : (left_out : Premise) (its : List EndRun) (sends : List SentIn) (ds
     sent_in_all (of_end A its) ≡ sends → delivered_in_all (of_end B its) ≡ ds →
     (IsSubsequence (map numbered_delivery (delivered_at bytes sci_a 0 ds)) (map numbered_sent (sent_under bytes sends)) → ⊥) → LawWithout left_out (blocks its) → ⊥
 refuted left_out its sends ds are peers' sent delivered none law =
-    none (subst (λ (xs : List Delivery). IsSubsequence (map numbered_delivery (delivered_at bytes sci_a 0 xs)) (map numbered_sent (sent_under bytes sends))) delivered
-    (subst (λ (rs : List Run). IsSubsequence (map numbered_delivery (delivered_at bytes sci_a 0 (delivered_in_all rs))) (map numbered_sent (sent_under bytes sends))) (runs_of-blocks B its)
-    (subst (λ (xs : List SentIn). IsSubsequence (map numbered_delivery (delivered_so_far B bytes sci_a 0 (blocks its))) (map numbered_sent (sent_under bytes xs))) sent
-    (subst (λ (rs : List Run). IsSubsequence (map numbered_delivery (delivered_so_far B bytes sci_a 0 (blocks its))) (map numbered_sent (sent_under bytes (sent_in_all rs)))) (runs_of-blocks A its)
-    (law B bytes sci_a 0 (met left_out bytes sci_a 0 [] its are) peers')))))
+    none (rw (← delivered) (rw (← runs_of-blocks B its)
+    (rw (← sent) (rw (runs_of-blocks A its) at (law B bytes sci_a 0 (met left_out bytes sci_a 0 [] its are)
+    peers')))))

@@ -1,26 +1,17 @@
 -- What reaches the keeping endpoints inside, where each run ends before the next one begins: the runs of the keeping
 -- endpoints.
-use Rattle.std.proofs.Common.{◌≡◌, Bool, true, false, List, [], ◌∷◌, ◌++◌, map, refl, ap, sym, ◌∙◌, append-nil, append_assoc}
-use Rattle.std.specs.Prelude.{if◌then◌else◌, option_map, Some}
-use Rattle.macsec_commands.specs.declared.event.End.{End}
-use Rattle.macsec_commands.specs.declared.event.End.TheVariants.{A, B}
-use Rattle.macsec_reserve.specs.Histories.{Run}
-use Rattle.macsec_reserve.specs.Keeping.{Keeping, KeepingInput, KeepingOutput, endpoint_input, keeping_step}
-use Rattle.macsec_secy.specs.Step.{Input, operator_command}
-use Rattle.macsec_ahead.specs.Ahead.{Ahead, Standing, ahead_after, ahead_by, ahead_step, before_this_run, begins_again, closing_with, ended_after, is_through, lets_through, not_yet, opening_with, passes, run_inside, standing, through}
-use Rattle.macsec_commands.specs.declared.command.Command.{Command}
-use Rattle.macsec_secy.specs.Commands.{effect}
-use Rattle.macsec_ahead.specs.Ends.{Ends}
-use Rattle.macsec_counterexamples.proofs.Restarts.Goes.{AreNew, carried_step, command}
-use Rattle.macsec_counterexamples.proofs.Restarts.Tables.{after_commands, first_carried, none_refused}
-use Rattle.macsec_restarts.specs.AheadRuns.{accepted_from, newly_accepted}
-use Rattle.macsec_restarts.specs.Delivered.{Delivery}
-use Rattle.macsec_restarts.specs.AheadOrder.{is_inside, reaches_inside}
-use Rattle.macsec_restarts.specs.Happenings.{Happening, begins, comes_in, last_run, passing_from, runs_of, same_end}
-use Rattle.macsec_restarts.proofs.AheadInside.{stays}
-use Rattle.macsec_restarts.proofs.AheadOrder.{closing_with-input}
-use Rattle.macsec_restarts.proofs.Examples.Blocks.{EndRun, blocks}
-use Rattle.macsec_restarts.proofs.Pushed.{last_run-push, last_run-with_last, run_with, runs_of-begins, runs_of-input, with_input}
+use Rattle.macsec_restarts.proofs.{
+  Names.{[], ◌++◌, ◌∙◌, ◌∷◌, ◌≡◌, A, accepted_from, after_commands, Ahead, ahead_after, ahead_by, ahead_step, ap},
+  Names.{append-nil, append_assoc, AreNew, B, before_this_run, begins, begins_again, Bool, carried_step, closing_with},
+  Names.{comes_in, Command, command, Delivery, effect, End, ended_after, endpoint_input, false, first_carried},
+  Names.{Happening, if◌then◌else◌, Input, is_inside, is_through, Keeping, keeping_step, KeepingInput, KeepingOutput},
+  Names.{last_run, lets_through, List, map, newly_accepted, none_refused, not_yet, opening_with, operator_command},
+  Names.{passes, passing_from, refl, Run, run_inside, runs_of, same_end, Some, Standing, standing, sym, through, true},
+  AheadInside.stays,
+  AheadOrder.closing_with-input,
+  Examples.Blocks.{EndRun, blocks},
+  Pushed.{last_run-push, last_run-with_last, run_with, runs_of-begins, runs_of-input, with_input},
+}
 
 -- ---- a run, input by input: what is let through, and the last state
 
@@ -37,25 +28,18 @@ pub passes_next : {a after last : Ahead} {input : KeepingInput} {inputs inner : 
     lets_through a input ≡ true → newly_accepted a input ≡ new → (ahead_step a input).1 ≡ after →
     Through after inputs inner ds last → Through a (input ∷ inputs) (input ∷ inner) (new ++ ds) last
 passes_next {a} {input} {inputs} {new} lets is_new is_after rest = record {
-  is = ap (λ (b : Bool). if b then input ∷ through (ahead_step a input).1 inputs
-      else through (ahead_step a input).1 inputs) lets
-      ∙ ap (λ (x : Ahead). input ∷ through x inputs) is_after ∙ ap (λ is. input ∷ is) rest.is;
-  accepts = ap (λ (xs : List Delivery). xs ++ accepted_from (ahead_step a input).1 inputs) is_new
-      ∙ ap (λ (x : Ahead). new ++ accepted_from x inputs) is_after
-      ∙ ap (λ (xs : List Delivery). new ++ xs) rest.accepts;
-  ends = ap (λ (x : Ahead). ahead_after x inputs) is_after ∙ rest.ends;
+  is = rw (lets, is_after, rest.is);
+  accepts = rw (is_new, is_after, rest.accepts);
+  ends = rw (is_after, rest.ends);
 }
 
 pub drops_next : {a last : Ahead} {input : KeepingInput} {inputs inner : List KeepingInput} {ds : List Delivery} →
     lets_through a input ≡ false → newly_accepted a input ≡ [] → Through a inputs inner ds last →
     Through a (input ∷ inputs) inner ds last
 drops_next {a} {input} {inputs} lets none rest = record {
-  is = ap (λ (b : Bool). if b then input ∷ through (ahead_step a input).1 inputs
-      else through (ahead_step a input).1 inputs) lets
-      ∙ ap (λ (x : Ahead). through x inputs) (stays a input lets) ∙ rest.is;
-  accepts = ap (λ (xs : List Delivery). xs ++ accepted_from (ahead_step a input).1 inputs) none
-      ∙ ap (λ (x : Ahead). accepted_from x inputs) (stays a input lets) ∙ rest.accepts;
-  ends = ap (λ (x : Ahead). ahead_after x inputs) (stays a input lets) ∙ rest.ends;
+  is = rw (lets, stays a input lets, rest.is);
+  accepts = rw (none, stays a input lets, rest.accepts);
+  ends = rw (stays a input lets, rest.ends);
 }
 
 -- the state after an input that is let through
@@ -94,8 +78,7 @@ commands_pass (c ∷ cs) {a} new none pass rest =
     let it = first_carried a.k.secy c cs none in
     let k = record a.k { secy = effect a.k.secy c } in
     passes_next {new = []} pass.0 refl
-    (goes_on a (operator_command c) k pass.0 (carried_step a.k c new.0 it.0)
-    ∙ ap (λ (e : Ends). record a { k = k; ended = e }) pass.1)
+    (rw (goes_on a (operator_command c) k pass.0 (carried_step a.k c new.0 it.0), pass.1))
     (commands_pass cs new.1 it.1 pass.2 rest)
 
 -- ---- a list of runs
@@ -112,14 +95,13 @@ module _ (ahead : End → Bool) where
   inputs_inside e [] before more run a last is =
       ap (λ hs. passing_from (is_inside ahead) hs more) (sym (append-nil before))
   inputs_inside e (input ∷ inputs) before more run a last is =
-      by_test (lets_through a input) (ap (reaches_inside (ahead e) input) last
-      ∙ ap (λ (x : Ahead). lets_through x input) is)
-      (inputs_inside e inputs (before ++ h ∷ []) more (with_input input run) (ahead_step a input).1
-      (ap last_run (runs_of-input e e input before (own_end e)) ∙ last_run-with_last input (runs_of e before)
-      ∙ ap (option_map (with_input input)) last)
-      (closing_with-input (ahead e) input run ∙ ap (λ (x : Ahead). (ahead_step x input).1) is)
-      ∙ ap (λ hs. map (comes_in e) (through (ahead_step a input).1 inputs) ++ passing_from (is_inside ahead) hs more)
-      (append_assoc before (h ∷ []) (map (comes_in e) inputs)))
+      by_test (lets_through a input) (rw (last, is))
+      (rw (
+        inputs_inside e inputs (before ++ h ∷ []) more (with_input input run) (ahead_step a input).1
+            (rw (runs_of-input e e input before (own_end e), last_run-with_last input (runs_of e before), last))
+            (rw (closing_with-input (ahead e) input run, is)),
+        append_assoc before (h ∷ []) (map (comes_in e) inputs),
+      ))
     where
       h : Happening
       h = comes_in e input
@@ -136,7 +118,7 @@ module _ (ahead : End → Bool) where
           map (comes_in e) (if b then input ∷ through (ahead_step a input).1 inputs
           else through (ahead_step a input).1 inputs) ++ later
       by_test true reaches rest = ap (λ (c : Bool). if c then h ∷ next else next) reaches ∙ ap (λ hs. h ∷ hs) rest
-      by_test false reaches rest = ap (λ (c : Bool). if c then h ∷ next else next) reaches ∙ rest
+      by_test false reaches rest = rw (reaches, rest)
 
   abbrev pub inside_of : EndRun → EndRun
   inside_of it = (it.0, run_inside (ahead it.0) it.1)
@@ -148,11 +130,13 @@ module _ (ahead : End → Bool) where
       let first = begins it.0 it.1.config it.1.journal in
       let new = run_with it.1.config it.1.journal [] in
       let last : last_run (runs_of it.0 (before ++ first ∷ [])) ≡ Some new =
-      ap last_run (runs_of-begins it.0 it.0 it.1.config it.1.journal before
-      ∙ ap (λ (b : Bool). runs_of it.0 before ++ (if b then new ∷ [] else [])) (own_end it.0))
-      ∙ last_run-push (runs_of it.0 before) new in
-      ap (λ hs. first ∷ hs)
-      (inputs_inside it.0 it.1.inputs (before ++ first ∷ []) (blocks more) new
+      rw (
+        (runs_of-begins it.0 it.0 it.1.config it.1.journal before
+            ∙ ap (λ (b : Bool). runs_of it.0 before ++ (if b then new ∷ [] else [])) (own_end it.0)),
+        last_run-push (runs_of
+            it.0 before) new,
+      ) in
+      rw (inputs_inside it.0 it.1.inputs (before ++ first ∷ []) (blocks more) new
       (opening_with (ahead it.0) it.1) last refl
       ∙ ap (λ hs. map (comes_in it.0) (through (opening_with (ahead it.0) it.1) it.1.inputs) ++ hs)
       (inside_blocks ((before ++ first ∷ []) ++ map (comes_in it.0) it.1.inputs) more))

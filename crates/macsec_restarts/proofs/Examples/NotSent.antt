@@ -1,47 +1,28 @@
 -- Runs that meet all premises of order and once but one, and in which B delivers a client frame that A never sent: an
 -- ICV is forged; B does not validate; B sent the frame itself, in an earlier run with another SCI.
-use Rattle.std.proofs.Common.{◌≡◌, ℕ, ◌<◌, true, false, List, [], ◌∷◌, ◌++◌, map, refl, ap, sym, subst, ◌∙◌, arith, All, AllPairs, Contains, append-nil}
-use Rattle.std.specs.Prelude.{slice_get, Some}
-use Rattle.std.proofs.lemmas.List.Elements.{All-cons, All-nil}
-use Rattle.sha2.specs.Sha256.{compress, digest_bytes, first_words, hash_after, rounds, schedule, sha256}
-use Rattle.macsec_gcm.specs.Octets.{same_octets}
-use Rattle.macsec_suite.specs.CipherUses.{CipherUse}
-use Rattle.macsec_suite.specs.Suites.{is_xpn}
-use Rattle.macsec_commands.specs.declared.command.Command.TheVariants.{Validate}
-use Rattle.macsec_commands.specs.declared.event.End.TheVariants.{A, B}
-use Rattle.macsec_commands.specs.declared.mode.Mode.TheVariants.{Disabled}
-use Rattle.macsec_rx.specs.declared.Verdict.TheVariants.{Unchecked}
-use Rattle.macsec_rx.specs.Judge.{Judgement, at_row}
-use Rattle.macsec_secy.specs.Reception.{judgement_of, state_after_receiving}
-use Rattle.macsec_secy.specs.Sound.{IsSound}
-use Rattle.macsec_secy.specs.State.{State, start}
-use Rattle.macsec_link.specs.Origin.{IsSubsequence}
-use Rattle.macsec_reserve.specs.Histories.{KeepsDurable, Run, SameSalt, opening, sealed_in_all}
-use Rattle.macsec_reserve.specs.Journal.{highest, sending_name}
-use Rattle.macsec_reserve.specs.Keeping.{Keeping, KeepingInput}
-use Rattle.macsec_reserve.proofs.HighestOf.{highest_of_one}
-use Rattle.macsec_reserve.proofs.Pairs.{no_pairs, one_alone}
-use Rattle.macsec_counterexamples.proofs.Link.Exchange.{client, key_row}
-use Rattle.macsec_counterexamples.proofs.Link.TracedSteps.{genuine_at}
-use Rattle.macsec_counterexamples.proofs.Link.WorkedEnds.{bytes, gcm_b, rx_from, sci_a, sci_b}
-use Rattle.macsec_counterexamples.proofs.Restarts.Goes.{AreNew, command, is_new}
-use Rattle.macsec_counterexamples.proofs.Restarts.Tables.{after_commands, begins_sound, commands_sound}
-use Rattle.macsec_commands.specs.declared.command.Command.{Command}
-use Rattle.macsec_counterexamples.proofs.Restarts.Journals.{journal, salt}
-use Rattle.macsec_counterexamples.proofs.Restarts.Receivers.{name_of}
-use Rattle.macsec_restarts.specs.Delivered.{Delivery, delivered_at, delivered_in_all}
-use Rattle.macsec_restarts.specs.Happenings.{runs_of}
-use Rattle.macsec_restarts.specs.Order.{SavedIn}
-use Rattle.macsec_restarts.specs.Sent.{SentIn}
-use Rattle.macsec_restarts.proofs.Examples.Blocks.{AreOwn, AreSteps, EndRun, IsStep, Told, after_own, blocks, commands_steps, commands_told, first_link, is_strict, no_step, heard_by, runs_of-blocks, step_link, told_end, told_link}
-use Rattle.macsec_restarts.proofs.Examples.Histories.{IsRunOf, agree, nothing_saved, of_keys, peers, refuted, run_told, seals_are}
-use Rattle.macsec_restarts.proofs.Examples.Premises.{AgreeAtBothBut, AgreeInRunsBut, ArePeersBut, IsHistoryBut, IsNotForged, IsSameEndBut, IsStrict, KeepsSalt, KeepsSci, KeepsSuite, LawWithout, Premise, keys_but}
+use Rattle.macsec_commands.specs.declared.{command.Command.TheVariants.Validate, mode.Mode.TheVariants.Disabled}
+use Rattle.macsec_restarts.proofs.{
+  Names.{[], ◌++◌, ◌<◌, ◌∷◌, ◌≡◌, A, after_commands, All, All-cons, All-nil, AllPairs, append-nil, AreNew, arith},
+  Names.{at_row, B, begins_sound, bytes, CipherUse, client, Command, command, commands_sound, compress, Contains},
+  Names.{delivered_in_all, digest_bytes, false, first_words, gcm_b, genuine_at, hash_after, highest, highest_of_one},
+  Names.{is_new, is_xpn, IsSound, IsSubsequence, journal, Judgement, judgement_of, Keeping, KeepingInput, KeepsDurable},
+  Names.{key_row, List, map, name_of, no_pairs, one_alone, opening, refl, Reservation, rounds, Run, runs_of, rx_from},
+  Names.{salt, same_octets, SameSalt, schedule, sci_a, sci_b, sealed_in_all, sending_name, sha256, slice_get, Some},
+  Names.{start, State, state_after_receiving, subst, sym, true, Unchecked, ℕ},
+  Examples.{
+    Blocks.{AreOwn, AreSteps, EndRun, IsStep, Told, after_own, blocks, commands_steps, commands_told, first_link},
+    Blocks.{is_strict, no_step, heard_by, runs_of-blocks, step_link, told_end, told_link},
+    Histories.{IsRunOf, agree, nothing_saved, of_keys, peers, refuted, run_told, seals_are},
+    Premises.{AgreeAtBothBut, AgreeInRunsBut, ArePeersBut, IsNotForged, IsSameEndBut, IsStrict, KeepsSalt, KeepsSci},
+    Premises.{KeepsSuite, LawWithout, Premise, keys_but},
+    Tags.octets_1,
+    TwoRunsEach.{Facts, both, facts_of, facts_a, is_durable, is_free, none_is, opens_1, pair, reads, reserved_2},
+    TwoRunsEach.{reserved_is, run_a, t, use_1},
+  },
+  SoundRuns.IsSoundRun,
+}
 use Rattle.macsec_restarts.proofs.Examples.Receivers as receiver
-use Rattle.macsec_restarts.proofs.Examples.Tags.{octets_1}
-use Rattle.macsec_restarts.proofs.SoundRuns.{IsSoundRun}
 use Rattle.macsec_restarts.proofs.Examples.Senders as sender
-use Rattle.macsec_restarts.proofs.Examples.TwoRunsEach.{Facts, both, facts_of, facts_a, is_durable, is_free, none_is, opens_1, pair, reads, reserved_2, reserved_is, run_a, t, use_1}
-use Rattle.macsec_reserve.specs.declared.reservation.Reservation.{Reservation}
 
 -- nothing is a subsequence of no frames but no frames
 pub not_of_none : (x : List ℕ) → IsSubsequence (x ∷ []) [] → ⊥
@@ -64,7 +45,7 @@ module _ (left_out : Premise) (b : Run) (last : Keeping)
       (peers left_out ((B, b) ∷ []) (All-nil (IsRunOf 1 sci_a)) (no_pairs SameSalt) (no_pairs KeepsDurable)
       (All-cons (IsRunOf 2 sci_b) b [] (run_told 2 1 sci_b b [] (receiver.delivery 1 ∷ []) last of_sci keys told)
       (All-nil (IsRunOf 2 sci_b))) (one_alone SameSalt b) (one_alone KeepsDurable b))
-      refl (ap (λ (xs : List Delivery). xs ++ []) told.delivers) (not_of_none (1 ∷ client 1))
+      refl (rw told.delivers) (not_of_none (1 ∷ client 1))
 
 -- ---- it receives the frame, whose ICV is valid
 
@@ -154,23 +135,20 @@ pub two_runs_of_b : (left_out : Premise) (s r : Run) → IsSoundRun s → IsSoun
 two_runs_of_b left_out s r sound sound' agree' salts durable same =
     let its : List EndRun = (B, s) ∷ (B, r) ∷ [] in
     record {
-      a = subst (IsHistoryBut left_out) (sym (runs_of-blocks A its))
-          (record {
-            sound = λ d. All-nil IsSoundRun;
-            agree = no_pairs (AgreeInRunsBut left_out);
-            salt = λ d. no_pairs SameSalt;
-            durable = λ d. no_pairs KeepsDurable;
-          });
-      b = subst (IsHistoryBut left_out) (sym (runs_of-blocks B its)) (record {
+      a = rw (runs_of-blocks A its) (record {
+        sound = λ d. All-nil IsSoundRun;
+        agree = no_pairs (AgreeInRunsBut left_out);
+        salt = λ d. no_pairs SameSalt;
+        durable = λ d. no_pairs KeepsDurable;
+      });
+      b = rw (runs_of-blocks B its) (record {
         sound = λ d. both IsSoundRun s r sound sound';
         agree = pair (AgreeInRunsBut left_out) s r agree';
         salt = λ d. pair SameSalt s r salts;
         durable = λ d. pair KeepsDurable s r durable;
       });
-      agree = subst (λ (ra : List Run). All (λ run. All (AgreeAtBothBut left_out run) (runs_of B (blocks its))) ra)
-          (sym (runs_of-blocks A its))
-          (All-nil (λ run. All (AgreeAtBothBut left_out run) (runs_of B (blocks its))));
-      one_a = subst (AllPairs (IsSameEndBut left_out)) (sym (runs_of-blocks A its)) (no_pairs (IsSameEndBut left_out));
+      agree = rw (runs_of-blocks A its) (All-nil (λ run. All (AgreeAtBothBut left_out run) (runs_of B (blocks its))));
+      one_a = rw (runs_of-blocks A its) (no_pairs (IsSameEndBut left_out));
       one_b = subst (AllPairs (IsSameEndBut left_out)) (sym (runs_of-blocks B its))
           (pair (IsSameEndBut left_out) s r same);
     }
@@ -180,12 +158,10 @@ two_runs_of_b left_out s r sound sound' agree' salts durable same =
 module _ (s r : Run) (sends : Facts 1 sci_a s (sender.sent false) [])
     (receives : Facts 2 sci_b r [] (receiver.delivery 1 ∷ [])) where
   sealed : Contains (sealed_in_all [] ++ sealed_in_all (s ∷ [])) use_1
-  sealed = subst (λ (us : List CipherUse). Contains us use_1)
-      (sym (seals_are (s ∷ []) (sender.sent false) (ap (λ (xs : List SentIn). xs ++ []) sends.told.sends)))
-      (0, omega arith, refl)
+  sealed = rw (seals_are (s ∷ []) (sender.sent false) (rw sends.told.sends)) (0, omega arith, refl)
 
   none_yet : delivered_in_all (s ∷ []) ≡ []
-  none_yet = ap (λ (xs : List Delivery). xs ++ []) sends.told.delivers
+  none_yet = rw sends.told.delivers
 
   reflected : AreOwn s.inputs → SameSalt s r → KeepsDurable s r →
       ((uses : List CipherUse) → Contains uses use_1 → AreSteps KeepsSci bytes sci_a 0 (opening r) [] uses r.inputs) →
@@ -194,15 +170,12 @@ module _ (s r : Run) (sends : Facts 1 sci_a s (sender.sent false) [])
       refuted KeepsSci ((B, s) ∷ (B, r) ∷ []) [] (receiver.delivery 1 ∷ []) (
         (
           (λ d. nothing_saved s.journal),
-          subst (λ (is : List KeepingInput). AreSteps KeepsSci bytes sci_a 0 (opening s) []
-              (sealed_in_all [] ++ sealed_in_all []) is) (append-nil s.inputs)
-              (after_own KeepsSci bytes sci_a 0 s.inputs [] (opening s)
+          rw (append-nil s.inputs) at (after_own KeepsSci bytes sci_a 0 s.inputs [] (opening s)
               (sealed_in_all [] ++ sealed_in_all []) own no_step),
         ),
         (
           (
-            (λ d. subst (λ (xs : List Delivery). SavedIn r.journal bytes sci_a 0 (delivered_at bytes sci_a 0 xs))
-                (sym none_yet) (nothing_saved r.journal)),
+            (λ d. rw none_yet (nothing_saved r.journal)),
             steps (sealed_in_all [] ++ sealed_in_all (s ∷ [])) sealed,
           ),
           tt,
@@ -216,8 +189,7 @@ module _ (s r : Run) (sends : Facts 1 sci_a s (sender.sent false) [])
             sends.of receives.of (λ n m same xpn. cc);
       }))
       refl
-      (ap (λ (xs : List Delivery). xs ++ delivered_in_all (r ∷ [])) sends.told.delivers
-      ∙ ap (λ (xs : List Delivery). xs ++ []) receives.told.delivers)
+      (rw (sends.told.delivers, receives.told.delivers))
       (not_of_none (1 ∷ client 1))
 
 pub names_differ : same_octets (sending_name (salt false) bytes) (name_of (salt false)) ≡ false

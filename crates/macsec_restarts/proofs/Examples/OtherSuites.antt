@@ -2,63 +2,41 @@
 -- GCM-AES-XPN-128, at the two ends, or at B in two runs. Under GCM-AES-128 a frame is sent with packet number 1, by A
 -- or by B itself. B receives it under the other suite, with the salt under which the IV of packet number 2^32 + 1 is
 -- that of the frame. So B delivers it with a packet number that A never used.
-use Rattle.std.proofs.Common.{◌≡◌, ℕ, zero, suc, ◌<◌, ◌+◌, Bool, true, false, List, [], ◌∷◌, ◌++◌, map, take, refl, ap, sym, subst, ◌∙◌, arith, Contains, append-nil}
-use Rattle.std.specs.Prelude.{◌^◌, ◌*◌, replicate, slice_get, if◌then◌else◌, Some, None, IfSome}
-use Rattle.std.proofs.lemmas.List.Elements.{All-append}
-use Rattle.macsec_aes.specs.Aes.{add_round_key, added_word, aes, after_rounds, key_expansion, key_words, mix_columns, rot_word, round_key, shift_rows}
-use Rattle.macsec_aes.specs.Aes.{sub_bytes, sub_word, sum_of_words}
-use Rattle.macsec_aes.specs.Field.{affine_transformation, byte_product, inverse, polynomial_product, remainder, s_box, sum_below}
-use Rattle.macsec_gcm.specs.Gcm.{open_of, pre_counter_block}
-use Rattle.macsec_gcm.specs.Octets.{sum_with_stream}
-use Rattle.macsec_tag.specs.Laws.{AreOctets}
-use Rattle.macsec_tag.specs.Table.{parts_at}
-use Rattle.macsec_suite.specs.CipherUses.{CipherUse, cipher_use}
-use Rattle.macsec_suite.specs.KeyRows.{InstalledKey}
-use Rattle.macsec_suite.specs.Suites.{is_xpn, iv_of}
-use Rattle.macsec_suite.specs.declared.suite.Suite.TheVariants.{Gcm128, Xpn128}
-use Rattle.macsec_commands.specs.declared.command.Command.TheVariants.{Key, RxOn, RxSa, RxSc, TxOn, TxSa}
-use Rattle.macsec_commands.specs.declared.config.EndConfig.{EndConfig}
-use Rattle.macsec_commands.specs.declared.event.End.{End}
-use Rattle.macsec_commands.specs.declared.event.End.TheVariants.{A, B}
+use Rattle.macsec_suite.specs.declared.suite.Suite.TheVariants.{Gcm128}
+use Rattle.macsec_counterexamples.proofs.Link.WorkedEnds.{xpn_b}
+use Rattle.macsec_restarts.proofs.{
+  Names.{[], ◌*◌, ◌++◌, ◌+◌, ◌<◌, ◌^◌, ◌∙◌, ◌∷◌, ◌≡◌, A, aad, aad_sent, add_round_key, added_word, aes},
+  Names.{affine_transformation, after_commands, after_rounds, All-append, all_fit, ap, append-nil, are_small, AreNew},
+  Names.{AreOctets, arith, at_row, B, begins_sound, byte_product, bytes, cipher_use, CipherUse, client, client_frame},
+  Names.{closing, Command, command, commands_sound, Contains, delivered_in_all, Delivery, End, EndConfig},
+  Names.{endpoint_input, false, frame_fault, frame_step, frame_with, genuine_at, highest, IfSome, installed_key},
+  Names.{InstalledKey, inverse, is_new, is_within, is_xpn, IsSound, IsSubsequence, items, iv, iv_of, journal},
+  Names.{Judgement, judgement_of, Keeping, keeping_step, KeepingInput, KeepsDurable, kept, Key, key_expansion, key_row},
+  Names.{key_words, link_frame, List, map, may_go, may_send, mix_columns, name_of, new_key, newly_delivered},
+  Names.{newly_sent, no_salt, no_tx_counters, None, none_refused, only, open_of, opening, opens, parts_with, Passed},
+  Names.{polynomial_product, pre_counter_block, raised_alone, refl, remainder, replicate, Reservation, rot_word},
+  Names.{round_key, row_at, Run, rx_from, RxOn, RxSa, RxSc, s_box, salt, SameSalt, sci_a, sci_b, Sealed, sealed},
+  Names.{sealed_in_all, sending_name, sent_in_all, sent_sound, SentIn, shift_rows, slice_get, small, Some, start},
+  Names.{State, state_after_receiving, sub_bytes, sub_word, suc, sum_below, sum_of_words, sum_with_stream, sym},
+  Names.{tables_fit, tag_of, tag_sent, take, true, tx_from, tx_options, TxOn, TxOptions, TxRow, TxSa, use_opened},
+  Names.{use_sent, with_tag, Xpn128, zero},
+  Names.ℕ,
+  Examples.{
+    Blocks.{AreOwn, AreSteps, Told, after_own, blocks, no_step, step_next, told_end, told_next, commands_steps},
+    Blocks.{commands_told, first_link, gives_by, is_strict, link_step_by, heard_by},
+    Histories.{nothing_saved, one_run_each, refuted, seals_are},
+    NotSent.{not_of_none, two_runs_of_b},
+    Premises.{AgreeAtBothBut, AgreeInRunsBut, AgreeOnKeyBut, HasOneSuite, HasStrictOrderBut, KeepsSalt, KeepsSuite},
+    Premises.{LawWithout, Premise},
+    Tags.{octets_1, small_at, tag_is},
+    TwoRunsEach.{Facts, at_most, facts_a, is_durable, is_free, none_is, opens_1, reads, reserved_2, reserved_is, run_a},
+    TwoRunsEach.{t, use_1},
+  },
+}
 use Rattle.macsec_commands.specs.declared.form.TagForm.TheVariants as form
-use Rattle.macsec_tx.specs.Transmit.{tag_sent, use_sent}
-use Rattle.macsec_tx.specs.declared.TxOptions.{TxOptions}
-use Rattle.macsec_tx.specs.declared.TxRow.{TxRow}
-use Rattle.macsec_rx.specs.declared.Verdict.TheVariants.{Passed}
-use Rattle.macsec_rx.specs.Judge.{Judgement, at_row, judge_opened}
-use Rattle.macsec_secy.specs.Reception.{judgement_of, state_after_receiving}
-use Rattle.macsec_secy.specs.Sound.{IsSound}
-use Rattle.macsec_secy.specs.State.{State, no_tx_counters, rx_options, start, tx_options}
-use Rattle.macsec_secy.specs.Step.{client_frame, frame_fault, link_frame, sending_of}
-use Rattle.macsec_link.specs.Genuine.{use_opened}
-use Rattle.macsec_link.specs.Origin.{IsSubsequence}
-use Rattle.macsec_reserve.specs.declared.reservation.Reservation.{Reservation}
-use Rattle.macsec_reserve.specs.Histories.{KeepsDurable, Run, SameSalt, closing, opening, sealed_in_all}
-use Rattle.macsec_reserve.specs.Journal.{highest, sending_name}
-use Rattle.macsec_reserve.specs.Keeping.{Keeping, KeepingInput, endpoint_input, keeping_step, may_go}
-use Rattle.macsec_counterexamples.proofs.Link.Exchange.{client, iv, aad, key_row}
-use Rattle.macsec_counterexamples.proofs.Link.SealedFrames.{Sealed, aad_sent, frame_with, items, opens, parts_with, sealed, tag_of, with_tag}
-use Rattle.macsec_counterexamples.proofs.Link.TracedSteps.{genuine_at}
-use Rattle.macsec_counterexamples.proofs.Link.WorkedEnds.{bytes, installed_key, new_key, no_salt, only, rx_from, sci_a, sci_b, tx_from, xpn_b}
-use Rattle.macsec_counterexamples.proofs.Restarts.Goes.{command, frame_step, is_new, AreNew, is_within, may_send, raised_alone}
-use Rattle.macsec_counterexamples.proofs.Restarts.Journals.{journal, salt}
-use Rattle.macsec_counterexamples.proofs.Restarts.Receivers.{name_of}
-use Rattle.macsec_counterexamples.proofs.Restarts.Senders.{kept, row_at}
-use Rattle.macsec_restarts.specs.Delivered.{Delivery, delivered_at, delivered_in_all, newly_delivered}
-use Rattle.macsec_restarts.specs.Order.{SavedIn}
-use Rattle.macsec_restarts.specs.Sent.{SentIn, newly_sent, sent_by, sent_in_all}
-use Rattle.macsec_restarts.proofs.Examples.Blocks.{AreOwn, AreSteps, Told, after_own, blocks, no_step, step_next, told_end, told_next, commands_steps, commands_told, first_link, gives_by, is_strict, link_step_by, heard_by}
 use Rattle.macsec_restarts.proofs.Examples.Extended as extended
-use Rattle.macsec_restarts.proofs.Examples.Histories.{nothing_saved, one_run_each, refuted, seals_are}
-use Rattle.macsec_restarts.proofs.Examples.NotSent.{not_of_none, two_runs_of_b}
-use Rattle.macsec_restarts.proofs.Examples.Premises.{AgreeAtBothBut, AgreeInRunsBut, AgreeOnKeyBut, HasOneSalt, HasOneSuite, HasStrictOrderBut, KeepsSalt, KeepsSuite, LawWithout, Premise}
 use Rattle.macsec_restarts.proofs.Examples.Receivers as receiver
 use Rattle.macsec_restarts.proofs.Examples.Senders as sender
-use Rattle.macsec_restarts.proofs.Examples.Tags.{octets_1, small_at, tag_is}
-use Rattle.macsec_counterexamples.proofs.Restarts.Tables.{are_small, small}
-use Rattle.macsec_restarts.proofs.Examples.TwoRunsEach.{Facts, at_most, facts_a, is_durable, is_free, none_is, opens_1, reads, reserved_2, reserved_is, run_a, t, use_1}
-use Rattle.macsec_counterexamples.proofs.Restarts.Tables.{after_commands, all_fit, begins_sound, commands_sound, none_refused, sent_sound, tables_fit}
-use Rattle.macsec_commands.specs.declared.command.Command.{Command}
 
 -- ---- the frame that B sends under GCM-AES-128, with packet number 1
 
@@ -104,8 +82,8 @@ own_front = take 22 (own_frame [])
 own_octets : AreOctets (own_frame own_icv)
 own_octets =
     All-append (λ x. x < 256) own_front (items 16 own_icv) (small own_front refl)
-    (subst AreOctets (ap (λ (it : Sealed). it.1) (sealed bytes own_iv own_aad))
-    (tag_is bytes own_iv own_aad (small_at (aes bytes (pre_counter_block own_iv)) own_block)))
+    (rw (sealed bytes own_iv own_aad) at (tag_is bytes own_iv own_aad (small_at (aes bytes (pre_counter_block own_iv))
+    own_block)))
 
 -- ---- the run of B that sends it
 
@@ -146,22 +124,17 @@ abbrev own_last : Keeping
 own_last = extended.tx_at (reserved_2 ∷ []) (own_state 2 (row_at 2 true ∷ []) 1)
 
 own_reserves : (keeping_step own_created extended.report_in).1 ≡ own_reserved
-own_reserves =
-    ap (λ (r : Reservation). extended.tx_at (r ∷ []) (own_state 1 (row_at 1 true ∷ []) 0))
-    (raised_alone extended.tx_name 2)
+own_reserves = rw (raised_alone extended.tx_name 2)
 
 own_goes : may_go own_reserved (client_frame (client 1)) ≡ true
 own_goes = may_send own_reserved (client 1) 1 refl
     (is_within (reads []) extended.tx_name 1 2 extended.name_free (omega arith))
 
 own_seals : use_sent own_options (key_row 2 1) (row_at 1 true) (client 1) ≡ own_use
-own_seals = ap own_use_with (sealed bytes own_iv own_aad)
+own_seals = rw (sealed bytes own_iv own_aad)
 
 own_lists : newly_sent own_reserved extended.frame_in ≡ sent_own ∷ []
-own_lists =
-    ap (λ (b : Bool). if b then sent_by own_reserved.secy (client 1) (frame_fault (client 1))
-    (sending_of own_reserved.secy (client 1)).by else []) own_goes
-    ∙ ap (λ (seal : CipherUse). record { seal = seal; number = 1; frame = client 1 } ∷ []) own_seals
+own_lists = rw (own_goes, own_seals)
 
 told_own : Told (opening first_run) own_sends (sent_own ∷ []) [] own_last
 told_own =
@@ -217,8 +190,8 @@ iv_is B = refl
 
 opens_b : (e : End) → open_of bytes (iv_of Xpn128 sci_a 1 (key_salt e) number) (sent_aad e) [] (items 16 (sent_icv e)) ≡
     Some []
-opens_b A = ap (λ (i : List ℕ). open_of bytes i (aad 1 (client 1)) [] (items 16 t)) (iv_is A) ∙ opens_1
-opens_b B = ap (λ (i : List ℕ). open_of bytes i own_aad [] (items 16 own_icv)) (iv_is B) ∙ opens_own
+opens_b A = rw (iv_is A, opens_1)
+opens_b B = rw (iv_is B, opens_own)
 
 -- ---- the run of B that receives it
 
@@ -238,8 +211,8 @@ abbrev accepts : Judgement
 accepts = at_row (rx_from lowest) number 13 Passed (Some (client 1))
 
 judged : (e : End) → judgement_of (ready e) (f e) ≡ accepts
-judged A = ap (judge_opened (rx_options (ready A)) (key_b A) (rx_from lowest) number (parts_at (f A))) (opens_b A)
-judged B = ap (judge_opened (rx_options (ready B)) (key_b B) (rx_from lowest) number (parts_at (f B))) (opens_b B)
+judged A = rw (opens_b A)
+judged B = rw (opens_b B)
 
 abbrev heard : End → State
 heard e = state_after_receiving (ready e) (f e) accepts
@@ -314,16 +287,15 @@ told_b B = told_link_of B
 genuine : (e : End) (uses : List CipherUse) → Contains uses (sent_use e) →
     IfSome (use_opened (ready e) (f e)) (Contains uses)
 genuine A uses there = genuine_at (ready A) (f A) accepts uses (judged A)
-    (subst (λ (i : List ℕ). Contains uses (record use_1 { iv = i })) (sym (iv_is A)) there)
+    (rw (iv_is A) there)
 genuine B uses there = genuine_at (ready B) (f B) accepts uses (judged B)
-    (subst (λ (i : List ℕ). Contains uses (record own_use { iv = i })) (sym (iv_is B)) there)
+    (rw (iv_is B) there)
 
 steps_b : (left_out : Premise) (e : End) → opening (run_b e) ≡ at e (start xpn_b) → (uses : List CipherUse) →
     Contains uses (sent_use e) →
     AreSteps left_out bytes sci_a 0 (opening (run_b e)) [] uses (commands e ++ link e ∷ [])
 steps_b left_out e opened uses there =
-    subst (λ (k : Keeping). AreSteps left_out bytes sci_a 0 k [] uses (commands e ++ link e ∷ [])) (sym opened)
-    (commands_steps left_out bytes sci_a 0 (set_up e) (are_new e) (works e).none
+    rw opened (commands_steps left_out bytes sci_a 0 (set_up e) (are_new e) (works e).none
     (step_next (first_link (λ d. genuine e uses there) (octets e) (works e).strict) (hears e) (gives e) no_step))
 
 -- ---- one run of each end
@@ -342,23 +314,19 @@ not_of_two m n k x y z first second it = by_places it.0 it.2
 module _ (a b : Run) (sends : Facts 1 sci_a a (sender.sent false) []) (last : Keeping)
     (told : Told (opening b) b.inputs [] (delivery ∷ []) last) (keys : last.secy.keys ≡ key_b A ∷ []) where
   keys_at_b : (y : InstalledKey) → Contains (closing b).secy.keys y → key_b A ≡ y
-  keys_at_b y there = only (key_b A) y (subst (λ (ks : List InstalledKey). Contains ks y)
-      (ap (λ (k : Keeping). k.secy.keys) told.ends ∙ keys) there)
+  keys_at_b y there = only (key_b A) y (rw (ap (λ (k : Keeping). k.secy.keys) told.ends ∙ keys) at there)
 
   -- A's key has 32-bit packet numbers, so nothing is asked of the salts
   agree_at_both : AgreeAtBothBut HasOneSuite a b
   agree_at_both = λ x y here there same.
       let k = sends.of.keys x here in
-      subst (λ (z : InstalledKey). AgreeOnKeyBut HasOneSuite HasOneSalt HasOneSuite x z) (keys_at_b y there)
-      (subst (λ (z : InstalledKey). AgreeOnKeyBut HasOneSuite HasOneSalt HasOneSuite z (key_b A)) (sym k.1)
-      (record { suite = λ d. absurd (d refl); salt = λ d xpn. cc }))
+      rw (← keys_at_b y there) (rw k.1 (record { suite = λ d. absurd (d refl); salt = λ d xpn. cc }))
 
   sent_is : sent_in_all (a ∷ []) ≡ sender.sent false
-  sent_is = ap (λ (xs : List SentIn). xs ++ []) sends.told.sends
+  sent_is = rw sends.told.sends
 
   sealed_a : Contains (sealed_in_all (a ∷ []) ++ []) use_1
-  sealed_a = subst (λ (us : List CipherUse). Contains (us ++ []) use_1)
-      (sym (seals_are (a ∷ []) (sender.sent false) sent_is)) (0, omega arith, refl)
+  sealed_a = rw (seals_are (a ∷ []) (sender.sent false) sent_is) (0, omega arith, refl)
 
   widened : AreOwn a.inputs → ((uses : List CipherUse) → Contains uses use_1 →
       AreSteps HasOneSuite bytes sci_a 0 (opening b) [] uses b.inputs) →
@@ -367,7 +335,7 @@ module _ (a b : Run) (sends : Facts 1 sci_a a (sender.sent false) []) (last : Ke
       refuted HasOneSuite ((A, a) ∷ (B, b) ∷ []) (sender.sent false) (delivery ∷ [])
       (own, (((λ d. nothing_saved b.journal), steps (sealed_in_all (a ∷ []) ++ []) sealed_a), tt))
       (one_run_each HasOneSuite a b (λ d. sends.of.sound) (λ d. told.sound) agree_at_both)
-      sent_is (ap (λ (xs : List Delivery). xs ++ []) told.delivers)
+      sent_is (rw told.delivers)
       (not_of_two (2 ^ 32 + 1) 1 2 (client 1) (client 1) (client 1) (λ same. omega (arith, same))
       (λ same. omega (arith, same)))
 
@@ -381,10 +349,10 @@ module _ (s r : Run) (first last : Keeping) (sends : Told (opening s) s.inputs (
     (receives : Told (opening r) r.inputs [] (delivery ∷ []) last)
     (keys_first : first.secy.keys ≡ key_row 2 2 ∷ []) (keys_last : last.secy.keys ≡ key_b B ∷ []) where
   keys_s : (closing s).secy.keys ≡ key_row 2 2 ∷ []
-  keys_s = ap (λ (k : Keeping). k.secy.keys) sends.ends ∙ keys_first
+  keys_s = rw (sends.ends, keys_first)
 
   keys_r : (closing r).secy.keys ≡ key_b B ∷ []
-  keys_r = ap (λ (k : Keeping). k.secy.keys) receives.ends ∙ keys_last
+  keys_r = rw (receives.ends, keys_last)
 
   -- the first key has 32-bit packet numbers, so nothing is asked of the salts
   agree_in_runs : AgreeInRunsBut KeepsSuite s r
@@ -394,12 +362,10 @@ module _ (s r : Run) (first last : Keeping) (sends : Told (opening s) s.inputs (
       (λ same. record { suite = λ d. absurd (d refl); salt = λ d xpn. cc })
 
   sealed_s : Contains (sealed_in_all [] ++ sealed_in_all (s ∷ [])) own_use
-  sealed_s = subst (λ (us : List CipherUse). Contains us own_use)
-      (sym (seals_are (s ∷ []) (sent_own ∷ []) (ap (λ (xs : List SentIn). xs ++ []) sends.sends)))
-      (0, omega arith, refl)
+  sealed_s = rw (seals_are (s ∷ []) (sent_own ∷ []) (rw sends.sends)) (0, omega arith, refl)
 
   none_yet : delivered_in_all (s ∷ []) ≡ []
-  none_yet = ap (λ (xs : List Delivery). xs ++ []) sends.delivers
+  none_yet = rw sends.delivers
 
   reflected : AreOwn s.inputs → s.config.sci ≡ r.config.sci → SameSalt s r → KeepsDurable s r →
       ((uses : List CipherUse) → Contains uses own_use →
@@ -409,15 +375,12 @@ module _ (s r : Run) (first last : Keeping) (sends : Told (opening s) s.inputs (
       refuted KeepsSuite ((B, s) ∷ (B, r) ∷ []) [] (delivery ∷ []) (
         (
           (λ d. nothing_saved s.journal),
-          subst (λ (is : List KeepingInput). AreSteps KeepsSuite bytes sci_a 0 (opening s) []
-              (sealed_in_all [] ++ sealed_in_all []) is) (append-nil s.inputs)
-              (after_own KeepsSuite bytes sci_a 0 s.inputs [] (opening s)
+          rw (append-nil s.inputs) at (after_own KeepsSuite bytes sci_a 0 s.inputs [] (opening s)
               (sealed_in_all [] ++ sealed_in_all []) own no_step),
         ),
         (
           (
-            (λ d. subst (λ (xs : List Delivery). SavedIn r.journal bytes sci_a 0 (delivered_at bytes sci_a 0 xs))
-                (sym none_yet) (nothing_saved r.journal)),
+            (λ d. rw none_yet (nothing_saved r.journal)),
             steps (sealed_in_all [] ++ sealed_in_all (s ∷ [])) sealed_s,
           ),
           tt,
@@ -429,8 +392,7 @@ module _ (s r : Run) (first last : Keeping) (sends : Told (opening s) s.inputs (
             (key_row 2 2) (key_b B) keys_s keys_r (λ same xpn. refl);
       }))
       refl
-      (ap (λ (xs : List Delivery). xs ++ delivered_in_all (r ∷ [])) sends.delivers
-      ∙ ap (λ (xs : List Delivery). xs ++ []) receives.delivers)
+      (rw (sends.delivers, receives.delivers))
       (not_of_none (number ∷ client 1))
 
 pub kept_suite_needed : LawWithout KeepsSuite (blocks ((B, first_run) ∷ (B, run_b B) ∷ [])) → ⊥

@@ -1,20 +1,11 @@
 -- The premises of order and once, with names, and the promise without one of them.
-use Rattle.std.proofs.Common.{◌≡◌, ◌≢◌, ℕ, List, [], ◌∷◌, ◌++◌, get_or, true, AllPairs, All, Contains}
-use Rattle.std.proofs.lemmas.List.Elements.{All-weaker}
-use Rattle.std.specs.Prelude.{IfSome, Option, Some, None}
-use Rattle.macsec_tag.specs.declared.identifiers.Sci.{Sci}
-use Rattle.macsec_suite.specs.KeyRows.{InstalledKey}
-use Rattle.macsec_suite.specs.Suites.{is_xpn}
-use Rattle.macsec_commands.specs.declared.event.End.{End}
-use Rattle.macsec_commands.specs.declared.event.End.TheVariants.{A, B}
-use Rattle.macsec_commands.specs.declared.mode.Mode.TheVariants.{Strict}
-use Rattle.macsec_secy.specs.State.{State}
-use Rattle.macsec_reserve.specs.Histories.{AgreeOnKeys, IsHistory, KeepsDurable, Run, SameSalt, StaysSound, closing, opening}
-use Rattle.macsec_reserve.specs.Keeping.{KeepingInput, keeping_step}
-use Rattle.macsec_restarts.specs.Delivered.{Delivery, delivered_at, newly_delivered}
-use Rattle.macsec_restarts.specs.Happenings.{AtEach, Happening, begins, comes_in, last_run, runs_of, same_end}
-use Rattle.macsec_restarts.specs.Order.{ComesInOrder, CreatesAbove, IsOrderedAt, IsOrderedInput, IsOrderly, SavedIn, delivered_in, delivered_so_far}
-use Rattle.macsec_restarts.specs.Peers.{ArePeers, HasOctets, IsGenuineAt, IsSameEnd}
+use Rattle.macsec_restarts.proofs.Names.{[], ◌++◌, ◌∷◌, ◌≡◌, ◌≢◌, A, AgreeOnKeys, All, All-weaker, AllPairs, ArePeers}
+use Rattle.macsec_restarts.proofs.Names.{AtEach, B, begins, closing, comes_in, ComesInOrder, Contains, CreatesAbove}
+use Rattle.macsec_restarts.proofs.Names.{delivered_at, delivered_in, delivered_so_far, Delivery, End, get_or, Happening}
+use Rattle.macsec_restarts.proofs.Names.{HasOctets, IfSome, InstalledKey, is_xpn, IsGenuineAt, IsHistory, IsOrderedAt}
+use Rattle.macsec_restarts.proofs.Names.{IsOrderedInput, IsOrderly, IsSameEnd, keeping_step, KeepingInput, KeepsDurable}
+use Rattle.macsec_restarts.proofs.Names.{last_run, List, newly_delivered, None, opening, Option, Run, runs_of, same_end}
+use Rattle.macsec_restarts.proofs.Names.{SameSalt, SavedIn, Sci, Some, State, StaysSound, Strict, true, ℕ}
 
 pub data Premise : Type 0 where
   IsSaved : Premise

@@ -1,30 +1,14 @@
 -- The runs of an end that receives: the commands, and the states that frames leave. The cipher is not computed: all
 -- that is known of a frame's ICV is that it is valid.
-use Rattle.std.proofs.Common.{◌≡◌, ℕ, ◌<◌, Bool, true, false, List, [], ◌∷◌, ◌++◌, refl, ap}
-use Rattle.std.specs.Prelude.{Some, None}
-use Rattle.macsec_tag.specs.Table.{parts_at}
-use Rattle.macsec_commands.specs.declared.command.Command.TheVariants.{Key, RxOn, RxSa, RxSc}
-use Rattle.macsec_rx.specs.declared.Verdict.TheVariants.{Late, Passed}
-use Rattle.macsec_rx.specs.Judge.{Judgement, at_row, judge_opened}
-use Rattle.macsec_secy.specs.Reception.{judgement_of, state_after_receiving}
-use Rattle.macsec_secy.specs.Sound.{IsSound}
-use Rattle.macsec_secy.specs.State.{State, rx_options, start}
-use Rattle.macsec_secy.specs.Step.{link_frame}
-use Rattle.macsec_reserve.specs.declared.reservation.Reservation.{Reservation}
-use Rattle.macsec_reserve.specs.Journal.{highest}
-use Rattle.macsec_reserve.specs.Keeping.{Keeping, KeepingInput, endpoint_input}
-use Rattle.macsec_counterexamples.proofs.Link.Exchange.{Opens, client, key_row, link_frame_of}
-use Rattle.macsec_counterexamples.proofs.Link.WorkedEnds.{bytes, gcm_b, new_key, no_salt, rx_from, sci_a}
-use Rattle.macsec_counterexamples.proofs.Restarts.Goes.{AreNew, command, is_new}
-use Rattle.macsec_counterexamples.proofs.Restarts.Receivers.{name_of}
-use Rattle.macsec_counterexamples.proofs.Restarts.Senders.{kept}
-use Rattle.macsec_restarts.specs.Delivered.{Delivery, delivered_by, newly_delivered}
-use Rattle.std.specs.Prelude.{map}
-use Rattle.macsec_suite.specs.CipherUses.{CipherUse}
-use Rattle.macsec_commands.specs.declared.command.Command.{Command}
-use Rattle.macsec_counterexamples.proofs.Restarts.Tables.{after_commands, all_fit, begins_sound, commands_sound, none_refused}
-use Rattle.macsec_restarts.proofs.Examples.Blocks.{AreSteps, Told, commands_steps, commands_told, heard_by}
-use Rattle.macsec_restarts.proofs.Examples.Premises.{Premise}
+use Rattle.macsec_counterexamples.proofs.Link.Exchange.{link_frame_of}
+use Rattle.macsec_restarts.proofs.{
+  Names.{[], ◌++◌, ◌<◌, ◌∷◌, ◌≡◌, after_commands, all_fit, AreNew, at_row, begins_sound, Bool, bytes, CipherUse},
+  Names.{client, Command, command, commands_sound, delivered_by, Delivery, endpoint_input, false, gcm_b, highest},
+  Names.{is_new, IsSound, Judgement, judgement_of, Keeping, KeepingInput, kept, Key, Late, link_frame, List, map},
+  Names.{name_of, new_key, newly_delivered, no_salt, None, none_refused, Opens, Passed, refl, Reservation, rx_from},
+  Names.{RxOn, RxSa, RxSc, sci_a, Some, start, State, state_after_receiving, true, ℕ},
+  Examples.{Blocks.{AreSteps, Told, commands_steps, commands_told, heard_by}, Premises.Premise},
+}
 
 -- the frame that the other end sealed with this packet number, with this tag
 abbrev pub frame : ℕ → List ℕ → List ℕ
@@ -74,7 +58,7 @@ abbrev pub accepts_1 : Judgement
 accepts_1 = at_row (rx_from 1) 1 13 Passed (Some (client 1))
 
 pub judged_1 : (t : List ℕ) → Opens 1 t → judgement_of (ready false) (frame 1 t) ≡ accepts_1
-judged_1 t is = ap (judge_opened (rx_options (ready false)) (key_row 2 1) (rx_from 1) 1 (parts_at (frame 1 t))) is
+judged_1 t is = rw is
 
 abbrev pub heard_1 : List ℕ → State
 heard_1 t = state_after_receiving (ready false) (frame 1 t) accepts_1
@@ -110,7 +94,7 @@ abbrev pub accepts_3 : Judgement
 accepts_3 = at_row (rx_from 2) 3 13 Passed (Some (client 3))
 
 pub judged_3 : (t u : List ℕ) → Opens 3 u → judgement_of (dropped_2 t) (frame 3 u) ≡ accepts_3
-judged_3 t u is = ap (judge_opened (rx_options (dropped_2 t)) (key_row 2 1) (rx_from 2) 3 (parts_at (frame 3 u))) is
+judged_3 t u is = rw is
 
 abbrev pub heard_3 : List ℕ → List ℕ → State
 heard_3 t u = state_after_receiving (dropped_2 t) (frame 3 u) accepts_3
@@ -122,7 +106,7 @@ heard_3_sound t u is = heard_by (frame 3 u) refl (judged_3 t u is) refl (dropped
 
 pub delivers : (k : Keeping) (number : ℕ) (t : List ℕ) (j : Judgement) → judgement_of k.secy (frame number t) ≡ j →
     newly_delivered k (link number t) ≡ delivered_by k.secy j None j.row j.delivered
-delivers k number t j is = ap (λ (x : Judgement). delivered_by k.secy x None x.row x.delivered) is
+delivers k number t j is = rw is
 
 -- ---- its steps, with any journal that has not saved the packet numbers
 

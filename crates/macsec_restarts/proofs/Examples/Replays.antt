@@ -1,47 +1,27 @@
 -- Runs that meet all premises of order and once except one, and in which B delivers a client frame twice: its journal
 -- has not saved the packet number; the SA is created again at it; the replay window is 1; late frames are not dropped.
-use Rattle.std.proofs.Common.{◌≡◌, ℕ, ◌<◌, zero, suc, true, false, List, [], ◌∷◌, ◌++◌, map, refl, ap, sym, subst, ◌∙◌, arith, Contains}
-use Rattle.std.specs.Prelude.{slice_get, Some, None, IfSome}
-use Rattle.std.proofs.lemmas.List.Elements.{All-cons, All-nil}
-use Rattle.std.specs.List.Sorted.{IsStrictlyIncreasing}
-use Rattle.macsec_suite.specs.CipherUses.{CipherUse}
-use Rattle.macsec_tag.specs.Table.{parts_at}
-use Rattle.macsec_commands.specs.declared.command.Command.{Command}
-use Rattle.macsec_commands.specs.declared.command.Command.TheVariants.{Replay, RxDel, RxOn, RxSa}
-use Rattle.macsec_commands.specs.declared.event.End.TheVariants.{A, B}
-use Rattle.macsec_rx.specs.declared.RxRow.{RxRow}
-use Rattle.macsec_rx.specs.declared.Verdict.TheVariants.{Delayed, Passed}
-use Rattle.macsec_rx.specs.Judge.{Judgement, at_row, judge_opened}
-use Rattle.macsec_rx.specs.Channels.{rx_row}
-use Rattle.macsec_secy.specs.Commands.{effect}
-use Rattle.macsec_secy.specs.Reception.{judgement_of, state_after_receiving}
-use Rattle.macsec_secy.specs.Sound.{IsSound}
-use Rattle.macsec_secy.specs.State.{State, rx_options, start}
-use Rattle.macsec_link.specs.Genuine.{use_opened}
-use Rattle.macsec_link.specs.Origin.{IsSubsequence}
-use Rattle.macsec_link.proofs.Members.{member}
-use Rattle.macsec_reserve.specs.Histories.{KeepsDurable, Run, SameSalt, opening, sealed_in_all}
-use Rattle.macsec_reserve.specs.Journal.{highest}
-use Rattle.macsec_reserve.specs.Keeping.{Keeping, KeepingInput, keeping_step, begins_at, was_reserved}
-use Rattle.macsec_reserve.proofs.Pairs.{one_alone}
-use Rattle.macsec_counterexamples.proofs.Link.Exchange.{client, key_row}
-use Rattle.macsec_counterexamples.proofs.Link.TracedSteps.{genuine_at}
-use Rattle.macsec_counterexamples.proofs.Link.WorkedEnds.{bytes, gcm_b, rx_from, sci_a, sci_b}
-use Rattle.macsec_counterexamples.proofs.Restarts.Goes.{AreNew, carried_step, command, is_new}
-use Rattle.macsec_counterexamples.proofs.Restarts.Tables.{after_commands, all_fit, begins_sound, commands_sound, none_refused, tables_fit}
-use Rattle.macsec_counterexamples.proofs.Restarts.Journals.{journal, salt}
-use Rattle.macsec_counterexamples.proofs.Restarts.Receivers.{name_of}
-use Rattle.macsec_restarts.specs.Delivered.{Delivery, delivered_in_all, newly_delivered}
-use Rattle.macsec_restarts.specs.Order.{IsUnder}
-use Rattle.macsec_restarts.specs.Sent.{SentIn, sent_in_all}
-use Rattle.macsec_restarts.proofs.Examples.Blocks.{AreOwn, AreSteps, IsStep, Told, blocks, commands_steps, commands_told, first_link, gives_by, is_strict, link_step_by, no_step, heard_by, step_link, step_next, told_end, told_link, told_next}
-use Rattle.macsec_restarts.proofs.Examples.Histories.{IsRunOf, nothing_saved, peers, refuted, seals_are}
-use Rattle.macsec_restarts.proofs.Examples.NotSent.{accepts_now, plain, plain_told}
-use Rattle.macsec_restarts.proofs.Examples.Premises.{DropsLate, HasStrictOrderBut, HasWindowOf0, IsCreatedAbove, IsSaved, LawWithout, Premise}
+use Rattle.macsec_reserve.specs.Keeping.{begins_at}
+use Rattle.macsec_restarts.proofs.{
+  Names.{[], ◌++◌, ◌<◌, ◌∙◌, ◌∷◌, ◌≡◌, A, after_commands, All-cons, All-nil, all_fit, ap, AreNew, arith, at_row, B},
+  Names.{begins_sound, bytes, carried_step, CipherUse, client, Command, command, commands_sound, Contains, Delayed},
+  Names.{delivered_in_all, Delivery, effect, false, gcm_b, genuine_at, highest, IfSome, is_new, IsSound},
+  Names.{IsStrictlyIncreasing, IsSubsequence, IsUnder, journal, Judgement, judgement_of, Keeping, keeping_step},
+  Names.{KeepingInput, KeepsDurable, key_row, List, map, member, name_of, newly_delivered, None, none_refused},
+  Names.{one_alone, opening, Passed, refl, Replay, Run, rx_from, rx_row, RxDel, RxOn, RxRow, RxSa, salt, SameSalt},
+  Names.{sci_a, sci_b, sealed_in_all, sent_in_all, slice_get, Some, start, State, state_after_receiving, suc},
+  Names.{tables_fit, true, use_opened, zero, ℕ},
+  Examples.{
+    Blocks.{AreOwn, AreSteps, IsStep, Told, blocks, commands_steps, commands_told, first_link, gives_by, is_strict},
+    Blocks.{link_step_by, no_step, heard_by, step_link, step_next, told_end, told_link, told_next},
+    Histories.{IsRunOf, nothing_saved, peers, refuted, seals_are},
+    NotSent.{accepts_now, plain, plain_told},
+    Premises.{DropsLate, HasStrictOrderBut, HasWindowOf0, IsCreatedAbove, IsSaved, LawWithout, Premise},
+    Tags.octets_1,
+    TwoRunsEach.{Facts, both, facts_a, facts_of, is_free, none_is, opens_1, pair, reads, run_a, t, use_1},
+  },
+}
 use Rattle.macsec_restarts.proofs.Examples.Receivers as receiver
 use Rattle.macsec_restarts.proofs.Examples.Senders as sender
-use Rattle.macsec_restarts.proofs.Examples.Tags.{octets_1}
-use Rattle.macsec_restarts.proofs.Examples.TwoRunsEach.{Facts, both, facts_a, facts_of, is_free, none_is, opens_1, pair, reads, run_a, t, use_1}
 
 -- ---- a frame twice is no subsequence of frames with different packet numbers
 
@@ -76,11 +56,10 @@ twice_1 = receiver.delivery 1 ∷ receiver.delivery 1 ∷ []
 module _ (left_out : Premise) (a b : Run) (sends : Facts 1 sci_a a (sender.sent false) [])
     (receives : Facts 2 sci_b b [] (twice_1)) where
   sent_is : sent_in_all (a ∷ []) ≡ sender.sent false
-  sent_is = ap (λ (xs : List SentIn). xs ++ []) sends.told.sends
+  sent_is = rw sends.told.sends
 
   sealed : Contains (sealed_in_all (a ∷ []) ++ sealed_in_all []) use_1
-  sealed = subst (λ (us : List CipherUse). Contains (us ++ []) use_1)
-      (sym (seals_are (a ∷ []) (sender.sent false) sent_is)) (0, omega arith, refl)
+  sealed = rw (seals_are (a ∷ []) (sender.sent false) sent_is) (0, omega arith, refl)
 
   twice : AreOwn a.inputs → ((uses : List CipherUse) → Contains uses use_1 →
       AreSteps left_out bytes sci_a 0 (opening b) [] uses b.inputs) →
@@ -92,7 +71,7 @@ module _ (left_out : Premise) (a b : Run) (sends : Facts 1 sci_a a (sender.sent 
       (one_alone SameSalt a) (one_alone KeepsDurable a)
       (All-cons (IsRunOf 2 sci_b) b [] receives.of (All-nil (IsRunOf 2 sci_b))) (one_alone SameSalt b)
       (one_alone KeepsDurable b))
-      sent_is (ap (λ (xs : List Delivery). xs ++ []) receives.told.delivers) not_twice
+      sent_is (rw receives.told.delivers) not_twice
 
 abbrev own_a : AreOwn (run_a false).inputs
 own_a = (tt, (tt, (tt, (tt, (tt, (tt, tt))))))
@@ -141,15 +120,15 @@ judged_as Wide = at_row (row_of Wide) 1 13 Passed (Some (client 1))
 judged_as Off = at_row (row_of Off) 1 13 Delayed (Some (client 1))
 
 first_judged : (k : Kind) → judgement_of (set k) f ≡ receiver.accepts_1
-first_judged Wide = ap (judge_opened (rx_options (set Wide)) (key_row 2 1) (rx_from 1) 1 (parts_at f)) opens_1
-first_judged Off = ap (judge_opened (rx_options (set Off)) (key_row 2 1) (rx_from 1) 1 (parts_at f)) opens_1
+first_judged Wide = rw opens_1
+first_judged Off = rw opens_1
 
 abbrev once : Kind → State
 once k = state_after_receiving (set k) f receiver.accepts_1
 
 second_judged : (k : Kind) → judgement_of (once k) f ≡ judged_as k
-second_judged Wide = ap (judge_opened (rx_options (once Wide)) (key_row 2 1) (row_of Wide) 1 (parts_at f)) opens_1
-second_judged Off = ap (judge_opened (rx_options (once Off)) (key_row 2 1) (row_of Off) 1 (parts_at f)) opens_1
+second_judged Wide = rw opens_1
+second_judged Off = rw opens_1
 
 abbrev again : Kind → State
 again k = state_after_receiving (once k) f (judged_as k)
@@ -177,7 +156,7 @@ new_if c is = (
     refl,
     (
       is_new (reads []) (name_of (salt false)) 1 free_b,
-      (refl, (ap (was_reserved (reads [])) (is (salt false) (receiver.ready false)), tt)),
+      (refl, (rw (is (salt false) (receiver.ready false)), tt)),
     ),
   ),
 )
@@ -269,7 +248,7 @@ abbrev enabled : State
 enabled = after_commands (receiver.heard_1 t) cs
 
 enabled_judged : judgement_of enabled f ≡ receiver.accepts_1
-enabled_judged = ap (judge_opened (rx_options enabled) (key_row 2 1) (rx_from 1) 1 (parts_at f)) opens_1
+enabled_judged = rw opens_1
 
 abbrev creates_again : List KeepingInput
 creates_again = map command cs
@@ -327,11 +306,10 @@ creation_above_needed = twice IsCreatedAbove (run_a false) begun (facts_a false)
 
 module _ (a b : Run) (sends : Facts 1 sci_a a (sender.sent false) []) (receives : Facts 2 sci_b b [] d1) where
   sent_so : sent_in_all (a ∷ []) ≡ sender.sent false
-  sent_so = ap (λ (xs : List SentIn). xs ++ []) sends.told.sends
+  sent_so = rw sends.told.sends
 
   among : (us : List CipherUse) → Contains (sealed_in_all (a ∷ []) ++ us) use_1
-  among us = subst (λ (vs : List CipherUse). Contains (vs ++ us) use_1)
-      (sym (seals_are (a ∷ []) (sender.sent false) sent_so)) (0, omega arith, refl)
+  among us = rw (seals_are (a ∷ []) (sender.sent false) sent_so) (0, omega arith, refl)
 
   crashed : AreOwn a.inputs → KeepsDurable b b →
       ((uses : List CipherUse) → Contains uses use_1 → AreSteps IsSaved bytes sci_a 0 (opening b) [] uses b.inputs) →

@@ -2,54 +2,35 @@
 -- number (PN) is not reserved; once a record is durable it delivers it, and drops its replay as late. Then it deletes
 -- the SA, and refuses to create it again at the same PN. Then both restart. B drops the first frame again, and delivers
 -- one with PN 3.
-use Rattle.std.proofs.Common.{◌≡◌, ◌≢◌, get_or, ℕ, ◌<◌, ◌≤◌, Bool, true, false, List, [], ◌∷◌, ◌++◌, map, refl, ap, sym, subst, ◌∙◌, arith, Contains}
-use Rattle.std.specs.Prelude.{◌==◌, max, nat_le, if◌then◌else◌, Option, Some, None, IfSome}
-use Rattle.std.proofs.lemmas.Bool.{lt-leb}
-use Rattle.macsec_suite.specs.CipherUses.{CipherUse}
 use Rattle.macsec_suite.specs.declared.refusal.Refusal.TheVariants.{PnFloor}
-use Rattle.macsec_commands.specs.declared.command.Command.TheVariants.{RxDel, RxSa}
-use Rattle.macsec_commands.specs.declared.event.End.{End}
-use Rattle.macsec_commands.specs.declared.event.End.TheVariants.{A, B}
-use Rattle.macsec_rx.specs.Judge.{Judgement}
-use Rattle.macsec_secy.specs.Commands.{effect}
-use Rattle.macsec_secy.specs.Sound.{IsSound}
-use Rattle.macsec_secy.specs.State.{State, start}
-use Rattle.macsec_secy.specs.Step.{link_frame, operator_command, refused, step}
-use Rattle.macsec_reserve.specs.declared.reservation.Reservation.{Reservation}
-use Rattle.macsec_reserve.specs.Entries.{raised_by}
-use Rattle.macsec_reserve.specs.Histories.{KeepsDurable, Run, SameSalt, closing, opening}
-use Rattle.macsec_reserve.specs.Journal.{highest}
-use Rattle.macsec_reserve.specs.Keeping.{Keeping, KeepingInput, endpoint_output, for_each_key, keeping_step, now_durable}
-use Rattle.macsec_reserve.proofs.Written.{same_octets-refl}
-use Rattle.macsec_counterexamples.proofs.Link.Exchange.{client, key_row}
-use Rattle.macsec_counterexamples.proofs.Link.TracedSteps.{genuine_at}
-use Rattle.macsec_counterexamples.proofs.Link.WorkedEnds.{bytes, gcm_b, rx_from, sci_a, sci_b}
-use Rattle.macsec_counterexamples.proofs.Restarts.Goes.{carried_step, command, raised_alone}
-use Rattle.macsec_counterexamples.proofs.Restarts.Tables.{commands_sound}
-use Rattle.macsec_counterexamples.proofs.Restarts.Journals.{journal, salt}
-use Rattle.macsec_counterexamples.proofs.Restarts.Receivers.{name_of}
-use Rattle.macsec_counterexamples.proofs.Restarts.Senders.{kept}
-use Rattle.macsec_rx.specs.declared.within.RxPn.{RxPn}
-use Rattle.macsec_ahead.specs.declared.ends.EndedSa.{EndedSa}
-use Rattle.macsec_ahead.specs.Ends.{no_ends}
-use Rattle.macsec_ahead.specs.Ahead.{Ahead, ahead_by, ahead_step, before_this_run, dropped_not_reserved, is_through, kept as an_output, lets_through, not_yet, passes, run_inside, standing_by, wanted_to_accept}
-use Rattle.macsec_restarts.specs.AheadOrder.{IsOrderlyInside, IsStrictInput, delivered_so_far_with, inside}
-use Rattle.macsec_restarts.specs.AheadRuns.{AreOfOneSa, accepted_in, is_valid, newly_accepted, newly_delivered_with, sent_in_all_with}
-use Rattle.macsec_restarts.specs.Delivered.{Delivery, delivered_at, delivered_in_all, newly_delivered}
-use Rattle.macsec_restarts.specs.Happenings.{AtEach, Happening, begins, comes_in, last_run, runs_of}
-use Rattle.macsec_restarts.specs.Order.{IsOrderedInput, IsOrderly, numbered_delivery, numbered_sent}
-use Rattle.macsec_restarts.specs.Peers.{ArePeers}
-use Rattle.macsec_restarts.specs.Sent.{SentIn, sent_in_all, sent_under}
-use Rattle.macsec_restarts.proofs.AheadAccepts.{accepts_above_in_all}
-use Rattle.macsec_restarts.proofs.AheadInside.{delivered_in_all_inside, sent_in_all_inside}
-use Rattle.macsec_restarts.proofs.AheadOrder.{runs_inside}
-use Rattle.macsec_restarts.proofs.Examples.Blocks.{AreSteps, EndRun, Told, blocks, first_link, gives_by, is_strict, link_step_by, no_step, own_step, step_link, step_next, told_end, told_link, told_next}
-use Rattle.macsec_restarts.proofs.Examples.Histories.{MeetsAll}
-use Rattle.macsec_restarts.proofs.Examples.InsideBlocks.{Through, commands_pass, drops_next, goes_on, inside_blocks, passes_next, through_end}
-use Rattle.macsec_restarts.proofs.Examples.Premises.{NoPremise}
+use Rattle.macsec_reserve.specs.Keeping.{for_each_key}
+use Rattle.macsec_ahead.specs.Ahead.{kept as an_output, wanted_to_accept}
+use Rattle.macsec_restarts.proofs.{
+  Names.{[], ◌++◌, ◌<◌, ◌==◌, ◌∙◌, ◌∷◌, ◌≡◌, ◌≢◌, ◌≤◌, A, accepted_in, Ahead, ahead_step, ap, AreOfOneSa, ArePeers},
+  Names.{arith, AtEach, B, begins, Bool, bytes, carried_step, CipherUse, client, closing, comes_in, command},
+  Names.{commands_sound, Contains, delivered_in_all, delivered_so_far_with, Delivery, dropped_not_reserved, effect},
+  Names.{End, EndedSa, endpoint_output, false, gcm_b, genuine_at, get_or, Happening, highest, IfSome, inside, is_valid},
+  Names.{IsOrderedInput, IsOrderly, IsOrderlyInside, IsSound, IsStrictInput, journal, Judgement, Keeping, keeping_step},
+  Names.{KeepingInput, KeepsDurable, kept, key_row, last_run, lets_through, link_frame, List, lt-leb, map, max},
+  Names.{name_of, nat_le, newly_accepted, newly_delivered, no_ends, None, not_yet, now_durable, numbered_delivery},
+  Names.{numbered_sent, opening, operator_command, Option, passes, raised_alone, raised_by, refl, refused, Reservation},
+  Names.{Run, run_inside, runs_of, rx_from, RxDel, RxPn, RxSa, salt, same_octets-refl, SameSalt, sci_a, sci_b},
+  Names.{sent_in_all, sent_in_all_with, sent_under, Some, standing_by, start, State, step, subst, sym, true, ℕ},
+  AheadAccepts.accepts_above_in_all,
+  AheadInside.{delivered_in_all_inside, sent_in_all_inside},
+  AheadOrder.runs_inside,
+  Examples.{
+    Blocks.{AreSteps, EndRun, Told, blocks, first_link, gives_by, is_strict, link_step_by, no_step, own_step},
+    Blocks.{step_link, step_next, told_end, told_link, told_next},
+    Histories.MeetsAll,
+    InsideBlocks.{Through, commands_pass, drops_next, goes_on, inside_blocks, passes_next, through_end},
+    Premises.NoPremise,
+    Tags.{octets_1, octets_3},
+    TwoRunsEach.{Facts, facts_of, at_most, facts_a, is_durable, is_free, is_saved, meets, none_is, opens_1, opens_3},
+    TwoRunsEach.{pair, reads, reserved_2, reserved_is, run_a, saved_1, saved_is, t, u, use_1, use_3},
+  },
+}
 use Rattle.macsec_restarts.proofs.Examples.Receivers as receiver
-use Rattle.macsec_restarts.proofs.Examples.Tags.{octets_1, octets_3}
-use Rattle.macsec_restarts.proofs.Examples.TwoRunsEach.{Facts, facts_of, at_most, facts_a, is_durable, is_free, is_saved, meets, none_is, opens_1, opens_3, pair, reads, reserved_2, reserved_is, run_a, saved_1, saved_is, t, u, use_1, use_3}
 
 -- ---- the receiver's states
 
@@ -241,59 +222,39 @@ old_is again number least = let less = free again in
 
 new_is : (number last : ℕ) → nat_le number (max last 0) ≡ true →
     nat_le number (highest (record { name = name; last = last } ∷ []) name) ≡ true
-new_is number last is = ap (λ (same : Bool). nat_le number (if same then max last 0 else 0)) (same_octets-refl name)
-    ∙ is
+new_is number last is = rw (same_octets-refl name, is)
 
 -- before anything is reserved
 not_reserved : standing_by (a_at false [] [] [] (receiver.ready false)) receiver.accepts_1 None (Some (rx_from 1)) ≡
     not_yet (own_row 1)
-not_reserved = ap (λ (old : Bool). if old then before_this_run (own_row 1) else not_yet (own_row 1))
-    (old_is false 1 (omega arith))
+not_reserved = rw (old_is false 1 (omega arith))
 
 drops_1 : lets_through (a_at false [] [] [] (receiver.ready false)) link_1 ≡ false
-drops_1 =
-    ap (λ (j : Judgement). is_through false (standing_by (a_at false [] [] [] (receiver.ready false)) j None j.row))
-    (receiver.judged_1 t opens_1) ∙ ap (is_through false) not_reserved
+drops_1 = rw (receiver.judged_1 t opens_1, not_reserved)
 
 -- once it is
 reserved_1 : standing_by (a_at false (granted_after saved_1) (saved_1 ∷ []) [] (receiver.ready false))
     receiver.accepts_1 None (Some (rx_from 1)) ≡ passes
-reserved_1 =
-    ap (λ (old : Bool). if old then before_this_run (own_row 1)
-    else if nat_le 1 (highest (saved_1 ∷ []) name) then passes else not_yet (own_row 1)) (old_is false 1 (omega arith))
-    ∙ ap (λ (new : Bool). if new then passes else not_yet (own_row 1)) (new_is 1 1 refl)
+reserved_1 = rw (old_is false 1 (omega arith), new_is 1 1 refl)
 
 passes_1 : lets_through (a_at false (granted_after saved_1) (saved_1 ∷ []) [] (receiver.ready false)) link_1 ≡ true
-passes_1 =
-    ap (λ (j : Judgement). is_through false (standing_by
-    (a_at false (granted_after saved_1) (saved_1 ∷ []) [] (receiver.ready false)) j None j.row))
-    (receiver.judged_1 t opens_1)
-    ∙ ap (is_through false) reserved_1
+passes_1 = rw (receiver.judged_1 t opens_1, reserved_1)
 
 reserved_3 : standing_by (a_at true (granted_after saved_3) (saved_3 ∷ []) [] (receiver.dropped_2 t)) receiver.accepts_3
     None (Some (rx_from 2)) ≡ passes
-reserved_3 =
-    ap (λ (old : Bool). if old then before_this_run (own_row 3)
-    else if nat_le 3 (highest (saved_3 ∷ []) name) then passes else not_yet (own_row 3)) (old_is true 3 (omega arith))
-    ∙ ap (λ (new : Bool). if new then passes else not_yet (own_row 3)) (new_is 3 3 refl)
+reserved_3 = rw (old_is true 3 (omega arith), new_is 3 3 refl)
 
 passes_3 : lets_through (a_at true (granted_after saved_3) (saved_3 ∷ []) [] (receiver.dropped_2 t)) link_3 ≡ true
-passes_3 =
-    ap (λ (j : Judgement). is_through false (standing_by
-    (a_at true (granted_after saved_3) (saved_3 ∷ []) [] (receiver.dropped_2 t)) j None j.row))
-    (receiver.judged_3 t u opens_3)
-    ∙ ap (is_through false) reserved_3
+passes_3 = rw (receiver.judged_3 t u opens_3, reserved_3)
 
 -- a report: the SA's entry is raised
 reports_at_1 : (ahead_step (a_at false [] [] [] (receiver.ready false)) (now_durable saved_1)).1 ≡
     a_at false (granted_after saved_1) (saved_1 ∷ []) [] (receiver.ready false)
-reports_at_1 = ap (λ (r : Reservation). a_at false (granted_after saved_1) (r ∷ []) [] (receiver.ready false))
-    (raised_alone name 1)
+reports_at_1 = rw (raised_alone name 1)
 
 reports_at_3 : (ahead_step (a_at true [] [] [] (receiver.dropped_2 t)) (now_durable saved_3)).1 ≡
     a_at true (granted_after saved_3) (saved_3 ∷ []) [] (receiver.dropped_2 t)
-reports_at_3 = ap (λ (r : Reservation). a_at true (granted_after saved_3) (r ∷ []) [] (receiver.dropped_2 t))
-    (raised_alone name 3)
+reports_at_3 = rw (raised_alone name 3)
 
 -- where the SA ended
 abbrev end_1 : EndedSa
@@ -308,18 +269,14 @@ last_a true = a_at true (granted_after saved_3) (saved_3 ∷ []) [] (receiver.he
 -- a valid frame that passes, one that does not, and one that is not valid
 valid_passes : (a : Ahead) (input : KeepingInput) (new : List Delivery) → is_valid a.k.secy input ≡ true →
     lets_through a input ≡ true → newly_delivered a.k input ≡ new → newly_accepted a input ≡ new
-valid_passes a input new valid lets is =
-    ap (λ (b : Bool). if b then newly_delivered_with a input else []) valid
-    ∙ ap (λ (b : Bool). if b then newly_delivered a.k input else []) lets ∙ is
+valid_passes a input new valid lets is = rw (valid, lets, is)
 
 valid_drops : (a : Ahead) (input : KeepingInput) → is_valid a.k.secy input ≡ true → lets_through a input ≡ false →
     newly_accepted a input ≡ []
-valid_drops a input valid lets =
-    ap (λ (b : Bool). if b then newly_delivered_with a input else []) valid
-    ∙ ap (λ (b : Bool). if b then newly_delivered a.k input else []) lets
+valid_drops a input valid lets = rw (valid, lets)
 
 not_valid : (a : Ahead) (input : KeepingInput) → is_valid a.k.secy input ≡ false → newly_accepted a input ≡ []
-not_valid a input is = ap (λ (b : Bool). if b then newly_delivered_with a input else []) is
+not_valid a input is = rw is
 
 abbrev number_13 : Judgement → Bool
 number_13 j = j.step == 13
@@ -348,7 +305,7 @@ frames_through true =
     (goes_on a1 (link_frame f1) (k_at true [] (receiver.dropped_2 t)) refl hears_again)
     (passes_next {new = []} refl refl reports_at_3
     (passes_next passes_3 (valid_passes a3 link_3 (receiver.delivery 3 ∷ [])
-    (ap number_13 (receiver.judged_3 t u opens_3)) passes_3
+    (rw (receiver.judged_3 t u opens_3)) passes_3
     (gives_by a3.k f3 receiver.accepts_3 refl (receiver.judged_3 t u opens_3)))
     (goes_on a3 (link_frame f3) (k_3 (receiver.heard_3 t u)) passes_3 hears_3) (through_end (last_a true))))
 
@@ -369,8 +326,8 @@ all_accepted false = (all_through false).accepts
 all_accepted true = (all_through true).accepts
 
 inside_b : (again : Bool) → run_inside true (run_b again) ≡ inner_b again
-inside_b false = ap (λ (is : List KeepingInput). record (run_b false) { inputs = is }) (all_through false).is
-inside_b true = ap (λ (is : List KeepingInput). record (run_b true) { inputs = is }) (all_through true).is
+inside_b false = rw ((all_through false).is)
+inside_b true = rw ((all_through true).is)
 
 -- ---- all of it
 
@@ -418,17 +375,19 @@ pub two_runs_ahead : MeetsAllAhead both_ahead runs all_sent all_delivered
 two_runs_ahead = record {
   orderly = subst (AtEach (IsOrderlyInside true B bytes sci_a 0) []) (sym these_inside)
       (orderly_inside [] (blocks inner_runs) inner_meets.orderly);
-  are_peers = subst ArePeers (sym these_inside) inner_meets.are_peers;
-  sends = ap (λ (xs : List SentIn). map numbered_sent (sent_under bytes xs))
-      (sym (sent_in_all_inside true (runs_of A (blocks runs)))
-      ∙ ap sent_in_all (sym (runs_inside both_ahead A (blocks runs)))
-      ∙ ap (λ hs. sent_in_all (runs_of A hs)) these_inside)
-      ∙ inner_meets.sends;
-  delivers = ap (λ (ds : List Delivery). map numbered_delivery (delivered_at bytes sci_a 0 ds))
-      (sym (delivered_in_all_inside true (runs_of B (blocks runs)))
-      ∙ ap delivered_in_all (sym (runs_inside both_ahead B (blocks runs)))
-      ∙ ap (λ hs. delivered_in_all (runs_of B hs)) these_inside)
-      ∙ inner_meets.delivers;
+  are_peers = rw these_inside inner_meets.are_peers;
+  sends = rw (
+    (sym (sent_in_all_inside true (runs_of A (blocks runs)))
+        ∙ ap sent_in_all (sym (runs_inside both_ahead A (blocks runs)))
+        ∙ ap (λ hs. sent_in_all (runs_of A hs)) these_inside),
+    inner_meets.sends,
+  );
+  delivers = rw (
+    (sym (delivered_in_all_inside true (runs_of B (blocks runs)))
+        ∙ ap delivered_in_all (sym (runs_inside both_ahead B (blocks runs)))
+        ∙ ap (λ hs. delivered_in_all (runs_of B hs)) these_inside),
+    inner_meets.delivers,
+  );
 }
 
 -- ---- what it answers
@@ -437,9 +396,7 @@ two_runs_ahead = record {
 pub first_answer : (ahead_step (a_at false [] [] [] (receiver.ready false)) link_1).0 ≡ dropped_not_reserved (own_row 1)
 first_answer =
     let a = a_at false [] [] [] (receiver.ready false) in
-    ap (λ (j : Judgement). (ahead_by false (standing_by a j None j.row) a (link_frame (receiver.frame 1 t))
-    (keeping_step a.k link_1)).0) (receiver.judged_1 t opens_1)
-    ∙ ap (λ it. (ahead_by false it a (link_frame (receiver.frame 1 t)) (keeping_step a.k link_1)).0) not_reserved
+    rw (receiver.judged_1 t opens_1, not_reserved)
 
 pub first_wanted : wanted_to_accept (a_at false [] [] [] (receiver.ready false)) 0 1 (rx_from 1) ≡ Some saved_1
 first_wanted = refl
@@ -473,8 +430,6 @@ accepts_two =
       one_sa = one_sa;
       above = accepts_above_in_all (run_b false ∷ run_b true ∷ []) (pair SameSalt (run_b false) (run_b true) refl)
           (pair KeepsDurable (run_b false) (run_b true) durable) 0 1 (run_b false) (omega arith) (omega arith)
-          (receiver.delivery 1) (receiver.delivery 3) (subst (λ (ds : List Delivery). Contains ds (receiver.delivery 1))
-          (sym (all_accepted false)) (0, omega arith, refl))
-          (subst (λ (ds : List Delivery). Contains ds (receiver.delivery 3)) (sym (all_accepted true))
-          (0, omega arith, refl)) one_sa;
+          (receiver.delivery 1) (receiver.delivery 3) (rw (all_accepted false) (0, omega arith, refl))
+          (rw (all_accepted true) (0, omega arith, refl)) one_sa;
     }

@@ -1,47 +1,28 @@
 -- Runs that meet all premises of order and once except one about the journal. A's first run uses packet number 3. Its
 -- second run does not read what was reported to the first, or reads another salt, and uses packet numbers 1 and 2. B
 -- delivers the frames in the order of packet numbers, and so not in the order of sending.
-use Rattle.std.proofs.Common.{◌≡◌, ◌≢◌, ℕ, ◌<◌, zero, suc, true, false, List, [], ◌∷◌, ◌++◌, map, refl, ap, sym, subst, ◌∙◌, arith, All, Contains}
-use Rattle.std.specs.Prelude.{slice_get, Some}
-use Rattle.std.proofs.lemmas.List.Elements.{All-cons, All-nil}
-use Rattle.std.specs.List.Sorted.{IsStrictlyIncreasing}
-use Rattle.sha2.proofs.Facts256.{length-sha256}
-use Rattle.sha2.specs.Sha256.{compress, digest_bytes, first_words, hash_after, rounds, schedule, sha256}
-use Rattle.macsec_gcm.specs.Octets.{same_octets}
-use Rattle.macsec_suite.specs.CipherUses.{CipherUse}
-use Rattle.macsec_tag.specs.Table.{parts_at}
-use Rattle.macsec_commands.specs.declared.event.End.TheVariants.{A, B}
-use Rattle.macsec_rx.specs.Judge.{judge_opened}
-use Rattle.macsec_secy.specs.Reception.{judgement_of, state_after_receiving}
-use Rattle.macsec_secy.specs.Sound.{IsSound}
-use Rattle.macsec_secy.specs.State.{State, rx_options}
-use Rattle.macsec_link.specs.Origin.{IsSubsequence}
-use Rattle.macsec_reserve.specs.declared.reservation.Reservation.{Reservation}
-use Rattle.macsec_reserve.specs.Crashes.{IsReservation}
-use Rattle.macsec_reserve.specs.Entries.{reduced}
-use Rattle.macsec_reserve.specs.Histories.{KeepsDurable, Run, SameSalt, opening, sealed_in_all}
-use Rattle.macsec_reserve.specs.Journal.{highest, reservations, sending_name}
-use Rattle.macsec_reserve.specs.Keeping.{Keeping, KeepingInput}
-use Rattle.macsec_reserve.proofs.HighestOf.{highest_of_one}
-use Rattle.macsec_reserve.proofs.Pairs.{one_alone}
-use Rattle.macsec_reserve.proofs.Reduced.{reduced_reserves}
-use Rattle.macsec_counterexamples.proofs.Link.Exchange.{client, key_row}
-use Rattle.macsec_counterexamples.proofs.Link.TracedSteps.{genuine_at}
-use Rattle.macsec_counterexamples.proofs.Link.WorkedEnds.{bytes, gcm_a, gcm_b, rx_from, sci_a, sci_b}
-use Rattle.macsec_counterexamples.proofs.Restarts.Journals.{journal, salt, says}
-use Rattle.macsec_counterexamples.proofs.Restarts.Receivers.{name_of}
-use Rattle.macsec_counterexamples.proofs.Restarts.Senders.{kept}
-use Rattle.macsec_restarts.specs.Delivered.{Delivery}
-use Rattle.macsec_restarts.specs.Sent.{SentIn, sent_in_all}
-use Rattle.macsec_restarts.proofs.SoundRuns.{IsSoundRun}
-use Rattle.macsec_restarts.proofs.Examples.Blocks.{AreOwn, AreSteps, Told, blocks, is_strict, no_step, heard_by, step_link, told_end, told_link}
-use Rattle.macsec_restarts.proofs.Examples.NotSent.{accepts_now}
-use Rattle.macsec_restarts.proofs.Examples.Histories.{IsRunOf, agree, history, nothing_saved, peers_of, refuted, seals_are}
-use Rattle.macsec_restarts.proofs.Examples.Premises.{AgreeInRunsBut, KeepsSalt, KeepsSuite, LawWithout, Premise, ReadsDurable, ReadsSalt, history_but, keys_but}
+use Rattle.macsec_restarts.proofs.{
+  Names.{[], ◌++◌, ◌<◌, ◌∷◌, ◌≡◌, ◌≢◌, A, All, All-cons, All-nil, arith, B, bytes, CipherUse, client, compress},
+  Names.{Contains, digest_bytes, false, first_words, gcm_a, gcm_b, genuine_at, hash_after, highest, highest_of_one},
+  Names.{IsReservation, IsSound, IsStrictlyIncreasing, IsSubsequence, journal, judgement_of, Keeping, KeepingInput},
+  Names.{KeepsDurable, kept, length-sha256, List, map, name_of, one_alone, opening, reduced, reduced_reserves, refl},
+  Names.{Reservation, reservations, rounds, Run, rx_from, salt, same_octets, SameSalt, says, schedule, sci_a, sci_b},
+  Names.{sealed_in_all, sending_name, sent_in_all, sha256, slice_get, Some, State, state_after_receiving, suc, true},
+  Names.{zero, ℕ},
+  Examples.{
+    Blocks.{AreOwn, AreSteps, Told, blocks, is_strict, no_step, heard_by, step_link, told_end, told_link},
+    Histories.{IsRunOf, agree, history, nothing_saved, peers_of, refuted, seals_are},
+    NotSent.accepts_now,
+    Premises.{AgreeInRunsBut, KeepsSalt, KeepsSuite, LawWithout, Premise, ReadsDurable, ReadsSalt, history_but},
+    Premises.keys_but,
+    Tags.octets_3,
+    TwoRunsEach.{Facts, both, facts_a, facts_of, is_free, none_is, one_is, opens_1, opens_3, pair, reads, run_a, t, u},
+    TwoRunsEach.{use_1, use_3},
+  },
+  SoundRuns.IsSoundRun,
+}
 use Rattle.macsec_restarts.proofs.Examples.Receivers as receiver
 use Rattle.macsec_restarts.proofs.Examples.Senders as sender
-use Rattle.macsec_restarts.proofs.Examples.Tags.{octets_3}
-use Rattle.macsec_restarts.proofs.Examples.TwoRunsEach.{Facts, both, facts_a, facts_of, is_free, none_is, one_is, opens_1, opens_3, pair, reads, run_a, t, u, use_1, use_3}
 
 -- ---- what is delivered in another order is no subsequence
 
@@ -75,16 +56,13 @@ module _ (left_out : Premise) (a a' b : Run) (first : Facts 1 sci_a a (sender.se
     (second : Facts 1 sci_a a' (sender.sent false) [])
     (heard : Facts 2 sci_b b [] (receiver.delivery 1 ∷ receiver.delivery 3 ∷ [])) where
   sent_both : sent_in_all (a ∷ a' ∷ []) ≡ sender.sent true ++ sender.sent false
-  sent_both = ap (λ (xs : List SentIn). xs ++ sent_in_all (a' ∷ [])) first.told.sends
-      ∙ ap (λ (xs : List SentIn). sender.sent true ++ (xs ++ [])) second.told.sends
+  sent_both = rw (first.told.sends, second.told.sends)
 
   sealed_1 : Contains (sealed_in_all (a ∷ a' ∷ []) ++ []) use_1
-  sealed_1 = subst (λ (us : List CipherUse). Contains (us ++ []) use_1)
-      (sym (seals_are (a ∷ a' ∷ []) (sender.sent true ++ sender.sent false) sent_both)) (1, omega arith, refl)
+  sealed_1 = rw (seals_are (a ∷ a' ∷ []) (sender.sent true ++ sender.sent false) sent_both) (1, omega arith, refl)
 
   sealed_3 : Contains (sealed_in_all (a ∷ a' ∷ []) ++ []) use_3
-  sealed_3 = subst (λ (us : List CipherUse). Contains (us ++ []) use_3)
-      (sym (seals_are (a ∷ a' ∷ []) (sender.sent true ++ sender.sent false) sent_both)) (0, omega arith, refl)
+  sealed_3 = rw (seals_are (a ∷ a' ∷ []) (sender.sent true ++ sender.sent false) sent_both) (0, omega arith, refl)
 
   reordered : AreOwn a.inputs → AreOwn a'.inputs → (ReadsSalt ≢ left_out → SameSalt a a') →
       (ReadsDurable ≢ left_out → KeepsDurable a a') →
@@ -105,7 +83,7 @@ module _ (left_out : Premise) (a a' b : Run) (first : Facts 1 sci_a a (sender.se
       })
       b_is (history_but left_out (b ∷ []) (history 2 sci_b (b ∷ []) b_is (one_alone SameSalt b)
       (one_alone KeepsDurable b))))
-      sent_both (ap (λ (xs : List Delivery). xs ++ []) heard.told.delivers) not_in_order
+      sent_both (rw heard.told.delivers) not_in_order
     where
       b_is : All (IsRunOf 2 sci_b) (b ∷ [])
       b_is = All-cons (IsRunOf 2 sci_b) b [] heard.of (All-nil (IsRunOf 2 sci_b))
@@ -176,8 +154,7 @@ free_b : highest (reads []) (name_of (salt false)) < 1
 free_b = is_free [] (name_of (salt false)) 1 none_is (omega arith)
 
 judged_3 : judgement_of (receiver.heard_1 t) (receiver.frame 3 u) ≡ receiver.accepts_3
-judged_3 = ap (judge_opened (rx_options (receiver.heard_1 t)) (key_row 2 1) (rx_from 2) 3
-    (parts_at (receiver.frame 3 u))) opens_3
+judged_3 = rw opens_3
 
 abbrev heard_both : State
 heard_both = state_after_receiving (receiver.heard_1 t) (receiver.frame 3 u) receiver.accepts_3

@@ -1,28 +1,15 @@
 -- The runs of an end that sends for integrity only: the first sends the same client frame twice, with packet numbers 1
 -- and 2; the second sends another one, with packet number 3. The cipher is not computed.
-use Rattle.std.proofs.Common.{◌≡◌, ℕ, ◌*◌, ◌<◌, Bool, true, false, List, [], ◌∷◌, refl, ap, ◌∙◌, arith}
-use Rattle.std.specs.Prelude.{if◌then◌else◌}
-use Rattle.macsec_suite.specs.CipherUses.{CipherUse}
-use Rattle.macsec_commands.specs.declared.command.Command.TheVariants.{Key, TxOn, TxSa}
-use Rattle.macsec_tx.specs.declared.TxRow.{TxRow}
-use Rattle.macsec_tx.specs.Transmit.{use_sent}
-use Rattle.macsec_secy.specs.Sound.{IsSound}
-use Rattle.macsec_secy.specs.State.{State, no_tx_counters, start}
-use Rattle.macsec_secy.specs.Step.{client_frame, frame_fault, sending_of}
-use Rattle.macsec_reserve.specs.declared.reservation.Reservation.{Reservation}
-use Rattle.macsec_reserve.specs.Journal.{highest, sending_name}
-use Rattle.macsec_reserve.specs.Keeping.{Keeping, KeepingInput, endpoint_input, keeping_step, may_go, now_durable}
-use Rattle.macsec_counterexamples.proofs.Link.Exchange.{client, key_row, options, use_of, use_with, tag, iv, aad}
-use Rattle.macsec_counterexamples.proofs.Link.SealedFrames.{Sealed, sealed}
-use Rattle.macsec_counterexamples.proofs.Link.WorkedEnds.{bytes, gcm_a, new_key, no_salt}
-use Rattle.macsec_counterexamples.proofs.Restarts.Goes.{command, frame_step, is_new, is_within, may_send, raised_alone}
-use Rattle.macsec_counterexamples.proofs.Restarts.Senders.{kept, row_at}
-use Rattle.macsec_restarts.specs.Sent.{SentIn, newly_sent, sent_by}
-use Rattle.macsec_restarts.proofs.Examples.Blocks.{Told, commands_told, told_end, told_next}
-use Rattle.std.specs.Prelude.{map}
-use Rattle.std.proofs.Common.{◌++◌}
-use Rattle.macsec_commands.specs.declared.command.Command.{Command}
-use Rattle.macsec_counterexamples.proofs.Restarts.Tables.{all_fit, begins_sound, commands_sound, none_refused, sent_sound}
+use Rattle.macsec_counterexamples.proofs.Link.Exchange.{options}
+use Rattle.macsec_restarts.proofs.{
+  Names.{[], ◌*◌, ◌++◌, ◌<◌, ◌∙◌, ◌∷◌, ◌≡◌, aad, all_fit, ap, arith, begins_sound, Bool, bytes, CipherUse, client},
+  Names.{client_frame, Command, command, commands_sound, endpoint_input, false, frame_fault, frame_step, gcm_a},
+  Names.{highest, is_new, is_within, IsSound, iv, Keeping, keeping_step, KeepingInput, kept, Key, key_row, List, map},
+  Names.{may_go, may_send, new_key, newly_sent, no_salt, no_tx_counters, none_refused, now_durable, raised_alone, refl},
+  Names.{Reservation, row_at, sealed, sending_name, sending_of, sent_by, sent_sound, SentIn, start, State, tag, true},
+  Names.{TxOn, TxRow, TxSa, use_of, use_sent, ℕ},
+  Examples.Blocks.{Told, commands_told, told_end, told_next},
+}
 
 -- its first packet number, and the last one that it reserves
 abbrev pub first_of : Bool → ℕ
@@ -94,13 +81,13 @@ end_sound true = sent_sound (client 3) refl refl (on_sound true)
 -- ---- what it seals, by its tag
 
 first_use : use_sent options (key_row 1 1) (row_at 1 true) (client 1) ≡ use_of 1 (client 1) (tag 1 (client 1))
-first_use = ap (λ (it : Sealed). use_with 1 (client 1) it) (sealed bytes (iv 1) (aad 1 (client 1)))
+first_use = rw (sealed bytes (iv 1) (aad 1 (client 1)))
 
 second_use : use_sent options (key_row 1 2) (row_at 2 true) (client 1) ≡ use_of 2 (client 1) (tag 2 (client 1))
-second_use = ap (λ (it : Sealed). use_with 2 (client 1) it) (sealed bytes (iv 2) (aad 2 (client 1)))
+second_use = rw (sealed bytes (iv 2) (aad 2 (client 1)))
 
 third_use : use_sent options (key_row 1 1) (row_at 3 true) (client 3) ≡ use_of 3 (client 3) (tag 3 (client 3))
-third_use = ap (λ (it : Sealed). use_with 3 (client 3) it) (sealed bytes (iv 3) (aad 3 (client 3)))
+third_use = rw (sealed bytes (iv 3) (aad 3 (client 3)))
 
 -- ---- its steps, with any journal that has not reserved the packet numbers
 
@@ -122,8 +109,7 @@ module _ (salt : List ℕ) (before : List Reservation) where
 
   reports : (again : Bool) → (keeping_step (with_none (created again true)) (now_durable (reserves again salt))).1 ≡
       reserved_at again (created again true)
-  reports again = ap (λ (r : Reservation). kept salt before (r ∷ []) (created again true))
-      (raised_alone name (last_of again))
+  reports again = rw (raised_alone name (last_of again))
 
   first_goes : highest before name < 1 → may_go (reserved_at false (created false true)) (client_frame (client 1)) ≡
       true
@@ -142,8 +128,7 @@ module _ (salt : List ℕ) (before : List Reservation) where
   lists : (k : Keeping) (octet : ℕ) → may_go k (client_frame (client octet)) ≡ true →
       newly_sent k (endpoint_input (client_frame (client octet))) ≡
       sent_by k.secy (client octet) (frame_fault (client octet)) (sending_of k.secy (client octet)).by
-  lists k octet goes = ap (λ (b : Bool). if b then sent_by k.secy (client octet) (frame_fault (client octet))
-      (sending_of k.secy (client octet)).by else []) goes
+  lists k octet goes = rw goes
 
   frames_told : (again : Bool) → highest before name < first_of again →
       Told (reserved_at again (created again true)) (frames again) (sent again) [] (reserved_at again (at_end again))

@@ -1,22 +1,19 @@
 -- The ICVs of worked runs are octets: the sum of the octets of the hash and of a block of AES. The block is computed,
 -- to see that it is octets; the hash is not.
-use Rattle.std.proofs.Common.{◌≡◌, ℕ, zero, suc, ◌<◌, true, List, [], ◌∷◌, ◌++◌, take, refl, ap, subst, arith}
-use Rattle.std.specs.Prelude.{bit_xor, nat_lt, slice_index}
-use Rattle.std.specs.Int.{byte_at, bytes_high_first, to_be_bytes, w128}
-use Rattle.std.proofs.lemmas.Bool.{and_parts, ltb-true}
-use Rattle.std.proofs.lemmas.List.Elements.{All-append, All-from_recursion}
-use Rattle.std.proofs.lemmas.Nat.{xor_of_8}
-use Rattle.macsec_aes.specs.Aes.{add_round_key, added_word, aes, after_rounds, key_expansion, key_words, mix_columns, rot_word, round_key, shift_rows}
-use Rattle.macsec_aes.specs.Aes.{sub_bytes, sub_word, sum_of_words}
-use Rattle.macsec_aes.specs.Field.{affine_transformation, byte_product, inverse, polynomial_product, remainder, s_box, sum_below}
-use Rattle.macsec_gcm.specs.Gcm.{authentication_tag, gctr, hash_subkey, length_block, pre_counter_block, seal_of}
-use Rattle.macsec_ghash.specs.Ghash.{ghash, pad}
-use Rattle.macsec_tag.specs.Laws.{AreOctets}
-use Rattle.macsec_counterexamples.proofs.Link.Exchange.{aad, client, iv, tag}
-use Rattle.macsec_counterexamples.proofs.Link.SealedFrames.{Sealed, items, sealed}
-use Rattle.macsec_counterexamples.proofs.Link.WorkedEnds.{bytes}
-use Rattle.macsec_counterexamples.proofs.Restarts.Tables.{are_small, small}
-use Rattle.macsec_restarts.proofs.Examples.Receivers.{frame}
+use Rattle.{
+  std.proofs.{Common.{bit_xor, slice_index}, lemmas.{List.Elements.All-from_recursion, Nat.xor_of_8}},
+  std.specs.Int.{byte_at, bytes_high_first, to_be_bytes, w128},
+  macsec_ghash.specs.Ghash.{ghash, pad},
+  macsec_gcm.specs.Gcm.{authentication_tag, gctr, hash_subkey, length_block, seal_of},
+  macsec_restarts.proofs.{
+    Names.{[], ◌++◌, ◌<◌, ◌∷◌, ◌≡◌, aad, add_round_key, added_word, aes, affine_transformation, after_rounds},
+    Names.{All-append, and_parts, are_small, AreOctets, arith, byte_product, bytes, client, inverse, items, iv},
+    Names.{key_expansion, key_words, List, ltb-true, mix_columns, nat_lt, polynomial_product, pre_counter_block, refl},
+    Names.{remainder, rot_word, round_key, s_box, sealed, shift_rows, small, sub_bytes, sub_word, suc, sum_below},
+    Names.{sum_of_words, tag, take, true, zero, ℕ},
+    Examples.Receivers.frame,
+  },
+}
 
 pub small_at : (xs : List ℕ) → are_small xs ≡ true → (k : ℕ) → slice_index xs k < 256
 small_at [] are k = omega arith
@@ -53,8 +50,9 @@ tag_is key iv aad are = All-from_recursion (λ x. x < 256) (seal_of key iv aad [
 icv_is : (number : ℕ) → are_small (aes bytes (pre_counter_block (iv number))) ≡ true →
     AreOctets (items 16 (tag number (client number)))
 icv_is number are =
-    subst AreOctets (ap (λ (it : Sealed). it.1) (sealed bytes (iv number) (aad number (client number))))
-    (tag_is bytes (iv number) (aad number (client number)) (small_at (aes bytes (pre_counter_block (iv number))) are))
+    rw (sealed bytes (iv number) (aad number (client number))) at
+    (tag_is bytes (iv number) (aad number (client number)) (small_at (aes bytes (pre_counter_block (iv number)))
+    are))
 
 block_1 : are_small (aes bytes (pre_counter_block (iv 1))) ≡ true
 unfolding pre_counter_block aes after_rounds add_round_key round_key mix_columns shift_rows sub_bytes key_expansion

@@ -1,41 +1,23 @@
 -- Two runs of each end that meet all premises of origin, order and once. A sends the same client frame twice, with
 -- packet numbers (PNs) 1 and 2, and the second one is lost. B delivers the first, and drops its replay as late. Then
 -- both restart. A sends another client frame, with PN 3. B drops the first frame again, and delivers the one with PN 3.
-use Rattle.std.proofs.Common.{◌≡◌, ℕ, ◌<◌, ◌≤◌, Bool, true, false, List, [], ◌∷◌, ◌++◌, refl, ap, sym, subst, ◌∙◌, arith, All, AllPairs, Contains}
-use Rattle.std.specs.Prelude.{max, if◌then◌else◌}
-use Rattle.macsec_gcm.specs.Octets.{same_octets}
-use Rattle.std.proofs.lemmas.List.Elements.{All-cons, All-nil}
-use Rattle.std.proofs.lemmas.List.Kept.{AllPairs-cons}
-use Rattle.sha2.proofs.Facts256.{length-sha256}
-use Rattle.macsec_tag.specs.declared.identifiers.Sci.{Sci}
-use Rattle.macsec_suite.specs.CipherUses.{CipherUse}
-use Rattle.macsec_commands.specs.declared.event.End.TheVariants.{A, B}
-use Rattle.macsec_secy.specs.State.{State}
-use Rattle.macsec_reserve.specs.declared.reservation.Reservation.{Reservation}
-use Rattle.macsec_reserve.specs.Crashes.{IsReservation}
-use Rattle.macsec_reserve.specs.Entries.{reduced}
-use Rattle.macsec_reserve.specs.Histories.{KeepsDurable, Run, SameSalt, opening, sealed_in_all}
-use Rattle.macsec_reserve.specs.Journal.{highest, reservations, sending_name}
-use Rattle.macsec_reserve.specs.Keeping.{Keeping, KeepingInput, keeping_step, now_durable}
-use Rattle.macsec_reserve.proofs.Pairs.{one_alone}
-use Rattle.macsec_reserve.proofs.Reduced.{reduced_reserves}
-use Rattle.macsec_reserve.proofs.Written.{same_octets-refl}
-use Rattle.macsec_counterexamples.proofs.Link.Exchange.{Opens, client, key_row, tag, use_of, iv, aad}
-use Rattle.macsec_counterexamples.proofs.Link.SealedFrames.{opens}
-use Rattle.macsec_counterexamples.proofs.Link.TracedSteps.{genuine_at}
-use Rattle.macsec_counterexamples.proofs.Link.WorkedEnds.{bytes, gcm_a, gcm_b, rx_from, sci_a, sci_b}
-use Rattle.macsec_counterexamples.proofs.Restarts.Journals.{journal, salt, says}
-use Rattle.macsec_counterexamples.proofs.Restarts.Receivers.{name_of}
-use Rattle.macsec_counterexamples.proofs.Restarts.Senders.{kept}
-use Rattle.macsec_restarts.specs.Delivered.{Delivery, delivered_at, delivered_in_all}
-use Rattle.macsec_restarts.specs.Order.{SavedIn}
-use Rattle.macsec_restarts.specs.Sent.{SentIn, sent_in_all}
-use Rattle.macsec_restarts.proofs.Examples.Blocks.{AreOwn, AreSteps, Told, first_link, is_strict, no_step, step_link, step_next, told_end, told_link, told_next}
-use Rattle.macsec_restarts.proofs.Examples.Histories.{IsRunOf, MeetsAll, meets_all, nothing_saved, peers, run_told, seals_are}
-use Rattle.macsec_restarts.proofs.Examples.Premises.{NoPremise}
+use Rattle.macsec_restarts.proofs.{
+  Names.{[], ◌++◌, ◌<◌, ◌∷◌, ◌≡◌, ◌≤◌, A, aad, All, All-cons, All-nil, AllPairs, AllPairs-cons, arith, B, Bool, bytes},
+  Names.{CipherUse, client, Contains, delivered_in_all, Delivery, false, gcm_a, gcm_b, genuine_at, highest},
+  Names.{if◌then◌else◌, IsReservation, iv, journal, Keeping, keeping_step, KeepingInput, KeepsDurable, kept, key_row},
+  Names.{length-sha256, List, max, name_of, now_durable, one_alone, opening, Opens, opens, reduced, reduced_reserves},
+  Names.{refl, Reservation, reservations, Run, rx_from, salt, same_octets, same_octets-refl, SameSalt, SavedIn, says},
+  Names.{Sci, sci_a, sci_b, sealed_in_all, sending_name, sent_in_all, SentIn, State, tag, true, use_of, ℕ},
+  Examples.{
+    Blocks.{AreOwn, AreSteps, Told, first_link, is_strict, no_step, step_link, step_next, told_end, told_link},
+    Blocks.told_next,
+    Histories.{IsRunOf, MeetsAll, meets_all, nothing_saved, peers, run_told, seals_are},
+    Premises.NoPremise,
+    Tags.{octets_1, octets_3},
+  },
+}
 use Rattle.macsec_restarts.proofs.Examples.Receivers as receiver
 use Rattle.macsec_restarts.proofs.Examples.Senders as sender
-use Rattle.macsec_restarts.proofs.Examples.Tags.{octets_1, octets_3}
 
 -- ---- any runs that send and deliver so
 
@@ -71,28 +53,22 @@ module _ (a a' b b' : Run) (first : Facts 1 sci_a a (sender.sent false) [])
     (heard : Facts 2 sci_b b [] (receiver.delivery 1 ∷ []))
     (heard' : Facts 2 sci_b b' [] (receiver.delivery 3 ∷ [])) where
   sent_1 : sent_in_all (a ∷ []) ≡ sender.sent false
-  sent_1 = ap (λ (xs : List SentIn). xs ++ []) first.told.sends
+  sent_1 = rw first.told.sends
 
   sent_both : sent_in_all (a ∷ a' ∷ []) ≡ sender.sent false ++ sender.sent true
-  sent_both = ap (λ (xs : List SentIn). xs ++ sent_in_all (a' ∷ [])) first.told.sends
-      ∙ ap (λ (xs : List SentIn). sender.sent false ++ (xs ++ [])) second.told.sends
+  sent_both = rw (first.told.sends, second.told.sends)
 
   delivered_1 : delivered_in_all (b ∷ []) ≡ receiver.delivery 1 ∷ []
-  delivered_1 = ap (λ (xs : List Delivery). xs ++ []) heard.told.delivers
+  delivered_1 = rw heard.told.delivers
 
   delivered_both : delivered_in_all (b ∷ b' ∷ []) ≡ receiver.delivery 1 ∷ receiver.delivery 3 ∷ []
-  delivered_both =
-      ap (λ (xs : List Delivery). xs ++ delivered_in_all (b' ∷ [])) heard.told.delivers
-      ∙ ap (λ (xs : List Delivery). receiver.delivery 1 ∷ (xs ++ [])) heard'.told.delivers
+  delivered_both = rw (heard.told.delivers, heard'.told.delivers)
 
   has_sealed_1 : Contains (sealed_in_all (a ∷ []) ++ []) use_1
-  has_sealed_1 = subst (λ (us : List CipherUse). Contains (us ++ []) use_1)
-      (sym (seals_are (a ∷ []) (sender.sent false) sent_1)) (0, omega arith, refl)
+  has_sealed_1 = rw (seals_are (a ∷ []) (sender.sent false) sent_1) (0, omega arith, refl)
 
   has_sealed_3 : Contains (sealed_in_all (a ∷ a' ∷ []) ++ sealed_in_all (b ∷ [])) use_3
-  has_sealed_3 =
-      subst (λ (us : List CipherUse). Contains (us ++ sealed_in_all (b ∷ [])) use_3)
-      (sym (seals_are (a ∷ a' ∷ []) (sender.sent false ++ sender.sent true) sent_both)) (2, omega arith, refl)
+  has_sealed_3 = rw (seals_are (a ∷ a' ∷ []) (sender.sent false ++ sender.sent true) sent_both) (2, omega arith, refl)
 
   pub meets : AreOwn a.inputs → AreOwn a'.inputs → SameSalt a a' → KeepsDurable a a' → SameSalt b b' →
       KeepsDurable b b' → SavedIn b'.journal bytes sci_a 0 (receiver.delivery 1 ∷ []) →
@@ -111,8 +87,7 @@ module _ (a a' b b' : Run) (first : Facts 1 sci_a a (sender.sent false) [])
             own',
             (
               (
-                (λ d. subst (λ (xs : List Delivery). SavedIn b'.journal bytes sci_a 0 (delivered_at bytes sci_a 0 xs))
-                    (sym delivered_1) saved),
+                (λ d. rw delivered_1 saved),
                 steps' (sealed_in_all (a ∷ a' ∷ []) ++ sealed_in_all (b ∷ [])) has_sealed_3,
               ),
               tt,
@@ -305,8 +280,7 @@ is_durable r are name = omega (arith, says false (r ∷ []) are name)
 pub is_saved : SavedIn (journal false (saved_1 ∷ [])) bytes sci_a 0 (receiver.delivery 1 ∷ [])
 is_saved =
     let name = name_of (salt false) in
-    let own : highest (saved_1 ∷ []) name ≡ 1 = ap (λ (same : Bool). if same then max 1 0 else 0)
-    (same_octets-refl name) in
+    let own : highest (saved_1 ∷ []) name ≡ 1 = rw (same_octets-refl name) in
     All-cons (λ d. d.number ≤ highest (reservations (journal false (saved_1 ∷ []))) name) (receiver.delivery 1) []
     (omega (arith, says false (saved_1 ∷ []) saved_is name, own))
     (All-nil (λ d. d.number ≤ highest (reservations (journal false (saved_1 ∷ []))) name))

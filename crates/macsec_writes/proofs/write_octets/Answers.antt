@@ -1,7 +1,9 @@
 use Rattle.std.proofs.Common.{◌≡◌, [], drop_of_length-le, rules}
-use Rattle.macsec_writes.proofs.OnTheWay.{all_written, front_written, more_written, still_written}
+use Rattle.macsec_writes.proofs.{
+  OnTheWay.{all_written, front_written, more_written, still_written},
+  write_octets.Goals.{in-Ok, in-Err},
+}
 use Rattle.macsec_writes.proofs.write_octets.Goals as goal
-use Rattle.macsec_writes.proofs.write_octets.Goals.{in-Ok, in-Err}
 
 pub loop-preserved : goal.loop-preserved
 loop-preserved g c = elim c.match-write.branch [

@@ -1,9 +1,8 @@
-use Rattle.std.proofs.Common.{◌≡◌, ◌+◌, ◌*◌, ◌++◌, List, ℕ, [], ◌∷◌, refl, slice_index_or}
-use Rattle.std.specs.List.{range_with_len}
-use Rattle.std.specs.Simd.Lanes.{pick_l}
-use Rattle.macsec_aes_lanes.specs.Nibbles.{block_in}
-use Rattle.macsec_aes_lanes.proofs.Below.{below_two}
-use Rattle.macsec_aes_lanes.proofs.Picked.{picked_all}
+use Rattle.macsec_aes_lanes.proofs.{
+  Names.{[], ◌*◌, ◌++◌, ◌+◌, ◌∷◌, ◌≡◌, block_in, List, pick_l, range_with_len, refl, slice_index_or, ℕ},
+  Below.below_two,
+  Picked.picked_all,
+}
 use Rattle.macsec_aes_lanes.proofs.nibble_state.blocks_of.Goals as goal
 
 pub returns : goal.returns

@@ -1,11 +1,10 @@
-use Rattle.std.proofs.Common.{◌+◌, ◌*◌, ◌/◌, ◌%◌, ◌∙◌, ap, bit_xor, slice_index, ℕ}
-use Rattle.macsec_aes.specs.Aes.{add_round_key}
-use Rattle.macsec_aes.proofs.States.{place}
-use Rattle.macsec_aes_lanes.specs.Nibbles.{block_in, represented, state_in}
-use Rattle.macsec_aes_lanes.proofs.Halves.{half-lt}
-use Rattle.macsec_aes_lanes.proofs.NibbleRounds.{byte_at}
-use Rattle.macsec_aes_lanes.proofs.Octets.{same_blocks}
-use Rattle.macsec_aes_lanes.proofs.Represented.{represented_adds}
+use Rattle.macsec_aes_lanes.proofs.{
+  Names.{◌%◌, ◌*◌, ◌+◌, ◌/◌, ◌∙◌, add_round_key, ap, bit_xor, block_in, place, represented, slice_index, state_in, ℕ},
+  Halves.half-lt,
+  NibbleRounds.byte_at,
+  Octets.same_blocks,
+  Represented.represented_adds,
+}
 use Rattle.macsec_aes_lanes.proofs.nibble_state.first_round.Goals as goal
 
 pub returns : goal.returns

@@ -1,6 +1,4 @@
-use Rattle.std.proofs.Common.{refl}
-use Rattle.macsec_aes_lanes.specs.Nibbles.{byte_below}
-use Rattle.macsec_aes_lanes.proofs.Picked.{picked_in_halves}
+use Rattle.macsec_aes_lanes.proofs.{Names.{byte_below, refl}, Picked.picked_in_halves}
 use Rattle.macsec_aes_lanes.proofs.nibble_state.from_next_row.Goals as goal
 
 pub returns : goal.returns

@@ -1,11 +1,10 @@
-use Rattle.std.proofs.Common.{◌≡◌, ◌+◌, ◌*◌, ◌/◌, ◌%◌, ◌∙◌, ap, ap₂, sym, arith, bit_xor, slice_index, ℕ}
-use Rattle.macsec_aes.specs.Aes.{add_round_key, shift_rows, sub_bytes}
-use Rattle.macsec_aes.proofs.States.{place}
-use Rattle.macsec_aes_lanes.specs.AffineConstant.{with_constant}
-use Rattle.macsec_aes_lanes.specs.Nibbles.{block_in, byte_below, byte_shifted, state_in}
-use Rattle.macsec_aes_lanes.proofs.Halves.{half-lt}
-use Rattle.macsec_aes_lanes.proofs.NibbleRounds.{byte_at, shifted-lt, substituted_byte}
-use Rattle.macsec_aes_lanes.proofs.Octets.{same_blocks}
+use Rattle.macsec_aes_lanes.proofs.{
+  Names.{◌%◌, ◌*◌, ◌+◌, ◌/◌, ◌∙◌, ◌≡◌, add_round_key, ap, ap₂, arith, bit_xor, block_in, byte_below, byte_shifted},
+  Names.{place, shift_rows, slice_index, state_in, sub_bytes, sym, with_constant, ℕ},
+  Halves.half-lt,
+  NibbleRounds.{byte_at, shifted-lt, substituted_byte},
+  Octets.same_blocks,
+}
 use Rattle.macsec_aes_lanes.proofs.nibble_state.last_round.Goals as goal
 
 pub returns : goal.returns

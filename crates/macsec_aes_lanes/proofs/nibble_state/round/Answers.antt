@@ -1,15 +1,14 @@
 -- In each byte: the two pairs and the byte of the row before are what MixColumns adds, and all of them are represented.
-use Rattle.std.proofs.Common.{◌≡◌, ◌+◌, ◌*◌, ◌/◌, ◌%◌, ◌<◌, ◌∙◌, ap, ap₂, sym, arith, bit_xor, slice_index, slice_index_or, ℕ, []}
-use Rattle.macsec_aes.specs.Aes.{add_round_key, mix_columns, mixed_entry, shift_rows, sub_bytes}
-use Rattle.macsec_aes.specs.Field.{byte_product, s_box}
-use Rattle.macsec_aes.proofs.States.{place}
-use Rattle.macsec_aes_lanes.specs.AffineConstant.{plus_constant, with_constant}
-use Rattle.macsec_aes_lanes.specs.Nibbles.{byte_below, byte_shifted, represented, state_in}
-use Rattle.macsec_aes_lanes.proofs.Halves.{half-lt}
-use Rattle.macsec_aes_lanes.proofs.LookUps.{substituted_below}
-use Rattle.macsec_aes_lanes.proofs.NibbleRounds.{below-lt, byte_at, mixed_pairs, shifted-lt, substituted_byte}
-use Rattle.macsec_aes_lanes.proofs.Octets.{same_blocks}
-use Rattle.macsec_aes_lanes.proofs.Represented.{represented_adds}
+use Rattle.macsec_aes_lanes.proofs.{
+  Names.{[], ◌%◌, ◌*◌, ◌+◌, ◌/◌, ◌<◌, ◌∙◌, ◌≡◌, add_round_key, ap, ap₂, arith, bit_xor, byte_below, byte_product},
+  Names.{byte_shifted, mix_columns, mixed_entry, place, plus_constant, represented, s_box, shift_rows, slice_index},
+  Names.{slice_index_or, state_in, sub_bytes, sym, with_constant, ℕ},
+  Halves.half-lt,
+  LookUps.substituted_below,
+  NibbleRounds.{below-lt, byte_at, mixed_pairs, shifted-lt, substituted_byte},
+  Octets.same_blocks,
+  Represented.represented_adds,
+}
 use Rattle.macsec_aes_lanes.proofs.nibble_state.round.Goals as goal
 
 pub returns : goal.returns

@@ -1,6 +1,4 @@
-use Rattle.std.proofs.Common.{refl}
-use Rattle.macsec_aes_lanes.specs.Nibbles.{byte_shifted}
-use Rattle.macsec_aes_lanes.proofs.Picked.{picked_in_halves}
+use Rattle.macsec_aes_lanes.proofs.{Names.{byte_shifted, refl}, Picked.picked_in_halves}
 use Rattle.macsec_aes_lanes.proofs.nibble_state.rows_shifted.Goals as goal
 
 pub returns : goal.returns

@@ -1,5 +1,4 @@
-use Rattle.std.proofs.Common.{slice_index}
-use Rattle.macsec_aes_lanes.proofs.LookUps.{left_is_place, right_is_place, last_is}
+use Rattle.macsec_aes_lanes.proofs.{Names.slice_index, LookUps.{left_is_place, right_is_place, last_is}}
 use Rattle.macsec_aes_lanes.proofs.nibbles.last_substituted.Goals as goal
 
 pub looked_up-requires : goal.looked_up-requires

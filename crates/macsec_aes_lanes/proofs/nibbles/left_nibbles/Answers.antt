@@ -1,5 +1,4 @@
-use Rattle.macsec_aes_lanes.proofs.Everywhere.{shifted}
-use Rattle.macsec_aes_lanes.proofs.Holds.{holds, holds_splat, holds_zip, lane_is_byte}
+use Rattle.macsec_aes_lanes.proofs.{Everywhere.shifted, Holds.{holds, holds_splat, holds_zip, lane_is_byte}}
 use Rattle.macsec_aes_lanes.proofs.nibbles.left_nibbles.Goals as goal
 
 pub returns-clause-nibbles : goal.returns-clause-nibbles

@@ -1,8 +1,9 @@
-use Rattle.std.proofs.Common.{◌≡◌, ℕ, ◌+◌, ◌/◌, ◌<◌, List, [], ◌∷◌, slice_index, inl, inr, refl, sym, ◌∙◌, arith, w8}
 use Rattle.std.proofs.lemmas.Simd.{Each1-from_get_or, SwzOk-from_Each1, get_or-swz_l}
-use Rattle.macsec_aes_lanes.specs.Lanes.{lane_at}
-use Rattle.macsec_aes_lanes.proofs.Below.{below_two}
-use Rattle.macsec_aes_lanes.proofs.Places.{place_is, at_nibble, at_infinity, at_nibble_entry, at_infinity_entry}
+use Rattle.macsec_aes_lanes.proofs.{
+  Names.{[], ◌+◌, ◌/◌, ◌<◌, ◌∙◌, ◌∷◌, ◌≡◌, arith, inl, inr, lane_at, List, refl, slice_index, sym, w8, ℕ},
+  Below.below_two,
+  Places.{place_is, at_nibble, at_infinity, at_nibble_entry, at_infinity_entry},
+}
 use Rattle.macsec_aes_lanes.proofs.nibbles.looked_up.Goals as goal
 
 pub swizzle : goal.swizzle

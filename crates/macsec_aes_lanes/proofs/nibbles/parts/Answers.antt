@@ -1,5 +1,7 @@
-use Rattle.std.proofs.Common.{inl, arith, slice_index}
-use Rattle.macsec_aes_lanes.proofs.LookUps.{first_is_place, second_is_place, sum_is_place}
+use Rattle.macsec_aes_lanes.proofs.{
+  Names.{arith, inl, slice_index},
+  LookUps.{first_is_place, second_is_place, sum_is_place},
+}
 use Rattle.macsec_aes_lanes.proofs.nibbles.parts.Goals as goal
 
 pub looked_up-quotient-requires : goal.looked_up-quotient-requires

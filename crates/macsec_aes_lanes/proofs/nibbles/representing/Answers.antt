@@ -1,5 +1,4 @@
-use Rattle.std.proofs.Common.{inl, arith, slice_index}
-use Rattle.macsec_aes_lanes.proofs.LookUps.{from_is}
+use Rattle.macsec_aes_lanes.proofs.{Names.{arith, inl, slice_index}, LookUps.from_is}
 use Rattle.macsec_aes_lanes.proofs.nibbles.representing.Goals as goal
 
 pub looked_up-requires : goal.looked_up-requires

@@ -1,6 +1,7 @@
-use Rattle.std.proofs.Common.{bit_and, slice_index, ◌∙◌}
-use Rattle.std.proofs.lemmas.Nat.{and_mask}
-use Rattle.macsec_aes_lanes.proofs.Holds.{holds, holds_splat, holds_zip}
+use Rattle.{
+  std.proofs.lemmas.Nat.and_mask,
+  macsec_aes_lanes.proofs.{Names.{◌∙◌, bit_and, slice_index}, Holds.{holds, holds_splat, holds_zip}},
+}
 use Rattle.macsec_aes_lanes.proofs.nibbles.right_nibbles.Goals as goal
 
 pub returns : goal.returns

@@ -1,10 +1,9 @@
-use Rattle.std.proofs.Common.{◌≡◌, ◌∙◌, ◌<◌, ◌≢◌, ℕ, [], slice_index_or, slice_set, arith, refl, rules, subst, sym}
-use Rattle.std.proofs.lemmas.List.{get_or-set_other, get_or-set_same, length-set}
-use Rattle.macsec_aes.specs.Aes.{rounds_of, schedule_of}
-use Rattle.macsec_aes_lanes.specs.AffineConstant.{kept_round_key}
-use Rattle.macsec_aes_lanes.specs.Nibbles.{state_of}
-use Rattle.macsec_aes_lanes.proofs.ConstantKept.{kept_first, kept_from_one}
-use Rattle.macsec_aes_lanes.proofs.NibbleKeys.{one_more_state, state_of_key}
+use Rattle.macsec_aes_lanes.proofs.{
+  Names.{[], ◌<◌, ◌∙◌, ◌≡◌, ◌≢◌, arith, get_or-set_other, get_or-set_same, kept_round_key, length-set, refl, rounds_of},
+  Names.{rules, schedule_of, slice_index_or, slice_set, state_of, subst, sym, ℕ},
+  ConstantKept.{kept_first, kept_from_one},
+  NibbleKeys.{one_more_state, state_of_key},
+}
 use Rattle.macsec_aes_lanes.proofs.schedule.nibble_keys_of.Goals as goal
 
 pub loop-round-init : goal.loop-round-init

@@ -1,7 +1,5 @@
-use Rattle.std.proofs.Common.{◌≡◌, ◌<◌, ℕ, [], length, slice_index_or}
-use Rattle.macsec_aes.specs.Aes.{schedule_of}
-use Rattle.macsec_aes_lanes.specs.AffineConstant.{kept_round_key}
-use Rattle.macsec_aes_lanes.specs.Nibbles.{state_of}
+use Rattle.macsec_aes_lanes.proofs.Names.{[], ◌<◌, ◌≡◌, kept_round_key, length, schedule_of, slice_index_or, state_of}
+use Rattle.macsec_aes_lanes.proofs.Names.{ℕ}
 use Rattle.macsec_aes_lanes.proofs.schedule.nibble_keys_of.Given as goal
 
 -- the round keys before this one are stored

@@ -1,5 +1,4 @@
-use Rattle.std.proofs.Common.{◌∙◌, ◌+◌, ◌*◌, ap, arith}
-use Rattle.macsec_aes_lanes.specs.Nibbles.{represented}
+use Rattle.macsec_aes_lanes.proofs.Names.{◌*◌, ◌+◌, ◌∙◌, ap, arith, represented}
 use Rattle.macsec_aes_lanes.proofs.schedule.representing_key.Goals as goal
 
 pub returns : goal.returns

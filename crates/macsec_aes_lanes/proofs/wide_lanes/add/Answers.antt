@@ -1,5 +1,4 @@
-use Rattle.std.proofs.Common.{bit_xor}
-use Rattle.macsec_aes_lanes.proofs.Holds.{holds, holds_zip}
+use Rattle.macsec_aes_lanes.proofs.{Names.bit_xor, Holds.{holds, holds_zip}}
 use Rattle.macsec_aes_lanes.proofs.wide_lanes.add.Goals as goal
 
 pub returns : goal.returns

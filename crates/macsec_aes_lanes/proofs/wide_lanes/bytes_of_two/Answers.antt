@@ -1,8 +1,8 @@
-use Rattle.std.proofs.Common.{◌≡◌, ◌+◌, ◌*◌, ◌∙◌, List, ℕ, [], ◌∷◌, map, slice_index, slice_index_or}
-use Rattle.std.specs.List.{range_with_len}
-use Rattle.macsec_aes_lanes.specs.Lanes.{lane_of}
-use Rattle.macsec_aes_lanes.proofs.Below.{below_two}
-use Rattle.macsec_aes_lanes.proofs.Octets.{lane_of-lt, same_blocks}
+use Rattle.macsec_aes_lanes.proofs.{
+  Names.{[], ◌*◌, ◌+◌, ◌∙◌, ◌∷◌, ◌≡◌, lane_of, List, map, range_with_len, slice_index, slice_index_or, ℕ},
+  Below.below_two,
+  Octets.{lane_of-lt, same_blocks},
+}
 use Rattle.macsec_aes_lanes.proofs.wide_lanes.bytes_of_two.Goals as goal
 
 pub returns : goal.returns

@@ -1,6 +1,4 @@
-use Rattle.std.proofs.Common.{refl}
-use Rattle.macsec_aes_lanes.specs.Lanes.{rows_below}
-use Rattle.macsec_aes_lanes.proofs.Picked.{picked_in_halves}
+use Rattle.macsec_aes_lanes.proofs.{Names.{refl, rows_below}, Picked.picked_in_halves}
 use Rattle.macsec_aes_lanes.proofs.wide_lanes.from_next_row.Goals as goal
 
 pub returns : goal.returns

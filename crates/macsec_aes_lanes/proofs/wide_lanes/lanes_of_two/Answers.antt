@@ -1,7 +1,4 @@
-use Rattle.std.proofs.Common.{◌≡◌, ◌∙◌, [], ◌∷◌}
-use Rattle.macsec_aes_lanes.specs.Lanes.{lane_at, lane_of}
-use Rattle.macsec_aes_lanes.proofs.Below.{below_two}
-use Rattle.macsec_aes_lanes.proofs.Octets.{lane_of-lt}
+use Rattle.macsec_aes_lanes.proofs.{Names.{[], ◌∙◌, ◌∷◌, ◌≡◌, lane_at, lane_of}, Below.below_two, Octets.lane_of-lt}
 use Rattle.macsec_aes_lanes.proofs.wide_lanes.lanes_of_two.Goals as goal
 
 pub returns : goal.returns

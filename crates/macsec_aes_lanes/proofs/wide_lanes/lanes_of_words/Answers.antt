@@ -1,6 +1,4 @@
-use Rattle.std.proofs.Common.{w64}
-use Rattle.std.proofs.lemmas.Simd.{below_from_Fits}
-use Rattle.macsec_aes_lanes.proofs.WordLanes.{bit_of_lane}
+use Rattle.{std.proofs.Common.w64, macsec_aes_lanes.proofs.{Names.below_from_Fits, WordLanes.bit_of_lane}}
 use Rattle.macsec_aes_lanes.proofs.wide_lanes.lanes_of_words.Goals as goal
 
 pub returns : goal.returns

@@ -1,5 +1,4 @@
-use Rattle.std.proofs.Common.{◌+◌, ◌*◌, refl}
-use Rattle.macsec_aes_lanes.proofs.Picked.{picked}
+use Rattle.macsec_aes_lanes.proofs.{Names.{◌*◌, ◌+◌, refl}, Picked.picked}
 use Rattle.macsec_aes_lanes.proofs.wide_lanes.second_half.Goals as goal
 
 pub returns : goal.returns

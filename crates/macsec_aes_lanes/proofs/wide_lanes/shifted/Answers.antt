@@ -1,6 +1,4 @@
-use Rattle.std.proofs.Common.{refl}
-use Rattle.macsec_aes_lanes.specs.Lanes.{columns_right}
-use Rattle.macsec_aes_lanes.proofs.Picked.{picked_in_halves}
+use Rattle.macsec_aes_lanes.proofs.{Names.{columns_right, refl}, Picked.picked_in_halves}
 use Rattle.macsec_aes_lanes.proofs.wide_lanes.shifted.Goals as goal
 
 pub returns : goal.returns

@@ -1,9 +1,10 @@
-use Rattle.std.proofs.Common.{◌≡◌, ◌+◌, ◌-◌, ◌*◌, ◌++◌, ℕ, List, [], ◌∷◌, length, slice_index, ap, ◌∙◌, arith, length-append}
-use Rattle.std.proofs.lemmas.Simd.{pick_l_whole}
-use Rattle.std.proofs.lemmas.List.{get_or_append_left}
-use Rattle.std.proofs.Math.Seq.{get_or-append_right}
-use Rattle.macsec_aes_lanes.specs.Lanes.{lane_at}
-use Rattle.macsec_aes_lanes.proofs.Below.{below_two}
+use Rattle.{
+  std.proofs.{Common.length-append, Math.Seq.get_or-append_right, lemmas.{List.get_or_append_left, Simd.pick_l_whole}},
+  macsec_aes_lanes.proofs.{
+    Names.{[], ◌*◌, ◌++◌, ◌+◌, ◌-◌, ◌∙◌, ◌∷◌, ◌≡◌, ap, arith, lane_at, length, List, slice_index, ℕ},
+    Below.below_two,
+  },
+}
 use Rattle.macsec_aes_lanes.proofs.wide_lanes.side_by_side.Goals as goal
 
 pub returns : goal.returns

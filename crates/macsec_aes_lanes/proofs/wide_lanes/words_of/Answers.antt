@@ -1,6 +1,4 @@
-use Rattle.std.proofs.Common.{w8}
-use Rattle.std.proofs.lemmas.Simd.{below_from_Fits}
-use Rattle.macsec_aes_lanes.proofs.WordLanes.{bit_of_word}
+use Rattle.macsec_aes_lanes.proofs.{Names.{below_from_Fits, w8}, WordLanes.bit_of_word}
 use Rattle.macsec_aes_lanes.proofs.wide_lanes.words_of.Goals as goal
 
 pub returns : goal.returns

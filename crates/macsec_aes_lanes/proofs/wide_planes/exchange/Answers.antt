@@ -1,8 +1,9 @@
-use Rattle.std.proofs.Common.{ap, subst, sym, ◌∙◌, ℕ, ◌<◌, ◌^◌}
-use Rattle.std.specs.Int.{bit_at}
-use Rattle.macsec_aes_lanes.proofs.Below.{below_two}
-use Rattle.macsec_aes_lanes.proofs.Holds.{holds, lane_is_byte}
-use Rattle.macsec_aes_lanes.proofs.Exchanges.{raised_is, lowered_is, raised_lane, lowered_lane, raised_is_byte, lowered_is_byte}
+use Rattle.macsec_aes_lanes.proofs.{
+  Names.{◌<◌, ◌^◌, ◌∙◌, ap, bit_at, subst, sym, ℕ},
+  Below.below_two,
+  Exchanges.{raised_is, lowered_is, raised_lane, lowered_lane, raised_is_byte, lowered_is_byte},
+  Holds.{holds, lane_is_byte},
+}
 use Rattle.macsec_aes_lanes.proofs.wide_planes.exchange.Goals as goal
 
 pub returns-clause-bits : goal.returns-clause-bits

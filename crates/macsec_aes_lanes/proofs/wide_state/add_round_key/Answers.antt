@@ -1,10 +1,9 @@
-use Rattle.std.proofs.Common.{◌∙◌, ◌+◌, ◌*◌, ◌/◌, ◌%◌, bit_xor, refl, slice_index}
-use Rattle.macsec_aes.specs.Aes.{add_round_key}
-use Rattle.macsec_aes.proofs.States.{place}
-use Rattle.macsec_aes_lanes.specs.Lanes.{lane_of}
-use Rattle.macsec_aes_lanes.specs.Wide.{block_in_half, byte_in_half}
-use Rattle.macsec_aes_lanes.proofs.Halves.{byte_of_half, half-lt}
-use Rattle.macsec_aes_lanes.proofs.Octets.{lane_of-lt, same_blocks}
+use Rattle.macsec_aes_lanes.proofs.{
+  Names.{◌%◌, ◌*◌, ◌+◌, ◌/◌, ◌∙◌, add_round_key, bit_xor, block_in_half, byte_in_half, lane_of, place, refl},
+  Names.slice_index,
+  Halves.{byte_of_half, half-lt},
+  Octets.{lane_of-lt, same_blocks},
+}
 use Rattle.macsec_aes_lanes.proofs.wide_state.add_round_key.Goals as goal
 
 pub returns : goal.returns

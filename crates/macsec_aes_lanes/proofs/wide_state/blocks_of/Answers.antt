@@ -1,10 +1,10 @@
-use Rattle.std.proofs.Common.{◌≡◌, ◌+◌, ◌*◌, ◌<◌, ◌∙◌, List, ℕ, [], ◌∷◌, map, slice_index_or, arith}
-use Rattle.std.specs.List.{range_with_len}
-use Rattle.macsec_aes_lanes.specs.Lanes.{lane_at, lane_of}
-use Rattle.macsec_aes_lanes.specs.Wide.{byte_in_half}
-use Rattle.macsec_aes_lanes.proofs.Below.{below_two, below_eight}
-use Rattle.macsec_aes_lanes.proofs.Halves.{half-lt}
-use Rattle.macsec_aes_lanes.proofs.Octets.{lane_of-lt, same_blocks}
+use Rattle.macsec_aes_lanes.proofs.{
+  Names.{[], ◌*◌, ◌+◌, ◌<◌, ◌∙◌, ◌∷◌, ◌≡◌, arith, byte_in_half, lane_at, lane_of, List, map, range_with_len},
+  Names.{slice_index_or, ℕ},
+  Below.{below_two, below_eight},
+  Halves.half-lt,
+  Octets.{lane_of-lt, same_blocks},
+}
 use Rattle.macsec_aes_lanes.proofs.wide_state.blocks_of.Goals as goal
 
 pub returns-clause-blocks : goal.returns-clause-blocks

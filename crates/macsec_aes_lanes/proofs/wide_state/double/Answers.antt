@@ -1,7 +1,8 @@
-use Rattle.std.proofs.Common.{refl}
-use Rattle.macsec_aes.specs.Field.{byte_product}
-use Rattle.macsec_aes_lanes.proofs.Gates.{circuit, lanes}
-use Rattle.macsec_aes_lanes.proofs.Octets.{gates_of_double, computes_double}
+use Rattle.macsec_aes_lanes.proofs.{
+  Names.{byte_product, refl},
+  Gates.{circuit, lanes},
+  Octets.{gates_of_double, computes_double},
+}
 use Rattle.macsec_aes_lanes.proofs.wide_state.double.Goals as goal
 
 pub returns : goal.returns

@@ -1,10 +1,9 @@
-use Rattle.std.proofs.Common.{◌≡◌, ◌+◌, ◌*◌, ◌∙◌, List, ℕ, [], ◌∷◌, ap, refl, slice_index}
-use Rattle.std.specs.Int.{bit_at}
-use Rattle.macsec_aes_lanes.specs.Lanes.{lane_at, lane_of}
-use Rattle.macsec_aes_lanes.specs.Planes.{bit_of}
-use Rattle.macsec_aes_lanes.proofs.Below.{below_two, below_eight}
-use Rattle.macsec_aes_lanes.proofs.Octets.{lane_of-lt}
-use Rattle.macsec_aes_lanes.proofs.WordSets.{same_bits}
+use Rattle.macsec_aes_lanes.proofs.{
+  Names.{[], ◌*◌, ◌+◌, ◌∙◌, ◌∷◌, ◌≡◌, ap, bit_at, bit_of, lane_at, lane_of, List, refl, slice_index, ℕ},
+  Below.{below_two, below_eight},
+  Octets.lane_of-lt,
+  WordSets.same_bits,
+}
 use Rattle.macsec_aes_lanes.proofs.wide_state.in_halves.Goals as goal
 
 pub returns : goal.returns

@@ -1,12 +1,10 @@
-use Rattle.std.proofs.Common.{◌≡◌, ◌+◌, ◌*◌, ◌/◌, ◌%◌, ◌<◌, ◌∙◌, ℕ, arith}
-use Rattle.macsec_aes.specs.Aes.{mix_columns, mixed_entry}
-use Rattle.macsec_aes.proofs.States.{place}
-use Rattle.macsec_aes_lanes.specs.Lanes.{lane_of, rows_below}
-use Rattle.macsec_aes_lanes.specs.Planes.{octet}
-use Rattle.macsec_aes_lanes.specs.Wide.{block_in_half, byte_in_half}
-use Rattle.macsec_aes_lanes.proofs.Gates.{lanes, number-lt}
-use Rattle.macsec_aes_lanes.proofs.Halves.{byte_in_lane_of_half, byte_of_half, half-lt}
-use Rattle.macsec_aes_lanes.proofs.Octets.{lane_of-lt, mixed, same_blocks}
+use Rattle.macsec_aes_lanes.proofs.{
+  Names.{◌%◌, ◌*◌, ◌+◌, ◌/◌, ◌<◌, ◌∙◌, ◌≡◌, arith, block_in_half, byte_in_half, lane_of, mix_columns, mixed_entry},
+  Names.{octet, place, rows_below, ℕ},
+  Gates.{lanes, number-lt},
+  Halves.{byte_in_lane_of_half, byte_of_half, half-lt},
+  Octets.{lane_of-lt, mixed, same_blocks},
+}
 use Rattle.macsec_aes_lanes.proofs.wide_state.mix_columns.Goals as goal
 
 -- the byte n rows below byte m

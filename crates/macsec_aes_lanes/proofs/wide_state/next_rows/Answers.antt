@@ -1,4 +1,4 @@
-use Rattle.std.proofs.Common.{refl}
+use Rattle.macsec_aes_lanes.proofs.Names.{refl}
 use Rattle.macsec_aes_lanes.proofs.wide_state.next_rows.Goals as goal
 
 pub returns : goal.returns

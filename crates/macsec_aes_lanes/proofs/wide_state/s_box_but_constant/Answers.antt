@@ -1,10 +1,9 @@
-use Rattle.std.proofs.Common.{◌≡◌, ◌+◌, ◌*◌, ◌/◌, ◌%◌, ◌<◌, ◌∙◌, List, ℕ, [], ◌∷◌, ap, ap₂, arith, slice_index}
-use Rattle.std.specs.Int.{bit_at}
-use Rattle.macsec_aes.specs.Field.{s_box}
-use Rattle.macsec_aes_lanes.specs.AffineConstant.{plus_constant}
-use Rattle.macsec_aes_lanes.specs.Planes.{bit_of}
-use Rattle.macsec_aes_lanes.proofs.Below.{below_eight}
-use Rattle.macsec_aes_lanes.proofs.WordSets.{same_bits}
+use Rattle.macsec_aes_lanes.proofs.{
+  Names.{[], ◌%◌, ◌*◌, ◌+◌, ◌/◌, ◌<◌, ◌∙◌, ◌∷◌, ◌≡◌, ap, ap₂, arith, bit_at, bit_of, List, plus_constant, s_box},
+  Names.{slice_index, ℕ},
+  Below.below_eight,
+  WordSets.same_bits,
+}
 use Rattle.macsec_aes_lanes.proofs.wide_state.s_box_but_constant.Goals as goal
 
 pub returns : goal.returns

@@ -1,9 +1,9 @@
-use Rattle.std.proofs.Common.{◌≡◌, ◌+◌, ◌*◌, ◌/◌, ◌%◌, ◌<◌, List, ℕ, [], ◌∷◌, arith, sym, slice_index}
-use Rattle.macsec_aes.specs.Aes.{shift_rows}
-use Rattle.macsec_aes_lanes.specs.Lanes.{columns_right, lane_of}
-use Rattle.macsec_aes_lanes.specs.Wide.{block_in_half, byte_in_half}
-use Rattle.macsec_aes_lanes.proofs.Halves.{byte_in_lane_of_half}
-use Rattle.macsec_aes_lanes.proofs.Octets.{lane_of-lt, same_blocks}
+use Rattle.macsec_aes_lanes.proofs.{
+  Names.{[], ◌%◌, ◌*◌, ◌+◌, ◌/◌, ◌<◌, ◌∷◌, ◌≡◌, arith, block_in_half, byte_in_half, columns_right, lane_of, List},
+  Names.{shift_rows, slice_index, sym, ℕ},
+  Halves.byte_in_lane_of_half,
+  Octets.{lane_of-lt, same_blocks},
+}
 use Rattle.macsec_aes_lanes.proofs.wide_state.shift_rows.Goals as goal
 
 pub returns : goal.returns

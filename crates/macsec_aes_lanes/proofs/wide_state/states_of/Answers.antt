@@ -1,8 +1,9 @@
-use Rattle.std.proofs.Common.{◌≡◌, ◌+◌, ◌*◌, ◌∙◌, List, ℕ, [], ◌∷◌, ap, arith, slice_index_or}
-use Rattle.macsec_aes_lanes.specs.Lanes.{lane_at, lane_of}
-use Rattle.macsec_aes_lanes.proofs.Below.{below_two, below_eight}
-use Rattle.macsec_aes_lanes.proofs.Halves.{half-lt}
-use Rattle.macsec_aes_lanes.proofs.Octets.{lane_of-lt}
+use Rattle.macsec_aes_lanes.proofs.{
+  Names.{[], ◌*◌, ◌+◌, ◌∙◌, ◌∷◌, ◌≡◌, ap, arith, lane_at, lane_of, List, slice_index_or, ℕ},
+  Below.{below_two, below_eight},
+  Halves.half-lt,
+  Octets.lane_of-lt,
+}
 use Rattle.macsec_aes_lanes.proofs.wide_state.states_of.Goals as goal
 
 pub returns : goal.returns

@@ -1,13 +1,10 @@
-use Rattle.std.proofs.Common.{◌∙◌, ◌+◌, ◌*◌, ◌/◌, ◌%◌, ℕ, ap, slice_index, sym}
-use Rattle.macsec_aes.specs.Aes.{sub_bytes}
-use Rattle.macsec_aes.specs.Field.{s_box}
-use Rattle.macsec_aes.proofs.States.{place}
-use Rattle.macsec_aes_lanes.specs.AffineConstant.{plus_constant, with_constant}
-use Rattle.macsec_aes_lanes.specs.Lanes.{lane_of}
-use Rattle.macsec_aes_lanes.specs.Wide.{block_in_half, byte_in_half}
-use Rattle.macsec_aes_lanes.proofs.ConstantKept.{byte_substituted}
-use Rattle.macsec_aes_lanes.proofs.Halves.{byte_of_half, half-lt}
-use Rattle.macsec_aes_lanes.proofs.Octets.{lane_of-lt, same_blocks}
+use Rattle.macsec_aes_lanes.proofs.{
+  Names.{◌%◌, ◌*◌, ◌+◌, ◌/◌, ◌∙◌, ap, block_in_half, byte_in_half, lane_of, place, plus_constant, s_box, slice_index},
+  Names.{sub_bytes, sym, with_constant, ℕ},
+  ConstantKept.byte_substituted,
+  Halves.{byte_of_half, half-lt},
+  Octets.{lane_of-lt, same_blocks},
+}
 use Rattle.macsec_aes_lanes.proofs.wide_state.sub_bytes_but_constant.Goals as goal
 
 pub returns : goal.returns

@@ -1,6 +1,4 @@
-use Rattle.std.proofs.Common.{refl}
-use Rattle.macsec_aes_lanes.proofs.Gates.{lanes}
-use Rattle.macsec_aes_lanes.proofs.Octets.{sum_of_bits_at}
+use Rattle.macsec_aes_lanes.proofs.{Names.refl, Gates.lanes, Octets.sum_of_bits_at}
 use Rattle.macsec_aes_lanes.proofs.wide_state.sum.Goals as goal
 
 pub returns : goal.returns

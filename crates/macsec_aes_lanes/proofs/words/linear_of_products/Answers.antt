@@ -1,10 +1,8 @@
-use Rattle.std.proofs.Common.{List, ℕ, refl, map, slice_index}
-use Rattle.std.specs.List.{range_with_len}
-use Rattle.macsec_aes_lanes.specs.Tower.{products}
-use Rattle.macsec_aes_lanes.specs.AffineConstant.{plus_constant}
-use Rattle.macsec_aes.specs.Field.{s_box}
-use Rattle.macsec_aes_lanes.proofs.Gates.{bits_are, bits_of, circuit_from}
-use Rattle.macsec_aes_lanes.proofs.TowerGates.{gates_of_linear_of_products, computes_linear}
+use Rattle.macsec_aes_lanes.proofs.{
+  Names.{List, map, plus_constant, products, range_with_len, refl, s_box, slice_index, ℕ},
+  Gates.{bits_are, bits_of, circuit_from},
+  TowerGates.{gates_of_linear_of_products, computes_linear},
+}
 use Rattle.macsec_aes_lanes.proofs.words.linear_of_products.Goals as goal
 
 abbrev planes : ℕ → List ℕ → List ℕ

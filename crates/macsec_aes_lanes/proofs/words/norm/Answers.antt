@@ -1,8 +1,8 @@
-use Rattle.std.proofs.Common.{List, ℕ, refl, map, slice_index}
-use Rattle.std.specs.List.{range_with_len}
-use Rattle.macsec_aes_lanes.specs.Tower.{sums, norm}
-use Rattle.macsec_aes_lanes.proofs.Gates.{bits_are, bits_of, circuit_from}
-use Rattle.macsec_aes_lanes.proofs.TowerGates.{gates_of_norm, computes_norm}
+use Rattle.macsec_aes_lanes.proofs.{
+  Names.{List, map, norm, range_with_len, refl, slice_index, sums, ℕ},
+  Gates.{bits_are, bits_of, circuit_from},
+  TowerGates.{gates_of_norm, computes_norm},
+}
 use Rattle.macsec_aes_lanes.proofs.words.norm.Goals as goal
 
 abbrev planes : ℕ → List ℕ → List ℕ

@@ -1,8 +1,8 @@
-use Rattle.std.proofs.Common.{◌++◌, ap₂, List, ℕ, refl, map, slice_index}
-use Rattle.std.specs.List.{range_with_len}
-use Rattle.macsec_aes_lanes.specs.Tower.{sums, norm, nibble_inverse, products}
-use Rattle.macsec_aes_lanes.proofs.Gates.{bits_are, bits_of, circuit_from}
-use Rattle.macsec_aes_lanes.proofs.TowerGates.{gates_of_products, computes_products}
+use Rattle.macsec_aes_lanes.proofs.{
+  Names.{◌++◌, ap₂, List, map, nibble_inverse, norm, products, range_with_len, refl, slice_index, sums, ℕ},
+  Gates.{bits_are, bits_of, circuit_from},
+  TowerGates.{gates_of_products, computes_products},
+}
 use Rattle.macsec_aes_lanes.proofs.words.products.Goals as goal
 
 abbrev planes : ℕ → List ℕ → List ℕ

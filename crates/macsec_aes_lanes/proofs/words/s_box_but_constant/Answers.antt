@@ -1,8 +1,7 @@
-use Rattle.std.proofs.Common.{◌∙◌, ap, List, ℕ, map, slice_index}
-use Rattle.std.specs.List.{range_with_len}
-use Rattle.macsec_aes_lanes.specs.Planes.{number}
-use Rattle.macsec_aes_lanes.specs.Tower.{nibble_inverse}
-use Rattle.macsec_aes_lanes.proofs.Gates.{bits_at, number-lt}
+use Rattle.macsec_aes_lanes.proofs.{
+  Names.{◌∙◌, ap, List, map, nibble_inverse, number, range_with_len, slice_index, ℕ},
+  Gates.{bits_at, number-lt},
+}
 use Rattle.macsec_aes_lanes.proofs.words.s_box_but_constant.Goals as goal
 
 abbrev planes : ℕ → List ℕ → List ℕ

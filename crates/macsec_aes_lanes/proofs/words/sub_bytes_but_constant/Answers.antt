@@ -1,7 +1,8 @@
-use Rattle.std.proofs.Common.{◌≡◌, ◌<◌, ◌∙◌, arith, inl, inr, refl}
-use Rattle.std.proofs.lemmas.Bool.{cases_lt}
-use Rattle.macsec_aes_lanes.proofs.Below.{below_eight}
-use Rattle.macsec_aes_lanes.proofs.WordSets.{other_word, own_word, still_four}
+use Rattle.macsec_aes_lanes.proofs.{
+  Names.{◌<◌, ◌∙◌, ◌≡◌, arith, cases_lt, inl, inr, refl},
+  Below.below_eight,
+  WordSets.{other_word, own_word, still_four},
+}
 use Rattle.macsec_aes_lanes.proofs.words.sub_bytes_but_constant.Goals as goal
 
 pub loop-l-init : goal.loop-l-init

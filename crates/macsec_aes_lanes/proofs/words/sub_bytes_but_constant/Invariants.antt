@@ -1,8 +1,4 @@
-use Rattle.std.proofs.Common.{◌≡◌, ◌<◌, ℕ, [], ◌∷◌}
-use Rattle.macsec_aes.specs.Field.{s_box}
-use Rattle.macsec_aes_lanes.specs.AffineConstant.{plus_constant}
-use Rattle.macsec_aes_lanes.specs.Planes.{octet}
-use Rattle.macsec_aes_lanes.proofs.WordSets.{AreFour}
+use Rattle.macsec_aes_lanes.proofs.{Names.{[], ◌<◌, ◌∷◌, ◌≡◌, octet, plus_constant, s_box, ℕ}, WordSets.AreFour}
 use Rattle.macsec_aes_lanes.proofs.words.sub_bytes_but_constant.Given as goal
 
 -- the words before this one are done

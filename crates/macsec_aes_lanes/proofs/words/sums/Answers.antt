@@ -1,8 +1,8 @@
-use Rattle.std.proofs.Common.{List, ℕ, refl, map, slice_index}
-use Rattle.std.specs.List.{range_with_len}
-use Rattle.macsec_aes_lanes.specs.Tower.{sums}
-use Rattle.macsec_aes_lanes.proofs.Gates.{circuit}
-use Rattle.macsec_aes_lanes.proofs.TowerGates.{gates_of_sums, computes_sums}
+use Rattle.macsec_aes_lanes.proofs.{
+  Names.{List, map, range_with_len, refl, slice_index, sums, ℕ},
+  Gates.circuit,
+  TowerGates.{gates_of_sums, computes_sums},
+}
 use Rattle.macsec_aes_lanes.proofs.words.sums.Goals as goal
 
 abbrev planes : ℕ → List ℕ → List ℕ

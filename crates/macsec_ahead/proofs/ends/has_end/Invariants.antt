@@ -1,5 +1,4 @@
-use Rattle.std.proofs.Common.{◌≡◌, drop}
-use Rattle.macsec_ahead.specs.Ends.{has_end}
+use Rattle.{std.proofs.Common.{◌≡◌, drop}, macsec_ahead.specs.Ends.has_end}
 use Rattle.macsec_ahead.proofs.ends.has_end.Given as goal
 
 -- none before the index is the SA's

@@ -1,5 +1,4 @@
-use Rattle.std.proofs.Common.{◌≡◌, take}
-use Rattle.macsec_ahead.specs.Ends.{last_end}
+use Rattle.{std.proofs.Common.{◌≡◌, take}, macsec_ahead.specs.Ends.last_end}
 use Rattle.macsec_ahead.proofs.ends.last_end.Given as goal
 
 abbrev pub invariant-loop-e : goal.invariant-loop-e

@@ -1,7 +1,7 @@
-use Rattle.std.proofs.Common.{arith}
-use Rattle.std.proofs.lemmas.List.{get_or_default}
-use Rattle.std.proofs.lemmas.List.Edits.{map_over_more}
-use Rattle.macsec_ahead.specs.Ends.{sa_raised}
+use Rattle.{
+  std.proofs.{Common.arith, lemmas.List.{get_or_default, Edits.map_over_more}},
+  macsec_ahead.specs.Ends.sa_raised,
+}
 use Rattle.macsec_ahead.proofs.ends.raise_entries.Goals as goal
 
 pub loop-e-preserved : goal.loop-e-preserved

@@ -1,5 +1,4 @@
-use Rattle.std.proofs.Common.{◌≡◌, ◌++◌, map, take, drop}
-use Rattle.macsec_ahead.specs.Ends.{sa_raised}
+use Rattle.{std.proofs.Common.{◌≡◌, ◌++◌, map, take, drop}, macsec_ahead.specs.Ends.sa_raised}
 use Rattle.macsec_ahead.proofs.ends.raise_entries.Given as goal
 
 -- the entries before the index are raised, and the others are unchanged

@@ -1,5 +1,4 @@
-use Rattle.std.proofs.Common.{◌≡◌, ◌++◌, map, take, drop}
-use Rattle.macsec_ahead.specs.Ends.{key_raised}
+use Rattle.{std.proofs.Common.{◌≡◌, ◌++◌, map, take, drop}, macsec_ahead.specs.Ends.key_raised}
 use Rattle.macsec_ahead.proofs.ends.raise_keys.Given as goal
 
 -- the entries before the index are raised, and the others are unchanged

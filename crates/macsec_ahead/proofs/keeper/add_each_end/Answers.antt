@@ -1,5 +1,4 @@
-use Rattle.std.proofs.Common.{◌∙◌}
-use Rattle.macsec_ahead.proofs.LastEnds.{ends_one_more}
+use Rattle.{std.proofs.Common.{◌∙◌}, macsec_ahead.proofs.LastEnds.ends_one_more}
 use Rattle.macsec_ahead.proofs.keeper.add_each_end.Goals as goal
 
 pub loop-row-preserved : goal.loop-row-preserved

@@ -1,5 +1,4 @@
-use Rattle.std.proofs.Common.{◌≡◌, drop}
-use Rattle.macsec_ahead.specs.Ends.{ends_among, with_ends}
+use Rattle.{std.proofs.Common.{◌≡◌, drop}, macsec_ahead.specs.Ends.{ends_among, with_ends}}
 use Rattle.macsec_ahead.proofs.keeper.add_each_end.Given as goal
 
 -- the table with the ends of the other SAs is the table with all of them

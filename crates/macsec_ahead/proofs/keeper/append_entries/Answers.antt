@@ -1,6 +1,4 @@
-use Rattle.std.proofs.Common.{arith}
-use Rattle.macsec_ahead.specs.Ahead.{entry_for}
-use Rattle.macsec_ahead.proofs.Entries.{one_more}
+use Rattle.{std.proofs.Common.arith, macsec_ahead.{proofs.Entries.one_more, specs.Ahead.entry_for}}
 use Rattle.macsec_ahead.proofs.keeper.append_entries.Goals as goal
 
 pub loop-row-preserved : goal.loop-row-preserved

@@ -1,6 +1,7 @@
-use Rattle.std.proofs.Common.{◌≡◌, ◌≤◌, ◌+◌, ◌++◌, length, map, take}
-use Rattle.std.specs.Prelude.{vec_capacity, vec_len}
-use Rattle.macsec_ahead.specs.Ahead.{entry_for}
+use Rattle.{
+  std.proofs.Common.{◌≡◌, ◌≤◌, ◌+◌, ◌++◌, length, map, take, vec_capacity, vec_len},
+  macsec_ahead.specs.Ahead.entry_for,
+}
 use Rattle.macsec_ahead.proofs.keeper.append_entries.Given as goal
 
 -- the entries so far, and space for the others

@@ -1,6 +1,7 @@
-use Rattle.std.proofs.Common.{◌≡◌, ◌≤◌, ◌+◌, ◌++◌, length, map, take}
-use Rattle.std.specs.Prelude.{vec_capacity, vec_len}
-use Rattle.macsec_ahead.specs.Limits.{limits_for}
+use Rattle.{
+  std.proofs.Common.{◌≡◌, ◌≤◌, ◌+◌, ◌++◌, length, map, take, vec_capacity, vec_len},
+  macsec_ahead.specs.Limits.limits_for,
+}
 use Rattle.macsec_ahead.proofs.keeper.append_limits.Given as goal
 
 -- the limits so far, and space for the others

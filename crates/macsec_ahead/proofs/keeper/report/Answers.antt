@@ -1,9 +1,10 @@
 -- Each SA has an entry, and a report raises the entries with its name.
-use Rattle.std.proofs.Common.{◌≡◌, ◌++◌, length, map, ap, ◌∙◌, arith}
-use Rattle.std.proofs.lemmas.List.{length-map, with_items_is}
-use Rattle.macsec_secy.specs.State.{State}
-use Rattle.macsec_reserve.specs.Entries.{raised_by}
-use Rattle.macsec_ahead.specs.Ahead.{entry_for}
+use Rattle.{
+  std.proofs.{Common.{◌≡◌, ◌++◌, length, map, ap, ◌∙◌, arith}, lemmas.List.{length-map, with_items_is}},
+  macsec_secy.specs.State.State,
+  macsec_reserve.specs.Entries.raised_by,
+  macsec_ahead.specs.Ahead.entry_for,
+}
 use Rattle.macsec_ahead.proofs.keeper.report.Goals as goal
 
 pub returns-clause-items : goal.returns-clause-items

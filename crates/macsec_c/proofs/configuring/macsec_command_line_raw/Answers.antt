@@ -1,6 +1,8 @@
-use Rattle.std.proofs.Common.{rules}
-use Rattle.std.specs.Prelude.{Err}
-use Rattle.macsec_script_parser.specs.declared.lines.LineFault.TheVariants.{Memory}
+use Rattle.{
+  std.proofs.Common.Err,
+  macsec_script_parser.specs.declared.lines.LineFault.TheVariants.Memory,
+  macsec_c.proofs.Names.rules,
+}
 use Rattle.macsec_c.proofs.configuring.macsec_command_line_raw.Goals as goal
 
 -- without an endpoint nothing is read

@@ -1,6 +1,5 @@
 -- The buffer is too small: no answer to a command needs more than the smallest buffer has.
-use Rattle.std.proofs.Common.{◌<◌, ℕ, length, refl, subst, sym}
-use Rattle.macsec_c_calls.proofs.Short.{command_needs}
+use Rattle.{std.proofs.Common.{◌<◌, ℕ, length, refl, subst, sym}, macsec_c_calls.proofs.Short.command_needs}
 use Rattle.macsec_c_calls.proofs.answering.answer_command.Goals as goal
 
 pub returns-then-out-lt-MIN_ANSWER_LEN : goal.returns-then-out-lt-MIN_ANSWER_LEN

@@ -1,6 +1,5 @@
 -- By case: each arm by the definition at its value.
-use Rattle.std.proofs.Common.{ap, sym}
-use Rattle.macsec_c_calls.specs.Arguments.{mode_of}
+use Rattle.{std.proofs.Common.{ap, sym}, macsec_c_calls.specs.Arguments.mode_of}
 use Rattle.macsec_c_calls.proofs.arguments.mode_of.Goals as goal
 
 pub returns-in-0 : goal.returns-in-0

@@ -1,6 +1,4 @@
-use Rattle.std.proofs.Common.{arith}
-use Rattle.std.proofs.lemmas.Grind.{common_steps}
-use Rattle.macsec_c_calls.proofs.Commanded.{one_more}
+use Rattle.{std.proofs.{Common.arith, lemmas.Grind.common_steps}, macsec_c_calls.proofs.Commanded.one_more}
 use Rattle.macsec_c_calls.proofs.configuring.carry_out_lines.Goals as goal
 
 pub loop-n-preserved : goal.loop-n-preserved

@@ -1,5 +1,4 @@
-use Rattle.std.proofs.Common.{◌≡◌, drop}
-use Rattle.macsec_c_calls.specs.Texts.{carried_out}
+use Rattle.{std.proofs.Common.{◌≡◌, drop}, macsec_c_calls.specs.Texts.carried_out}
 use Rattle.macsec_c_calls.proofs.configuring.carry_out_lines.Given as goal
 
 -- the remaining commands, from here, give what all commands give

@@ -1,5 +1,4 @@
-use Rattle.macsec_c_calls.specs.Texts.{created_alone}
-use Rattle.macsec_c_calls.proofs.Commanded.{configured_by}
+use Rattle.macsec_c_calls.{proofs.Commanded.configured_by, specs.Texts.created_alone}
 use Rattle.macsec_c_calls.proofs.configuring.configured.Goals as goal
 
 pub returns : goal.returns

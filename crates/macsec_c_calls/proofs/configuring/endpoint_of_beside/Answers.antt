@@ -1,8 +1,9 @@
 -- The endpoint is opened with the journal, and the commands are carried out. This proof is here so that a wrong body
 -- is refused quickly.
-use Rattle.std.proofs.Common.{ap, ◌∙◌, rules}
-use Rattle.macsec_c_calls.specs.Texts.{carried_out}
-use Rattle.macsec_c_calls.proofs.Commanded.{opened_beside}
+use Rattle.{
+  std.proofs.Common.{ap, ◌∙◌, rules},
+  macsec_c_calls.{proofs.Commanded.opened_beside, specs.Texts.carried_out},
+}
 use Rattle.macsec_c_calls.proofs.configuring.endpoint_of_beside.Goals as goal
 
 pub returns : goal.returns

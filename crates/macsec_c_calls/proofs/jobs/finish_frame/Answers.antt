@@ -1,11 +1,10 @@
 -- The call answers as the step does.
-use Rattle.std.proofs.Common.{◌≡◌, ap, false, refl, rules, true, ◌∙◌}
-use Rattle.std.specs.Prelude.{length, nat_lt}
-use Rattle.std.proofs.lemmas.Bool.{le-ltb, lt-ltb}
-use Rattle.macsec_tag.specs.Limits.{max_frame_len}
-use Rattle.macsec_jobs.specs.Slots.{is_received}
-use Rattle.macsec_c_calls.specs.ReceivedParts.{parts_of_ahead}
-use Rattle.macsec_c_calls.proofs.JobSteps.{finishes, no_frame, no_space}
+use Rattle.{
+  std.proofs.Common.{◌≡◌, ap, false, refl, rules, true, ◌∙◌, length, nat_lt, le-ltb, lt-ltb},
+  macsec_tag.specs.Limits.max_frame_len,
+  macsec_jobs.specs.Slots.is_received,
+  macsec_c_calls.{proofs.JobSteps.{finishes, no_frame, no_space}, specs.ReceivedParts.parts_of_ahead},
+}
 use Rattle.macsec_c_calls.proofs.jobs.finish_frame.Goals as goal
 
 pub returns-then-not-is_received : goal.returns-then-not-is_received

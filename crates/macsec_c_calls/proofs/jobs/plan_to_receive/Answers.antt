@@ -1,8 +1,9 @@
 -- The slot has the frame, with the opening that it needs.
-use Rattle.std.proofs.Common.{◌≡◌, ap, false, rules, true, ◌∙◌}
-use Rattle.macsec_jobs.specs.Slots.{is_idle}
-use Rattle.macsec_c_calls.specs.Jobs.{taken_as}
-use Rattle.macsec_c_calls.proofs.JobSteps.{busy_takes, idle_takes, takes}
+use Rattle.{
+  std.proofs.Common.{◌≡◌, ap, false, rules, true, ◌∙◌},
+  macsec_jobs.specs.Slots.is_idle,
+  macsec_c_calls.{proofs.JobSteps.{busy_takes, idle_takes, takes}, specs.Jobs.taken_as},
+}
 use Rattle.macsec_c_calls.proofs.jobs.plan_to_receive.Goals as goal
 
 pub returns-then-not-is_idle : goal.returns-then-not-is_idle

@@ -1,8 +1,9 @@
 -- The call answers as the step does.
-use Rattle.std.proofs.Common.{◌≡◌, ap, false, rules, true, ◌∙◌}
-use Rattle.macsec_jobs.specs.Slots.{is_idle}
-use Rattle.macsec_c_calls.specs.Jobs.{planned_for}
-use Rattle.macsec_c_calls.proofs.JobSteps.{busy_plans, idle_plans, plans}
+use Rattle.{
+  std.proofs.Common.{◌≡◌, ap, false, rules, true, ◌∙◌},
+  macsec_jobs.specs.Slots.is_idle,
+  macsec_c_calls.{proofs.JobSteps.{busy_plans, idle_plans, plans}, specs.Jobs.planned_for},
+}
 use Rattle.macsec_c_calls.proofs.jobs.plan_to_send.Goals as goal
 
 pub returns-then-not-is_idle : goal.returns-then-not-is_idle

@@ -1,7 +1,6 @@
 -- By search, once what the record's octets reserve is named. These proofs are here so that a wrong body is refused
 -- quickly.
-use Rattle.std.proofs.Common.{ap, ◌∙◌, rules}
-use Rattle.macsec_c_calls.specs.Reserving.{reported}
+use Rattle.{std.proofs.Common.{ap, ◌∙◌, rules}, macsec_c_calls.specs.Reserving.reported}
 use Rattle.macsec_c_calls.proofs.reserving.note_durable.Goals as goal
 
 pub returns-in-None : goal.returns-in-None

@@ -1,7 +1,8 @@
 -- Which fault there is; the rest by search.
-use Rattle.std.proofs.Common.{rules}
-use Rattle.std.specs.Prelude.{Some, None}
-use Rattle.macsec_reserve.specs.declared.compaction.CompactFault.TheVariants.{NotJournal, Memory}
+use Rattle.{
+  std.proofs.Common.{rules, Some, None},
+  macsec_reserve.specs.declared.compaction.CompactFault.TheVariants.{NotJournal, Memory},
+}
 use Rattle.macsec_c_calls.proofs.reserving.write_compacted.Goals as goal
 
 pub returns-then-not-is_journal : goal.returns-then-not-is_journal

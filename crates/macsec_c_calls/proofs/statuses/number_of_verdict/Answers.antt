@@ -1,6 +1,5 @@
 -- By case: each arm by the definition at its value.
-use Rattle.std.proofs.Common.{ap, sym}
-use Rattle.macsec_c_calls.specs.Statuses.{number_of_verdict}
+use Rattle.{std.proofs.Common.{ap, sym}, macsec_c_calls.specs.Statuses.number_of_verdict}
 use Rattle.macsec_c_calls.proofs.statuses.number_of_verdict.Goals as goal
 
 pub returns-in-Untagged : goal.returns-in-Untagged

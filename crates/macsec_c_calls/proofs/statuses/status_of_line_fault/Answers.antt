@@ -1,6 +1,5 @@
 -- By case: each arm by the definition at its value.
-use Rattle.std.proofs.Common.{ap, sym}
-use Rattle.macsec_c_calls.specs.Statuses.{status_of_line_fault}
+use Rattle.{std.proofs.Common.{ap, sym}, macsec_c_calls.specs.Statuses.status_of_line_fault}
 use Rattle.macsec_c_calls.proofs.statuses.status_of_line_fault.Goals as goal
 
 pub returns-in-Word : goal.returns-in-Word

@@ -1,5 +1,4 @@
-use Rattle.std.proofs.Common.{arith}
-use Rattle.macsec_capture.proofs.Carried.{one_more}
+use Rattle.{std.proofs.Common.arith, macsec_capture.proofs.Carried.one_more}
 use Rattle.macsec_capture.proofs.commands.run_commands.Goals as goal
 
 pub loop-n-preserved : goal.loop-n-preserved

@@ -1,7 +1,8 @@
-use Rattle.std.proofs.Common.{drop}
-use Rattle.macsec_secy.specs.Sound.{IsSound}
-use Rattle.macsec_capture.specs.Captured.{commands_part}
-use Rattle.macsec_capture.proofs.Carried.{IsOnTheWay}
+use Rattle.{
+  std.proofs.Common.drop,
+  macsec_secy.specs.Sound.IsSound,
+  macsec_capture.{proofs.Carried.IsOnTheWay, specs.Captured.commands_part},
+}
 use Rattle.macsec_capture.proofs.commands.run_commands.Given as goal
 
 -- what was printed, followed by the text of the remaining commands, is the whole

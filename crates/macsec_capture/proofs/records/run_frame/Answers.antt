@@ -1,7 +1,8 @@
-use Rattle.std.proofs.Common.{◌∙◌, ap}
-use Rattle.macsec_secy.specs.Step.{client_frame, link_frame}
-use Rattle.macsec_capture.specs.Captured.{frame_of_output}
-use Rattle.macsec_capture.proofs.Lengths.{fits_record}
+use Rattle.{
+  std.proofs.Common.{◌∙◌, ap},
+  macsec_secy.specs.Step.{client_frame, link_frame},
+  macsec_capture.{proofs.Lengths.fits_record, specs.Captured.frame_of_output},
+}
 use Rattle.macsec_capture.proofs.records.run_frame.Goals as goal
 
 pub write_frame-requires-clause-fits : goal.write_frame-requires-clause-fits

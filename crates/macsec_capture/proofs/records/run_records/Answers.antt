@@ -1,11 +1,8 @@
-use Rattle.std.proofs.Common.{◌≡◌, ◌∙◌, ap, arith, refl, rules, subst}
-use Rattle.std.proofs.lemmas.Result.{err_from_is_err_and}
-use Rattle.std.specs.Prelude.{None, Ok, Some}
-use Rattle.macsec_pcap.specs.Answers.{answer_of}
-use Rattle.macsec_pcap.specs.Reading.{Answers, IsAfter}
-use Rattle.macsec_pcap.specs.Writing.{contents}
-use Rattle.macsec_capture.specs.Runs.{Written}
-use Rattle.macsec_capture.proofs.Taken.{none_taken, taken_end, taken_fault, taken_more, taken_write}
+use Rattle.{
+  std.proofs.{Common.{◌≡◌, ◌∙◌, ap, arith, refl, rules, subst, None, Ok, Some}, lemmas.Result.err_from_is_err_and},
+  macsec_pcap.specs.{Answers.answer_of, Reading.{Answers, IsAfter}, Writing.contents},
+  macsec_capture.{proofs.Taken.{none_taken, taken_end, taken_fault, taken_more, taken_write}, specs.Runs.Written},
+}
 use Rattle.macsec_capture.proofs.records.run_records.Goals as goal
 
 pub loop-k-init : goal.loop-k-init

@@ -1,8 +1,9 @@
-use Rattle.std.proofs.Common.{◌≡◌, ◌+◌}
-use Rattle.std.specs.Prelude.{None}
-use Rattle.macsec_secy.specs.Sound.{IsSound}
-use Rattle.macsec_pcap.specs.Writing.{contents, fault_of, lent}
-use Rattle.macsec_capture.proofs.Taken.{AreTaken}
+use Rattle.{
+  std.proofs.Common.{◌≡◌, ◌+◌, None},
+  macsec_secy.specs.Sound.IsSound,
+  macsec_pcap.specs.Writing.{contents, fault_of, lent},
+  macsec_capture.proofs.Taken.AreTaken,
+}
 use Rattle.macsec_capture.proofs.records.run_records.Given as goal
 
 -- the records before number k were taken, and the reader has k places fewer

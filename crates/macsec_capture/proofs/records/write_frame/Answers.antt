@@ -1,10 +1,8 @@
 -- What a write without a fault has written. It is proved by case: a mutant that ignores the fault is refused quickly.
-use Rattle.std.proofs.Common.{◌≡◌, ℕ, List, rules}
-use Rattle.std.specs.Prelude.{Option, Some, None, Result, Ok, Err}
-use Rattle.std.specs.Io.KnownBytes.{Appends}
-use Rattle.macsec_pcap.specs.declared.fault.PcapFault.{PcapFault}
-use Rattle.macsec_pcap.specs.Writing.{Writes}
-use Rattle.macsec_pcap.specs.Written.{record_octets}
+use Rattle.{
+  std.{proofs.Common.{◌≡◌, ℕ, List, rules, Option, Some, None, Result, Ok, Err}, specs.Io.KnownBytes.Appends},
+  macsec_pcap.specs.{Writing.Writes, Written.record_octets, declared.fault.PcapFault.PcapFault},
+}
 use Rattle.macsec_capture.proofs.records.write_frame.Goals as goal
 
 one_written : (fault : Option PcapFault) (old new : Option (List ℕ)) (seconds fraction : ℕ) (frame : List ℕ)

@@ -1,5 +1,7 @@
-use Rattle.std.proofs.lemmas.Result.{err_from_is_err_and}
-use Rattle.macsec_capture.proofs.Configured.{left_both, no_text, of_text, some_text, unread}
+use Rattle.{
+  std.proofs.lemmas.Result.err_from_is_err_and,
+  macsec_capture.proofs.Configured.{left_both, no_text, of_text, some_text, unread},
+}
 use Rattle.macsec_capture.proofs.running.run_capture.Goals as goal
 
 pub returns-in_err-config-clause-run : goal.returns-in_err-config-clause-run

@@ -1,7 +1,8 @@
-use Rattle.std.proofs.Common.{◌≡◌, rules}
-use Rattle.std.proofs.lemmas.Result.{err_from_is_err_and}
-use Rattle.macsec_capture.specs.Runs.{known}
-use Rattle.macsec_capture.proofs.Configured.{is_parsed, judged, left_both, misjudged, parsed_known, parsed_some, unparsed, unparsed_some}
+use Rattle.std.proofs.{Common.{◌≡◌, rules}, lemmas.Result.err_from_is_err_and}
+use Rattle.macsec_capture.{
+  proofs.Configured.{is_parsed, judged, left_both, misjudged, parsed_known, parsed_some, unparsed, unparsed_some},
+  specs.Runs.known,
+}
 use Rattle.macsec_capture.proofs.running.run_config.Goals as goal
 
 pub returns-in_err-config-clause-config : goal.returns-in_err-config-clause-config

@@ -1,7 +1,8 @@
 use Rattle.std.proofs.lemmas.Result.{err_from_is_err_and}
-use Rattle.macsec_capture.specs.Outputs.{written}
-use Rattle.macsec_capture.proofs.Configured.{after_config, unmade}
-use Rattle.macsec_capture.proofs.Whole.{configured_gives, configured_some, unprinted, unprinted_some}
+use Rattle.macsec_capture.{
+  proofs.{Configured.{after_config, unmade}, Whole.{configured_gives, configured_some, unprinted, unprinted_some}},
+  specs.Outputs.written,
+}
 use Rattle.macsec_capture.proofs.running.run_configured.Goals as goal
 
 pub returns-in_err-run_commands-clause-run : goal.returns-in_err-run_commands-clause-run

@@ -1,6 +1,7 @@
-use Rattle.std.proofs.lemmas.Result.{err_from_is_err_and}
-use Rattle.std.specs.Prelude.{Ok}
-use Rattle.macsec_capture.proofs.Whole.{opened_gives, unopened, unopened_some}
+use Rattle.{
+  std.proofs.{Common.Ok, lemmas.Result.err_from_is_err_and},
+  macsec_capture.proofs.Whole.{opened_gives, unopened, unopened_some},
+}
 use Rattle.macsec_capture.proofs.running.run_file.Goals as goal
 
 pub returns-in_err-reader-clause-run : goal.returns-in_err-reader-clause-run

@@ -1,5 +1,4 @@
-use Rattle.std.proofs.lemmas.Result.{err_from_is_err_and}
-use Rattle.macsec_capture.proofs.Whole.{counted, uncounted}
+use Rattle.{std.proofs.lemmas.Result.err_from_is_err_and, macsec_capture.proofs.Whole.{counted, uncounted}}
 use Rattle.macsec_capture.proofs.running.run_opened.Goals as goal
 
 pub returns-in_err-write_and_flush-clause-run : goal.returns-in_err-write_and_flush-clause-run

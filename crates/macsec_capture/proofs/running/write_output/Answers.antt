@@ -1,9 +1,8 @@
-use Rattle.std.proofs.Common.{subst, sym}
-use Rattle.std.proofs.lemmas.Result.{err_from_is_err_and}
-use Rattle.std.specs.Io.KnownBytes.{Appends}
-use Rattle.macsec_pcap.specs.Writing.{contents}
-use Rattle.macsec_pcap.specs.Written.{header_octets}
-use Rattle.macsec_capture.proofs.Whole.{headless, headless_some, taken_of_file, taken_of_some}
+use Rattle.{
+  std.{proofs.{Common.{subst, sym}, lemmas.Result.err_from_is_err_and}, specs.Io.KnownBytes.Appends},
+  macsec_pcap.specs.{Writing.contents, Written.header_octets},
+  macsec_capture.proofs.Whole.{headless, headless_some, taken_of_file, taken_of_some},
+}
 use Rattle.macsec_capture.proofs.running.write_output.Goals as goal
 
 pub returns-in_err-write_header-clause-run : goal.returns-in_err-write_header-clause-run

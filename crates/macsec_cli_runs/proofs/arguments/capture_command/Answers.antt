@@ -1,6 +1,4 @@
-use Rattle.std.proofs.Common.{ap₂, ◌∙◌}
-use Rattle.std.proofs.lemmas.Result.{IfOk-weaker}
-use Rattle.clap.specs.Words.{with_rule}
+use Rattle.{std.proofs.{Common.{ap₂, ◌∙◌}, lemmas.Result.IfOk-weaker}, clap.specs.Words.with_rule}
 use Rattle.macsec_cli_runs.proofs.arguments.capture_command.Goals as goal
 
 pub returns : goal.returns

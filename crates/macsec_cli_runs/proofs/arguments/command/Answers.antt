@@ -1,9 +1,8 @@
-use Rattle.std.proofs.Common.{ap, ap₂, true, codes, ◌≡◌, ◌∙◌}
-use Rattle.std.proofs.lemmas.Result.{IfOk-weaker}
-use Rattle.clap.specs.Words.{App, Shape, app_of, new_app, with_rule, with_subcommand}
-use Rattle.clap.specs.Simple.{app_of_fields}
-use Rattle.macsec_cli_runs.specs.Words.{run_app}
-use Rattle.macsec_cli_runs.proofs.Plain.{no_globals}
+use Rattle.{
+  std.proofs.{Common.{ap, ap₂, true, codes, ◌≡◌, ◌∙◌}, lemmas.Result.IfOk-weaker},
+  clap.specs.{Simple.app_of_fields, Words.{App, Shape, app_of, new_app, with_rule, with_subcommand}},
+  macsec_cli_runs.{proofs.Plain.no_globals, specs.Words.run_app},
+}
 use Rattle.macsec_cli_runs.proofs.arguments.command.Goals as goal
 
 abbrev wants_subcommand : App → App

@@ -1,9 +1,10 @@
 -- The direction of a capture is the subcommand's; the rest is by search. The prover tries nothing else on a mutant.
-use Rattle.std.proofs.Common.{◌≡◌, rules}
-use Rattle.std.specs.Option.{option_map}
-use Rattle.clap.specs.Words.{found_of, rows_of}
-use Rattle.macsec_capture.specs.declared.Direction.TheVariants.{Protect}
-use Rattle.macsec_cli_runs.specs.Words.{asked_by, capture_in}
+use Rattle.{
+  std.{proofs.Common.{◌≡◌, rules}, specs.Option.option_map},
+  clap.specs.Words.{found_of, rows_of},
+  macsec_capture.specs.declared.Direction.TheVariants.Protect,
+  macsec_cli_runs.specs.Words.{asked_by, capture_in},
+}
 use Rattle.macsec_cli_runs.proofs.arguments.task_of.Goals as goal
 
 pub returns-in-protect : goal.returns-in-protect

@@ -1,7 +1,9 @@
 -- The matches are what the arguments ask for. An error of clap is a fault of the arguments, or out of memory.
-use Rattle.std.proofs.Common.{ap, map, refl, string_bytes, ◌∙◌}
-use Rattle.clap.specs.Words.{is_simple_and_free}
-use Rattle.macsec_cli_runs.proofs.Matched.{is_free, refused_words, taken_words}
+use Rattle.{
+  std.proofs.Common.{ap, map, refl, string_bytes, ◌∙◌},
+  clap.specs.Words.is_simple_and_free,
+  macsec_cli_runs.proofs.Matched.{is_free, refused_words, taken_words},
+}
 use Rattle.macsec_cli_runs.proofs.arguments.task_of_words.Goals as goal
 
 pub returns : goal.returns

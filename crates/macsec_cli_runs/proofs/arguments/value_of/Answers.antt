@@ -1,6 +1,4 @@
-use Rattle.std.proofs.Common.{◌∙◌}
-use Rattle.clap.specs.Words.{found_of}
-use Rattle.clap.proofs.WalkLemmas.{first_value-rows}
+use Rattle.{std.proofs.Common.{◌∙◌}, clap.{proofs.WalkLemmas.first_value-rows, specs.Words.found_of}}
 use Rattle.macsec_cli_runs.proofs.arguments.value_of.Goals as goal
 
 pub returns : goal.returns

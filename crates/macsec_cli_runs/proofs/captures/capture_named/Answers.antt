@@ -1,8 +1,10 @@
 -- What the result of the run says of the result of the program.
-use Rattle.std.proofs.Common.{refl}
-use Rattle.macsec_pcap.specs.declared.fault.PcapFault.TheVariants.{Memory}
-use Rattle.macsec_capture.specs.declared.fault.CaptureFault.TheVariants.{Pcap}
-use Rattle.macsec_cli_runs.proofs.Flushed.{fails_as, leaves_lines, runs_files}
+use Rattle.{
+  std.proofs.Common.refl,
+  macsec_pcap.specs.declared.fault.PcapFault.TheVariants.Memory,
+  macsec_capture.specs.declared.fault.CaptureFault.TheVariants.Pcap,
+  macsec_cli_runs.proofs.Flushed.{fails_as, leaves_lines, runs_files},
+}
 use Rattle.macsec_cli_runs.proofs.captures.capture_named.Goals as goal
 
 pub returns-in_default-2-clause-failure : goal.returns-in_default-2-clause-failure

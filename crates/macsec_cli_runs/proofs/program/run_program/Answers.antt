@@ -1,8 +1,10 @@
 -- The reported result is the result for the arguments, or that they can't be read.
-use Rattle.std.specs.Prelude.{ℕ, List, Option, Result, Ok, Err, IfErr, IfOk, map, string_bytes}
-use Rattle.std.specs.declared.io.ErrorKind.{ErrorKind}
-use Rattle.clap.specs.Words.{Text}
-use Rattle.macsec_cli_runs.specs.Ends.{EndsAtAll, EndsBy, IsTold, IsUnread, by_words, unread}
+use Rattle.{
+  std.proofs.Common.{ℕ, List, Option, Result, Ok, Err, IfErr, IfOk, map, string_bytes},
+  std.specs.declared.io.ErrorKind.ErrorKind,
+  clap.specs.Words.Text,
+  macsec_cli_runs.specs.Ends.{EndsAtAll, EndsBy, IsTold, IsUnread, by_words, unread},
+}
 use Rattle.macsec_cli_runs.proofs.program.run_program.Goals as goal
 
 told_at_all : {V F E : Type 0} (words_of : V → List Text) (kind_of : F → ErrorKind) (own : Result V F) (old new : Option (List ℕ))

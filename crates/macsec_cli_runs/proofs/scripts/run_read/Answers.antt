@@ -1,10 +1,9 @@
 -- What the run ensures of the text that was read holds of all that the reader had, if that is known, and of some text.
-use Rattle.std.proofs.Common.{inl}
-use Rattle.std.proofs.KnownBytes.{Keeps-refl}
-use Rattle.std.proofs.lemmas.Result.{err_from_is_err_and}
-use Rattle.macsec_script.proofs.Promised.{promised_over}
-use Rattle.macsec_script.proofs.Unwritten.{carried_over, unread}
-use Rattle.macsec_cli_runs.proofs.FlushedText.{of_text}
+use Rattle.{
+  std.proofs.{Common.inl, KnownBytes.Keeps-refl, lemmas.Result.err_from_is_err_and},
+  macsec_script.proofs.{Promised.promised_over, Unwritten.{carried_over, unread}},
+  macsec_cli_runs.proofs.FlushedText.of_text,
+}
 use Rattle.macsec_cli_runs.proofs.scripts.run_read.Goals as goal
 
 pub returns-in_err-text-clause-run : goal.returns-in_err-text-clause-run

@@ -1,7 +1,6 @@
 -- The tag forms that do not fit are as defined; one goal for each test of the port's two octets. Each proof is one
 -- tactic. Without these proofs the prover tries others first, which takes longer, and on a mutant it tries all.
-use Rattle.std.proofs.Common.{arith}
-use Rattle.std.proofs.lemmas.Grind.{common_steps}
+use Rattle.std.proofs.{Common.arith, lemmas.Grind.common_steps}
 use Rattle.macsec_commands.proofs.form.is_unfit.Goals as goal
 
 pub returns-else-sci-ne0-clause-unfit : goal.returns-else-sci-ne0-clause-unfit

@@ -1,8 +1,8 @@
 -- What was opened can be used after the command (`jobs_stay`).
-use Rattle.std.proofs.Common.{[], ◌∷◌, subst, sym}
-use Rattle.macsec_secy.specs.Jobs.{OpensFrame}
-use Rattle.macsec_secy.specs.State.{State}
-use Rattle.macsec_secy.specs.Step.{operator_command}
+use Rattle.{
+  std.proofs.Common.{[], ◌∷◌, subst, sym},
+  macsec_secy.specs.{Jobs.OpensFrame, State.State, Step.operator_command},
+}
 use Rattle.macsec_endpoint_tests.proofs.jobs.opened_before.Goals as goal
 
 pub finish_receive-requires-clause-opened : goal.finish_receive-requires-clause-opened

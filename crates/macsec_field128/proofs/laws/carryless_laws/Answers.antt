@@ -1,4 +1,5 @@
-use Rattle.macsec_field128.proofs.Carryless.{carryless_adds_in_first, carryless_adds_in_second, carryless_of_one, carryless_moves_with_first, carryless_moves_with_second}
+use Rattle.macsec_field128.proofs.Carryless.{carryless_adds_in_first, carryless_adds_in_second, carryless_of_one}
+use Rattle.macsec_field128.proofs.Carryless.{carryless_moves_with_first, carryless_moves_with_second}
 use Rattle.macsec_field128.proofs.laws.carryless_laws.Goals as goal
 
 pub returns : goal.returns

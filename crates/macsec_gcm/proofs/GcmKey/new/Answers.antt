@@ -1,6 +1,7 @@
-use Rattle.std.proofs.Common.{◌≡◌, List, ℕ, [], ap, ◌∙◌, slice_index_or}
-use Rattle.std.specs.Int.{w128, from_be_bytes}
-use Rattle.macsec_gcm.specs.Gcm.{hash_subkey}
+use Rattle.{
+  std.{proofs.Common.{◌≡◌, List, ℕ, [], ap, ◌∙◌, slice_index_or}, specs.Int.{w128, from_be_bytes}},
+  macsec_gcm.specs.Gcm.hash_subkey,
+}
 use Rattle.macsec_gcm.proofs.GcmKey.new.Goals as goal
 
 pub invariant_of-result : goal.invariant_of-result

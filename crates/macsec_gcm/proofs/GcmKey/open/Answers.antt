@@ -1,6 +1,7 @@
-use Rattle.std.proofs.Common.{◌∙◌, [], List, ℕ, Some, ap, rules}
-use Rattle.macsec_gcm.specs.Gcm.{gctr}
-use Rattle.macsec_gcm.proofs.Opening.{open_undoes_seal}
+use Rattle.{
+  std.proofs.Common.{◌∙◌, [], List, ℕ, Some, ap, rules},
+  macsec_gcm.{proofs.Opening.open_undoes_seal, specs.Gcm.gctr},
+}
 use Rattle.macsec_gcm.proofs.GcmKey.open.Goals as goal
 
 pub returns-in-Some-clause-gives : goal.returns-in-Some-clause-gives

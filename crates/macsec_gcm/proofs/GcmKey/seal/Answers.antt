@@ -1,5 +1,4 @@
-use Rattle.std.proofs.Common.{[], List, ℕ, ap₂, sym}
-use Rattle.macsec_gcm.specs.Gcm.{gctr, seal_of}
+use Rattle.{std.proofs.Common.{[], List, ℕ, ap₂, sym}, macsec_gcm.specs.Gcm.{gctr, seal_of}}
 use Rattle.macsec_gcm.proofs.GcmKey.seal.Goals as goal
 
 pub returns : goal.returns

@@ -1,6 +1,7 @@
-use Rattle.std.proofs.Common.{◌≡◌, ◌∙◌, ◌*◌, ◌+◌, ◌%◌, ◌^◌, ◌∷◌, [], ℕ, ap₂, ap, arith, length, sym}
-use Rattle.macsec_gcm.specs.Gcm.{length_block}
-use Rattle.macsec_gcm.proofs.Words.{pad_words}
+use Rattle.{
+  std.proofs.Common.{◌≡◌, ◌∙◌, ◌*◌, ◌+◌, ◌%◌, ◌^◌, ◌∷◌, [], ℕ, ap₂, ap, arith, length, sym},
+  macsec_gcm.{proofs.Words.pad_words, specs.Gcm.length_block},
+}
 use Rattle.macsec_gcm.proofs.authenticator.length_block.Goals as goal
 
 pub returns : goal.returns

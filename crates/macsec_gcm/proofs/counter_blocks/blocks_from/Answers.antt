@@ -1,10 +1,9 @@
-use Rattle.std.proofs.Common.{◌≡◌, ◌+◌, ◌-◌, ℕ, ap, ◌∙◌, sym, arith, rules, []}
-use Rattle.std.proofs.lemmas.List.Edits.{fill_by_more}
-use Rattle.std.proofs.lemmas.List.{length-replicate}
-use Rattle.std.proofs.lemmas.Simd.{get_or-replicate}
-use Rattle.std.specs.Fn.{iterate}
-use Rattle.macsec_gcm.specs.Gcm.{inc32}
-use Rattle.macsec_gcm.proofs.Iterations.{iterate_more}
+use Rattle.std.{
+  proofs.Common.{◌≡◌, ◌+◌, ◌-◌, ℕ, ap, ◌∙◌, sym, arith, rules, []},
+  proofs.lemmas.{List.{length-replicate, Edits.fill_by_more}, Simd.get_or-replicate},
+  specs.Fn.iterate,
+}
+use Rattle.macsec_gcm.{proofs.Iterations.iterate_more, specs.Gcm.inc32}
 use Rattle.macsec_gcm.proofs.counter_blocks.blocks_from.Goals as goal
 
 pub loop-i-preserved : goal.loop-i-preserved

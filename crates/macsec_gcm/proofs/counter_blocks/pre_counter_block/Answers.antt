@@ -1,6 +1,7 @@
-use Rattle.std.proofs.Common.{◌≡◌, ◌++◌, ◌∷◌, [], List, ℕ, length, set, ap, ◌∙◌, arith, rules}
-use Rattle.std.proofs.lemmas.List.{set-append_right}
-use Rattle.macsec_gcm.specs.Gcm.{pre_counter_block}
+use Rattle.{
+  std.proofs.{Common.{◌≡◌, ◌++◌, ◌∷◌, [], List, ℕ, length, set, ap, ◌∙◌, arith, rules}, lemmas.List.set-append_right},
+  macsec_gcm.specs.Gcm.pre_counter_block,
+}
 use Rattle.macsec_gcm.proofs.counter_blocks.pre_counter_block.Goals as goal
 
 pub returns : goal.returns

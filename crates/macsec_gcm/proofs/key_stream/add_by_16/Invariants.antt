@@ -1,5 +1,4 @@
-use Rattle.std.proofs.Common.{◌≡◌, ◌≤◌, ◌-◌, length, slice_index}
-use Rattle.macsec_gcm.specs.Streams.{IsSumBelow}
+use Rattle.{std.proofs.Common.{◌≡◌, ◌≤◌, ◌-◌, length, slice_index}, macsec_gcm.specs.Streams.IsSumBelow}
 use Rattle.macsec_gcm.proofs.key_stream.add_by_16.Given as goal
 
 -- the first octets have the stream's octets added, and the others are unchanged

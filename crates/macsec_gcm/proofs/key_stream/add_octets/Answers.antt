@@ -1,8 +1,8 @@
-use Rattle.std.proofs.Common.{◌≡◌, ◌-◌, ◌∙◌, ℕ, List, ap, arith, drop, length, length-append, length-drop, slice_index, take}
-use Rattle.std.proofs.lemmas.List.{length-take-le}
-use Rattle.macsec_gcm.proofs.KeyStreams.{sum_continues}
-use Rattle.macsec_gcm.proofs.States.{put_mid-end}
-use Rattle.macsec_gcm.proofs.Vectors.{at_rest, rest_is, sum_of_rest}
+use Rattle.{
+  std.proofs.Common.{◌≡◌, ◌-◌, ◌∙◌, ℕ, List, ap, arith, drop, length, length-append, length-drop, slice_index, take},
+  std.proofs.Common.length-take-le,
+  macsec_gcm.proofs.{KeyStreams.sum_continues, States.put_mid-end, Vectors.{at_rest, rest_is, sum_of_rest}},
+}
 use Rattle.macsec_gcm.proofs.key_stream.add_octets.Goals as goal
 
 pub loop-text-preserved : goal.loop-text-preserved

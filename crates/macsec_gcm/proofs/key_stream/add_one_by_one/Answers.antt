@@ -1,6 +1,7 @@
-use Rattle.std.proofs.Common.{get_or, bit_xor, arith, rules}
-use Rattle.std.proofs.lemmas.List.FromFn.{fill_by_all}
-use Rattle.macsec_gcm.specs.Octets.{sum_with_stream}
+use Rattle.{
+  std.proofs.{Common.{get_or, bit_xor, arith, rules}, lemmas.List.FromFn.fill_by_all},
+  macsec_gcm.specs.Octets.sum_with_stream,
+}
 use Rattle.macsec_gcm.proofs.key_stream.add_one_by_one.Goals as goal
 
 pub returns : goal.returns

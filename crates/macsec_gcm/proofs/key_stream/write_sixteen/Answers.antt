@@ -1,5 +1,4 @@
-use Rattle.std.proofs.Common.{arith, rules}
-use Rattle.macsec_gcm.proofs.KeyStreams.{stream_of_blocks}
+use Rattle.{std.proofs.Common.{arith, rules}, macsec_gcm.proofs.KeyStreams.stream_of_blocks}
 use Rattle.macsec_gcm.proofs.key_stream.write_sixteen.Goals as goal
 
 pub returns-clause-stream : goal.returns-clause-stream

@@ -1,5 +1,4 @@
-use Rattle.std.proofs.Common.{◌≡◌, ◌<◌, ◌^◌, ℕ, length, slice_index, rules}
-use Rattle.macsec_gcm.proofs.Tags.{same_by_sum}
+use Rattle.{std.proofs.Common.{◌≡◌, ◌<◌, ◌^◌, ℕ, length, slice_index, rules}, macsec_gcm.proofs.Tags.same_by_sum}
 use Rattle.macsec_gcm.proofs.pieces.are_same.Goals as goal
 
 pub returns : goal.returns

@@ -1,5 +1,4 @@
-use Rattle.std.proofs.Common.{sym}
-use Rattle.macsec_ghash.proofs.Blocks.{eight_blocks}
+use Rattle.{std.proofs.Common.sym, macsec_ghash.proofs.Blocks.eight_blocks}
 use Rattle.macsec_ghash.proofs.lane_hash.first_eight.Goals as goal
 
 pub returns : goal.returns

@@ -1,5 +1,4 @@
-use Rattle.std.proofs.Common.{◌≡◌, length, rules, ◌∙◌}
-use Rattle.macsec_ghash.proofs.Tails.{eight_weighted}
+use Rattle.{std.proofs.Common.{◌≡◌, length, rules, ◌∙◌}, macsec_ghash.proofs.Tails.eight_weighted}
 use Rattle.macsec_ghash.proofs.lane_hash.weighted.Goals as goal
 
 pub returns : goal.returns

@@ -1,5 +1,4 @@
-use Rattle.std.proofs.Common.{bit_xor}
-use Rattle.macsec_ghash.proofs.Holds.{holds, holds_zip}
+use Rattle.{std.proofs.Common.bit_xor, macsec_ghash.proofs.Holds.{holds, holds_zip}}
 use Rattle.macsec_ghash.proofs.lanes.add.Goals as goal
 
 pub returns : goal.returns

@@ -1,5 +1,4 @@
-use Rattle.std.proofs.Common.{arith}
-use Rattle.macsec_ghash.proofs.Holds.{holds, holds_splat, holds_zip, octet_below, right}
+use Rattle.{std.proofs.Common.arith, macsec_ghash.proofs.Holds.{holds, holds_splat, holds_zip, octet_below, right}}
 use Rattle.macsec_ghash.proofs.lanes.left_nibbles.Goals as goal
 
 pub returns : goal.returns

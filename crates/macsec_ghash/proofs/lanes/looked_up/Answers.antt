@@ -1,7 +1,8 @@
 -- Both halves of the vector have the table, so a nibble finds its entry in either half.
-use Rattle.std.proofs.Common.{◌≡◌, ℕ, ◌+◌, ◌*◌, ◌/◌, ◌<◌, List, slice_index, inl, inr, refl, ap, ◌∙◌, arith, w8}
-use Rattle.std.proofs.lemmas.Bool.{cases_lt}
-use Rattle.std.proofs.lemmas.Simd.{Each1-from_get_or, SwzOk-from_below, get_or-swz_l_below}
+use Rattle.std.proofs.{
+  Common.{◌≡◌, ℕ, ◌+◌, ◌*◌, ◌/◌, ◌<◌, List, slice_index, inl, inr, refl, ap, ◌∙◌, arith, w8},
+  lemmas.{Bool.cases_lt, Simd.{Each1-from_get_or, SwzOk-from_below, get_or-swz_l_below}},
+}
 use Rattle.macsec_ghash.proofs.lanes.looked_up.Goals as goal
 
 pub swizzle : goal.swizzle

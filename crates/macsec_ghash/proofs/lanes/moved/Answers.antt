@@ -1,7 +1,8 @@
 -- In each half, the octets are the old ones without the first, and the sums are added at the right end.
-use Rattle.std.proofs.Common.{ℕ, ◌+◌, slice_index, bit_xor, ap, ◌∙◌, arith}
-use Rattle.macsec_ghash.proofs.Holds.{octet_below}
-use Rattle.macsec_ghash.proofs.MovedSums.{octets_moved}
+use Rattle.{
+  std.proofs.Common.{ℕ, ◌+◌, slice_index, bit_xor, ap, ◌∙◌, arith},
+  macsec_ghash.proofs.{Holds.octet_below, MovedSums.octets_moved},
+}
 use Rattle.macsec_ghash.proofs.lanes.moved.Goals as goal
 
 pub returns-clause-first : goal.returns-clause-first

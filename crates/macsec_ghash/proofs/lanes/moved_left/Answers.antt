@@ -1,7 +1,9 @@
-use Rattle.std.proofs.Common.{◌≡◌, ◌+◌, ◌<◌, ◌++◌, ◌∷◌, [], ℕ, suc, List, get_or, slice_index, arith}
-use Rattle.std.proofs.lemmas.List.{get_or_append_left}
-use Rattle.std.specs.Simd.Lanes.{pick_l}
-use Rattle.macsec_ghash.proofs.Below.{below_sixteen}
+use Rattle.{
+  std.proofs.Common.{◌≡◌, ◌+◌, ◌<◌, ◌++◌, ◌∷◌, [], ℕ, suc, List, get_or, slice_index, arith},
+  std.proofs.lemmas.List.get_or_append_left,
+  std.specs.Simd.Lanes.pick_l,
+  macsec_ghash.proofs.Below.below_sixteen,
+}
 use Rattle.macsec_ghash.proofs.lanes.moved_left.Goals as goal
 
 pub returns-clause-inner : goal.returns-clause-inner

@@ -1,8 +1,9 @@
 -- Each turn adds the sums of one octet, starting with the leftmost.
 use Rattle.std.proofs.Common.{ℕ, ◌+◌, ◌-◌, ◌*◌, ◌^◌, ◌<◌, refl, arith}
-use Rattle.macsec_ghash.specs.Tables.{lane_at, moved_sum, octet_of_sum}
-use Rattle.macsec_ghash.proofs.MovedSums.{moved_lt, moved_on, same_moved}
-use Rattle.macsec_ghash.proofs.Sums.{sum_lt}
+use Rattle.macsec_ghash.{
+  proofs.{MovedSums.{moved_lt, moved_on, same_moved}, Sums.sum_lt},
+  specs.Tables.{lane_at, moved_sum, octet_of_sum},
+}
 use Rattle.macsec_ghash.proofs.lanes.moved_sums.Goals as goal
 
 pub loop-turn-init : goal.loop-turn-init

@@ -1,5 +1,4 @@
-use Rattle.std.proofs.Common.{◌≡◌, ◌+◌, ◌-◌}
-use Rattle.macsec_ghash.specs.Tables.{lane_at, moved_sum, number_in, octet_of_sum}
+use Rattle.{std.proofs.Common.{◌≡◌, ◌+◌, ◌-◌}, macsec_ghash.specs.Tables.{lane_at, moved_sum, number_in, octet_of_sum}}
 use Rattle.macsec_ghash.proofs.lanes.moved_sums.Given as goal
 
 -- the sums of the octets so far, in both halves of the vectors

@@ -1,6 +1,8 @@
 -- The octets of the block, split into nibbles: the left ones in the first 16 lanes, the right ones after them.
-use Rattle.std.proofs.Common.{◌≡◌, ℕ, ◌+◌, ◌-◌, ◌/◌, ◌%◌, ◌^◌, ◌<◌, slice_index, inl, inr, ap, subst, ◌∙◌, arith}
-use Rattle.std.proofs.lemmas.Bool.{cases_lt}
+use Rattle.std.proofs.{
+  Common.{◌≡◌, ℕ, ◌+◌, ◌-◌, ◌/◌, ◌%◌, ◌^◌, ◌<◌, slice_index, inl, inr, ap, subst, ◌∙◌, arith},
+  lemmas.Bool.cases_lt,
+}
 use Rattle.macsec_ghash.proofs.lanes.nibbles_of.Goals as goal
 
 pub returns-clause-left : goal.returns-clause-left

@@ -1,6 +1,4 @@
-use Rattle.std.proofs.Common.{◌+◌, ◌∙◌, arith}
-use Rattle.macsec_ghash.proofs.Holds.{octet_below}
-use Rattle.macsec_ghash.proofs.Octets.{number_of_octets}
+use Rattle.{std.proofs.Common.{◌+◌, ◌∙◌, arith}, macsec_ghash.proofs.{Holds.octet_below, Octets.number_of_octets}}
 use Rattle.macsec_ghash.proofs.lanes.number_of.Goals as goal
 
 pub returns : goal.returns

@@ -1,8 +1,9 @@
-use Rattle.std.proofs.Common.{◌≡◌, ℕ, ◌+◌, ◌-◌, ◌*◌, ◌/◌, ◌%◌, ◌^◌, bit_and, slice_index, sym, ap, ◌∙◌, arith}
-use Rattle.std.specs.Simd.Lanes.{digits_l}
-use Rattle.std.proofs.lemmas.Nat.{and_mask}
-use Rattle.macsec_ghash.proofs.MovedSums.{octet_is}
-use Rattle.macsec_ghash.proofs.Octets.{digit_is}
+use Rattle.std.{
+  proofs.Common.{◌≡◌, ℕ, ◌+◌, ◌-◌, ◌*◌, ◌/◌, ◌%◌, ◌^◌, bit_and, slice_index, sym, ap, ◌∙◌, arith},
+  proofs.lemmas.Nat.and_mask,
+  specs.Simd.Lanes.digits_l,
+}
+use Rattle.macsec_ghash.proofs.{MovedSums.octet_is, Octets.digit_is}
 use Rattle.macsec_ghash.proofs.lanes.octets_of.Goals as goal
 
 pub returns : goal.returns

@@ -1,9 +1,10 @@
 -- Each step adds the entry of one table.
-use Rattle.std.proofs.Common.{◌≡◌, ℕ, ◌+◌, ◌-◌, ◌*◌, ◌<◌, slice_index, bit_xor, sym, ap, ap₂, ◌∙◌, arith}
+use Rattle.std.proofs.{
+  Common.{◌≡◌, ℕ, ◌+◌, ◌-◌, ◌*◌, ◌<◌, slice_index, bit_xor, sym, ap, ap₂, ◌∙◌, arith},
+  lemmas.Simd.{get_or-chunk, get_or-replicate},
+}
+use Rattle.macsec_ghash.{proofs.Sums.{sum_next, sum_none}, specs.Tables.lane_at}
 use borrow.Rule.Slice.PartMut.{mid_of}
-use Rattle.std.proofs.lemmas.Simd.{get_or-chunk, get_or-replicate}
-use Rattle.macsec_ghash.specs.Tables.{lane_at}
-use Rattle.macsec_ghash.proofs.Sums.{sum_next, sum_none}
 use Rattle.macsec_ghash.proofs.lanes.octets_of_sums.Goals as goal
 
 pub loop-place-init : goal.loop-place-init

@@ -1,6 +1,8 @@
-use Rattle.std.proofs.Common.{◌≡◌, ℕ, ◌+◌, ◌*◌, ◌<◌, slice_index}
-use Rattle.macsec_field128.specs.Field.{sum_below}
-use Rattle.macsec_ghash.specs.Tables.{lane_at}
+use Rattle.{
+  std.proofs.Common.{◌≡◌, ℕ, ◌+◌, ◌*◌, ◌<◌, slice_index},
+  macsec_field128.specs.Field.sum_below,
+  macsec_ghash.specs.Tables.lane_at,
+}
 use Rattle.macsec_ghash.proofs.lanes.octets_of_sums.Given as goal
 
 -- the sums over the tables so far

@@ -1,6 +1,7 @@
-use Rattle.std.proofs.Common.{bit_and, slice_index, ◌∙◌}
-use Rattle.std.proofs.lemmas.Nat.{and_mask}
-use Rattle.macsec_ghash.proofs.Holds.{holds, holds_splat, holds_zip}
+use Rattle.{
+  std.proofs.{Common.{bit_and, slice_index, ◌∙◌}, lemmas.Nat.and_mask},
+  macsec_ghash.proofs.Holds.{holds, holds_splat, holds_zip},
+}
 use Rattle.macsec_ghash.proofs.lanes.right_nibbles.Goals as goal
 
 pub returns : goal.returns

@@ -1,8 +1,8 @@
-use Rattle.std.proofs.Common.{◌≡◌, ℕ, ◌+◌, ◌<◌, ◌++◌, List, get_or, slice_index, arith}
-use Rattle.std.proofs.lemmas.List.{get_or_append_left}
-use Rattle.std.specs.List.{range_with_len}
-use Rattle.std.specs.Simd.Lanes.{pick_l}
-use Rattle.macsec_ghash.proofs.Below.{below_sixteen}
+use Rattle.{
+  std.proofs.{Common.{◌≡◌, ℕ, ◌+◌, ◌<◌, ◌++◌, List, get_or, slice_index, arith}, lemmas.List.get_or_append_left},
+  std.specs.{List.range_with_len, Simd.Lanes.pick_l},
+  macsec_ghash.proofs.Below.below_sixteen,
+}
 use Rattle.macsec_ghash.proofs.lanes.second_half.Goals as goal
 
 pub returns : goal.returns

@@ -1,7 +1,8 @@
-use Rattle.std.proofs.Common.{◌≡◌, ◌+◌, ◌-◌, ◌++◌, ℕ, List, length, slice_index, ap, ◌∙◌, arith, length-append}
-use Rattle.std.proofs.lemmas.Simd.{pick_l_whole}
-use Rattle.std.proofs.lemmas.List.{get_or_append_left}
-use Rattle.std.proofs.Math.Seq.{get_or-append_right}
+use Rattle.std.proofs.{
+  Common.{◌≡◌, ◌+◌, ◌-◌, ◌++◌, ℕ, List, length, slice_index, ap, ◌∙◌, arith, length-append},
+  Math.Seq.get_or-append_right,
+  lemmas.{List.get_or_append_left, Simd.pick_l_whole},
+}
 use Rattle.macsec_ghash.proofs.lanes.side_by_side.Goals as goal
 
 pub returns : goal.returns

@@ -1,14 +1,19 @@
 -- The products of the blocks' nibbles are looked up. Their sums are the carryless products, and the residue of the
 -- total is the sum of the products (`NibbleProducts`).
-use Rattle.std.proofs.Common.{◌≡◌, ℕ, List, [], ◌∷◌, ◌+◌, ◌-◌, ◌*◌, ◌/◌, ◌%◌, ◌^◌, ◌<◌, slice_index, bit_xor, ap, ap₂, ◌∙◌, arith}
-use Rattle.std.specs.Int.{byte_at}
+use Rattle.std.{
+  proofs.Common.{◌≡◌, ℕ, List, [], ◌∷◌, ◌+◌, ◌-◌, ◌*◌, ◌/◌, ◌%◌, ◌^◌, ◌<◌, slice_index, bit_xor, ap, ap₂, ◌∙◌, arith},
+  specs.Int.byte_at,
+}
 use Rattle.macsec_field128.specs.Carryless.{residue}
-use Rattle.macsec_ghash.specs.Powers.{power}
-use Rattle.macsec_ghash.specs.Tables.{AreTables, lane_at}
-use Rattle.macsec_ghash.proofs.Below.{below_eight}
-use Rattle.macsec_ghash.proofs.MovedSums.{octet_lt, same_moved}
-use Rattle.macsec_ghash.proofs.NibbleProducts.{by_octets, by_octets_lt, by_tables, halves_joined, residue_by_nibbles}
-use Rattle.macsec_ghash.proofs.Steps.{power_is_block}
+use Rattle.macsec_ghash.{
+  proofs.{
+    Below.below_eight,
+    MovedSums.{octet_lt, same_moved},
+    NibbleProducts.{by_octets, by_octets_lt, by_tables, halves_joined, residue_by_nibbles},
+    Steps.power_is_block,
+  },
+  specs.{Powers.power, Tables.{AreTables, lane_at}},
+}
 use Rattle.macsec_ghash.proofs.lanes.sum_of_products.Goals as goal
 
 pub moved_sums-requires : goal.moved_sums-requires

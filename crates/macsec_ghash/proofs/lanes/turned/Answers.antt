@@ -1,6 +1,7 @@
-use Rattle.std.proofs.Common.{◌≡◌, ◌-◌, ◌<◌, ◌++◌, ◌∷◌, [], ℕ, List, get_or, slice_index, arith}
-use Rattle.std.proofs.lemmas.List.{get_or_append_left}
-use Rattle.std.specs.Simd.Lanes.{pick_l}
+use Rattle.std.{
+  proofs.{Common.{◌≡◌, ◌-◌, ◌<◌, ◌++◌, ◌∷◌, [], ℕ, List, get_or, slice_index, arith}, lemmas.List.get_or_append_left},
+  specs.Simd.Lanes.pick_l,
+}
 use Rattle.macsec_ghash.proofs.Below.{below_sixteen}
 use Rattle.macsec_ghash.proofs.lanes.turned.Goals as goal
 

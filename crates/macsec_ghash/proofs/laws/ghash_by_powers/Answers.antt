@@ -1,8 +1,8 @@
 -- Several steps at once, by induction over the blocks from the laws of the product.
-use Rattle.std.proofs.Common.{◌∙◌, ◌∷◌}
-use Rattle.macsec_ghash.specs.Ghash.{ghash}
-use Rattle.macsec_ghash.proofs.Blocks.{ghash-append}
-use Rattle.macsec_ghash.proofs.Steps.{by_powers}
+use Rattle.{
+  std.proofs.Common.{◌∙◌, ◌∷◌},
+  macsec_ghash.{proofs.{Blocks.ghash-append, Steps.by_powers}, specs.Ghash.ghash},
+}
 use Rattle.macsec_ghash.proofs.laws.ghash_by_powers.Goals as goal
 
 pub returns : goal.returns

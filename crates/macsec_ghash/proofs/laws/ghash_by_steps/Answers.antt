@@ -1,7 +1,5 @@
 -- GHASH of no blocks, and of one more block. Proved from the definition and the lemma on appended blocks in `Blocks`.
-use Rattle.std.proofs.Common.{refl, ◌∷◌, []}
-use Rattle.macsec_ghash.specs.Ghash.{ghash}
-use Rattle.macsec_ghash.proofs.Blocks.{ghash-append}
+use Rattle.{std.proofs.Common.{refl, ◌∷◌, []}, macsec_ghash.{proofs.Blocks.ghash-append, specs.Ghash.ghash}}
 use Rattle.macsec_ghash.proofs.laws.ghash_by_steps.Goals as goal
 
 pub returns-clause-none : goal.returns-clause-none

@@ -1,6 +1,7 @@
-use Rattle.std.proofs.Common.{◌≡◌, ℕ, ◌-◌, ◌/◌, ◌%◌, ◌^◌, bit_and, slice_index, ap₂, ◌∙◌, arith}
-use Rattle.std.proofs.lemmas.Nat.{and_mask}
-use Rattle.macsec_ghash.proofs.ProductOctets.{sum_of_some, sums_of_some}
+use Rattle.{
+  std.proofs.{Common.{◌≡◌, ℕ, ◌-◌, ◌/◌, ◌%◌, ◌^◌, bit_and, slice_index, ap₂, ◌∙◌, arith}, lemmas.Nat.and_mask},
+  macsec_ghash.proofs.ProductOctets.{sum_of_some, sums_of_some},
+}
 use Rattle.macsec_ghash.proofs.powers.octets_of_products.Goals as goal
 
 pub returns : goal.returns

@@ -1,7 +1,8 @@
 -- The steps of the loop cover all octets and all numbers.
-use Rattle.std.proofs.Common.{◌≡◌, ℕ, List, ◌+◌, ◌*◌, ◌/◌, ◌%◌, ◌^◌, slice_index, sym, ap, ap₂, ◌∙◌, arith}
-use Rattle.macsec_ghash.specs.Tables.{octet_of_product}
-use Rattle.macsec_ghash.proofs.ProductOctets.{product_octet}
+use Rattle.{
+  std.proofs.Common.{◌≡◌, ℕ, List, ◌+◌, ◌*◌, ◌/◌, ◌%◌, ◌^◌, slice_index, sym, ap, ap₂, ◌∙◌, arith},
+  macsec_ghash.{proofs.ProductOctets.product_octet, specs.Tables.octet_of_product},
+}
 use Rattle.macsec_ghash.proofs.powers.tables_of.Goals as goal
 
 pub returns : goal.returns

@@ -1,5 +1,7 @@
-use Rattle.std.proofs.Common.{◌≡◌, ℕ, ◌+◌, ◌*◌, ◌/◌, ◌%◌, ◌^◌, ◌<◌, slice_index}
-use Rattle.macsec_ghash.specs.Tables.{octet_of_product}
+use Rattle.{
+  std.proofs.Common.{◌≡◌, ℕ, ◌+◌, ◌*◌, ◌/◌, ◌%◌, ◌^◌, ◌<◌, slice_index},
+  macsec_ghash.specs.Tables.octet_of_product,
+}
 use Rattle.macsec_ghash.proofs.powers.tables_of.Given as goal
 
 -- the tables so far are filled

@@ -1,6 +1,8 @@
 -- The number followed by an octet of zeros, shifted right.
-use Rattle.std.proofs.Common.{◌≡◌, ℕ, ◌+◌, ◌-◌, ◌*◌, ◌/◌, ◌%◌, ◌^◌, bit_and, sym, ap, ◌∙◌, arith}
-use Rattle.std.proofs.lemmas.Nat.{and_mask, shl-shr, shr-shr}
+use Rattle.std.proofs.{
+  Common.{◌≡◌, ℕ, ◌+◌, ◌-◌, ◌*◌, ◌/◌, ◌%◌, ◌^◌, bit_and, sym, ap, ◌∙◌, arith, shr-shr},
+  lemmas.Nat.{and_mask, shl-shr},
+}
 use Rattle.macsec_ghash.proofs.powers.two_octets.Goals as goal
 
 pub returns-then-octet-eq0 : goal.returns-then-octet-eq0

@@ -1,7 +1,9 @@
 -- The four promises: each fact is a lemma from the laws of an endpoint.
-use Rattle.macsec_link.proofs.Accepted.{accepts_in_time}
-use Rattle.macsec_link.proofs.EndpointLaws.{EndpointLaws}
-use Rattle.macsec_link.proofs.Promises.{from_other, in_order, ivs_differ, keeps_window, marks_frames, seals_frames}
+use Rattle.macsec_link.proofs.{
+  Accepted.accepts_in_time,
+  EndpointLaws.EndpointLaws,
+  Promises.{from_other, in_order, ivs_differ, keeps_window, marks_frames, seals_frames},
+}
 use Rattle.macsec_link.proofs.laws.promises.Goals as goal
 
 pub returns : goal.returns

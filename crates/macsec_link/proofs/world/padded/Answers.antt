@@ -1,7 +1,7 @@
 -- A frame of fewer than 60 octets is followed by zeros up to 60. Written down so that another number of zeros is
 -- refused quickly.
-use Rattle.macsec_link.proofs.Names.{◌≡◌, ◌∙◌, ◌-◌, ◌<◌, ℕ, List, ◌++◌, ap, arith, length, take, replicate, take_all}
-use Rattle.macsec_link.specs.Step.{padded_frame}
+use Rattle.macsec_link.proofs.Names.{◌++◌, ◌-◌, ◌<◌, ◌∙◌, ◌≡◌, ap, arith, length, List, padded_frame, replicate, take}
+use Rattle.macsec_link.proofs.Names.{take_all, ℕ}
 use Rattle.macsec_link.proofs.world.padded.Goals as goal
 
 is_padded : (frame items new : List ℕ) (len : ℕ) → length frame < 60 → items ≡ frame → len ≡ length frame →

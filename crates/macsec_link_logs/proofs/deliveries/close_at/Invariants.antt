@@ -1,7 +1,7 @@
-use Rattle.std.proofs.Common.{◌≡◌, drop, length, map}
-use Rattle.macsec_link_logs.specs.Logs.{is_live_at, log_closing}
-use Rattle.macsec_link_logs.specs.Places.{logs_of}
-use Rattle.macsec_link_logs.proofs.LiveTable.{with_each}
+use Rattle.{
+  std.proofs.Common.{◌≡◌, drop, length, map},
+  macsec_link_logs.{proofs.LiveTable.with_each, specs.{Logs.{is_live_at, log_closing}, Places.logs_of}},
+}
 use Rattle.macsec_link_logs.proofs.deliveries.close_at.Given as goal
 
 -- closing the SA's logs at the remaining indices closes all of them

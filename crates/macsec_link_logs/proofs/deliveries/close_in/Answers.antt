@@ -1,10 +1,13 @@
 -- The invariant: closing the SC's logs at the remaining indices closes all of them. At first all indices of the table
 -- remain.
-use Rattle.std.proofs.Common.{◌∙◌, ℕ, List, ap, arith, get_or, length-set, map, refl}
-use Rattle.macsec_rx.specs.Channels.{same_sci}
-use Rattle.macsec_link_logs.specs.Logs.{log_closing}
-use Rattle.macsec_link_logs.specs.Places.{logs_of}
-use Rattle.macsec_link_logs.proofs.LiveTable.{all_within, each_closed, next_changed, with_each}
+use Rattle.{
+  std.proofs.Common.{◌∙◌, ℕ, List, ap, arith, get_or, length-set, map, refl},
+  macsec_rx.specs.Channels.same_sci,
+  macsec_link_logs.{
+    proofs.LiveTable.{all_within, each_closed, next_changed, with_each},
+    specs.{Logs.log_closing, Places.logs_of},
+  },
+}
 use Rattle.macsec_link_logs.proofs.deliveries.close_in.Goals as goal
 
 pub loop-place-init : goal.loop-place-init

@@ -1,8 +1,8 @@
-use Rattle.std.proofs.Common.{◌≡◌, drop, length, map}
-use Rattle.macsec_rx.specs.Channels.{same_sci}
-use Rattle.macsec_link_logs.specs.Logs.{log_closing}
-use Rattle.macsec_link_logs.specs.Places.{logs_of}
-use Rattle.macsec_link_logs.proofs.LiveTable.{with_each}
+use Rattle.{
+  std.proofs.Common.{◌≡◌, drop, length, map},
+  macsec_rx.specs.Channels.same_sci,
+  macsec_link_logs.{proofs.LiveTable.with_each, specs.{Logs.log_closing, Places.logs_of}},
+}
 use Rattle.macsec_link_logs.proofs.deliveries.close_in.Given as goal
 
 -- closing the SC's logs at the remaining indices closes all of them

@@ -1,10 +1,13 @@
 -- The logs after a command, and the table of the live ones: one more log; or logs at the table's indices are closed and
 -- removed from the table.
-use Rattle.std.proofs.Common.{◌∙◌, List, ap, arith, filter, map, rules}
-use Rattle.macsec_rx.specs.Channels.{same_sci}
-use Rattle.macsec_link_logs.specs.Logs.{DeliveryLog, is_live_at, log_closing}
-use Rattle.macsec_link_logs.specs.Places.{KeptLog, logs_of}
-use Rattle.macsec_link_logs.proofs.LiveTable.{is_live_in, table_left, table_more}
+use Rattle.{
+  std.proofs.Common.{◌∙◌, List, ap, arith, filter, map, rules},
+  macsec_rx.specs.Channels.same_sci,
+  macsec_link_logs.{
+    proofs.LiveTable.{is_live_in, table_left, table_more},
+    specs.{Logs.{DeliveryLog, is_live_at, log_closing}, Places.{KeptLog, logs_of}},
+  },
+}
 use Rattle.macsec_link_logs.proofs.deliveries.follow_command.Goals as goal
 
 pub returns-in-RxSa-clause-live : goal.returns-in-RxSa-clause-live

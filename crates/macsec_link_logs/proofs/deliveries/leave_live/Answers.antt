@@ -1,5 +1,4 @@
-use Rattle.std.proofs.Common.{rules}
-use Rattle.std.proofs.lemmas.Fn.{filter_same}
+use Rattle.std.proofs.{Common.rules, lemmas.Fn.filter_same}
 use Rattle.macsec_link_logs.proofs.deliveries.leave_live.Goals as goal
 
 pub returns : goal.returns

@@ -1,8 +1,7 @@
-use Rattle.std.proofs.Common.{◌∙◌, rules}
-use Rattle.std.proofs.lemmas.Iterator.{YieldsList-from_slice}
-use Rattle.std.proofs.lemmas.Iterator.Search.{find_from_yields_List}
-use Rattle.macsec_link_logs.specs.Logs.{is_live_at}
-use Rattle.macsec_link_logs.specs.Places.{logs_of, passes_at}
+use Rattle.{
+  std.proofs.{Common.{◌∙◌, rules}, lemmas.Iterator.{YieldsList-from_slice, Search.find_from_yields_List}},
+  macsec_link_logs.specs.{Logs.is_live_at, Places.{logs_of, passes_at}},
+}
 use Rattle.macsec_link_logs.proofs.deliveries.place_of.Goals as goal
 
 pub returns : goal.returns

@@ -1,7 +1,8 @@
 -- The search in the table finds the first live log of the SA, which has capacity for the frame.
-use Rattle.std.proofs.Common.{arith}
-use Rattle.macsec_link_logs.specs.Logs.{log_delivering}
-use Rattle.macsec_link_logs.proofs.LiveTable.{changed_at, changed_nowhere, has_place, inside}
+use Rattle.{
+  std.proofs.Common.arith,
+  macsec_link_logs.{proofs.LiveTable.{changed_at, changed_nowhere, has_place, inside}, specs.Logs.log_delivering},
+}
 use Rattle.macsec_link_logs.proofs.deliveries.push_first.Goals as goal
 
 pub index_mut-requires : goal.index_mut-requires

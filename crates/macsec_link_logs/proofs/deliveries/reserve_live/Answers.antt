@@ -1,8 +1,8 @@
 -- No frame of a log changes, and each log that the loop has visited has capacity for a frame.
-use Rattle.std.proofs.Common.{◌∙◌, All, arith, get_or, length-set, subst}
-use Rattle.std.proofs.lemmas.List.{take_all}
-use Rattle.macsec_link_logs.specs.Places.{HasPlaceAt}
-use Rattle.macsec_link_logs.proofs.LiveTable.{all_within, more_places, same_logs}
+use Rattle.{
+  std.proofs.Common.{◌∙◌, All, arith, get_or, length-set, subst, take_all},
+  macsec_link_logs.{proofs.LiveTable.{all_within, more_places, same_logs}, specs.Places.HasPlaceAt},
+}
 use Rattle.macsec_link_logs.proofs.deliveries.reserve_live.Goals as goal
 
 pub index_mut-requires : goal.index_mut-requires

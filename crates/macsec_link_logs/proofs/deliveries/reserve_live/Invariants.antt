@@ -1,5 +1,4 @@
-use Rattle.std.proofs.Common.{◌≡◌, All, length, take}
-use Rattle.macsec_link_logs.specs.Places.{HasPlaceAt, logs_of}
+use Rattle.{std.proofs.Common.{◌≡◌, All, length, take}, macsec_link_logs.specs.Places.{HasPlaceAt, logs_of}}
 use Rattle.macsec_link_logs.proofs.deliveries.reserve_live.Given as goal
 
 -- the logs have the same frames and count, and each log that the loop has visited has capacity for a frame

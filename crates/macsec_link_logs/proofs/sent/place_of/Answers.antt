@@ -1,8 +1,8 @@
 -- No log from the index on has the key. The log that has it is the only one. Proved from the lemmas in `SentLogs`.
-use Rattle.std.proofs.Common.{◌∙◌, ◌-◌, ap, arith, rules, sym}
-use Rattle.std.specs.Prelude.{◌==◌}
-use Rattle.macsec_link_logs.specs.Kept.{KeptSentLog}
-use Rattle.macsec_link_logs.proofs.SentLogs.{place_is}
+use Rattle.{
+  std.proofs.Common.{◌∙◌, ◌-◌, ap, arith, rules, sym, ◌==◌},
+  macsec_link_logs.{proofs.SentLogs.place_is, specs.Kept.KeptSentLog},
+}
 use Rattle.macsec_link_logs.proofs.sent.place_of.Goals as goal
 
 pub returns-then-is_under-clause-found : goal.returns-then-is_under-clause-found

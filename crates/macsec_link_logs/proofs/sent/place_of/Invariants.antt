@@ -1,5 +1,4 @@
-use Rattle.std.proofs.Common.{◌≤◌, ℕ, drop, length}
-use Rattle.macsec_link_logs.specs.Kept.{HasNone}
+use Rattle.{std.proofs.Common.{◌≤◌, ℕ, drop, length}, macsec_link_logs.specs.Kept.HasNone}
 use Rattle.macsec_link_logs.proofs.sent.place_of.Given as goal
 
 -- no log from the index on has the key

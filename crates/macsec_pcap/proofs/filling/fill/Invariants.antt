@@ -1,5 +1,4 @@
-use Rattle.std.proofs.Common.{◌≤◌, ◌-◌, length, take}
-use Rattle.std.specs.Io.KnownBytes.{Consumes}
+use Rattle.std.{proofs.Common.{◌≤◌, ◌-◌, length, take}, specs.Io.KnownBytes.Consumes}
 use Rattle.macsec_pcap.proofs.filling.fill.Given as goal
 
 -- the buffer begins with what the source has returned so far

@@ -1,10 +1,8 @@
 -- By the equation of the number after the first 20 octets, so that a number of fewer octets is refused quickly.
-use Rattle.std.proofs.Common.{◌≡◌, ◌∙◌, ◌-◌, ℕ, List, ap, drop, length, take}
-use Rattle.std.specs.Prelude.{◌==◌}
-use Rattle.std.proofs.lemmas.List.{take_rest}
-use Rattle.macsec_pcap.specs.declared.form.Order.{Order}
-use Rattle.macsec_pcap.specs.Header.{is_ethernet}
-use Rattle.macsec_pcap.specs.Numbers.{number}
+use Rattle.{
+  std.proofs.{Common.{◌≡◌, ◌∙◌, ◌-◌, ℕ, List, ap, drop, length, take, ◌==◌}, lemmas.List.take_rest},
+  macsec_pcap.specs.{Header.is_ethernet, Numbers.number, declared.form.Order.Order},
+}
 use Rattle.macsec_pcap.proofs.header.is_ethernet.Goals as goal
 
 is_one : (order : Order) (front : List ℕ) (n : ℕ) → n ≡ number order 4 (take (length front - 20) (drop 20 front)) →

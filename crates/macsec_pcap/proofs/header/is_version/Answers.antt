@@ -1,6 +1,5 @@
 -- By the numbers at the two offsets. These proofs are here for speed.
-use Rattle.std.proofs.Common.{arith}
-use Rattle.std.proofs.lemmas.Grind.{common_steps}
+use Rattle.std.proofs.{Common.arith, lemmas.Grind.common_steps}
 use Rattle.macsec_pcap.proofs.header.is_version.Goals as goal
 
 pub returns-then-u16 : goal.returns-then-u16

@@ -1,5 +1,4 @@
-use Rattle.std.proofs.Common.{◌≤◌, arith}
-use Rattle.macsec_pcap.proofs.Headers.{reads_header}
+use Rattle.{std.proofs.Common.{◌≤◌, arith}, macsec_pcap.proofs.Headers.reads_header}
 use Rattle.macsec_pcap.proofs.header.read_header.Goals as goal
 
 pub returns : goal.returns

@@ -1,6 +1,7 @@
-use Rattle.std.proofs.Common.{◌≤◌, arith}
-use Rattle.std.proofs.lemmas.Result.{err_from_is_err_and}
-use Rattle.macsec_pcap.proofs.RecordsAt.{takes_fault, takes_record}
+use Rattle.{
+  std.proofs.{Common.{◌≤◌, arith}, lemmas.Result.err_from_is_err_and},
+  macsec_pcap.proofs.RecordsAt.{takes_fault, takes_record},
+}
 use Rattle.macsec_pcap.proofs.records.take_record.Goals as goal
 
 pub returns-in_err-take_captured-clause-taken : goal.returns-in_err-take_captured-clause-taken

@@ -1,6 +1,5 @@
 -- By the numbers that are written one after the other. This proof is here for speed.
-use Rattle.std.proofs.Common.{arith}
-use Rattle.std.proofs.lemmas.Grind.{common_steps}
+use Rattle.std.proofs.{Common.arith, lemmas.Grind.common_steps}
 use Rattle.macsec_pcap.proofs.writer.header.Goals as goal
 
 pub returns : goal.returns

@@ -1,6 +1,7 @@
-use Rattle.std.proofs.Common.{◌≤◌, arith, length}
-use Rattle.std.proofs.lemmas.Result.{err_from_is_err_and}
-use Rattle.macsec_pcap.proofs.WrittenRecords.{cuts_head, writes_record}
+use Rattle.{
+  std.proofs.{Common.{◌≤◌, arith, length}, lemmas.Result.err_from_is_err_and},
+  macsec_pcap.proofs.WrittenRecords.{cuts_head, writes_record},
+}
 use Rattle.macsec_pcap.proofs.writer.write_record.Goals as goal
 
 pub returns-in_err-write_piece : goal.returns-in_err-write_piece

@@ -1,7 +1,7 @@
-use Rattle.std.proofs.Common.{◌≡◌, ◌∙◌, ◌≤◌, arith, sym}
-use Rattle.std.specs.Prelude.{false, true}
-use Rattle.macsec_pcapng.specs.Blocks.{is_section}
-use Rattle.macsec_pcapng.proofs.TakenBlocks.{takes_other, takes_section}
+use Rattle.{
+  std.proofs.Common.{◌≡◌, ◌∙◌, ◌≤◌, arith, sym, false, true},
+  macsec_pcapng.{proofs.TakenBlocks.{takes_other, takes_section}, specs.Blocks.is_section},
+}
 use Rattle.macsec_pcapng.proofs.blocks.take_block.Goals as goal
 
 pub returns-then-is_section-clause-block : goal.returns-then-is_section-clause-block

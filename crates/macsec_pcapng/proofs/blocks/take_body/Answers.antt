@@ -1,5 +1,7 @@
-use Rattle.std.proofs.Common.{◌≡◌, ◌+◌, ◌≤◌, arith, length}
-use Rattle.macsec_pcapng.proofs.TakenBlocks.{body_taken, piece_fault}
+use Rattle.{
+  std.proofs.Common.{◌≡◌, ◌+◌, ◌≤◌, arith, length},
+  macsec_pcapng.proofs.TakenBlocks.{body_taken, piece_fault},
+}
 use Rattle.macsec_pcapng.proofs.blocks.take_body.Goals as goal
 
 pub returns-in-Err : goal.returns-in-Err

@@ -1,7 +1,7 @@
-use Rattle.std.proofs.Common.{◌≡◌, ◌∙◌, ◌-◌, refl, sym, take}
-use Rattle.std.specs.Prelude.{true}
-use Rattle.macsec_pcapng.specs.Blocks.{is_length}
-use Rattle.macsec_pcapng.proofs.TakenBlocks.{block_taken, body_fault, trailer_fault}
+use Rattle.{
+  std.proofs.Common.{◌≡◌, ◌∙◌, ◌-◌, refl, sym, take, true},
+  macsec_pcapng.{proofs.TakenBlocks.{block_taken, body_fault, trailer_fault}, specs.Blocks.is_length},
+}
 use Rattle.macsec_pcapng.proofs.blocks.take_known.Goals as goal
 
 pub returns-in-Err-clause-block : goal.returns-in-Err-clause-block

@@ -1,6 +1,7 @@
-use Rattle.std.proofs.Common.{◌≡◌, arith, length}
-use Rattle.std.proofs.lemmas.List.{length-take-le, take_at}
-use Rattle.macsec_pcapng.proofs.TakenBlocks.{section_taken}
+use Rattle.{
+  std.proofs.Common.{◌≡◌, arith, length, length-take-le, take_at},
+  macsec_pcapng.proofs.TakenBlocks.section_taken,
+}
 use Rattle.macsec_pcapng.proofs.blocks.take_section.Goals as goal
 
 pub returns-clause-block : goal.returns-clause-block

@@ -1,10 +1,8 @@
-use Rattle.std.proofs.Common.{◌≡◌, ◌∙◌, ◌≤◌, ℕ, List, ap, drop, refl, sym}
-use Rattle.std.specs.Prelude.{false, nat_lt}
-use Rattle.std.proofs.lemmas.Bool.{le-ltb}
-use Rattle.std.proofs.lemmas.List.{take_rest}
-use Rattle.macsec_pcap.specs.declared.form.Order.{Order}
-use Rattle.macsec_pcapng.specs.Interfaces.{interface_of, options_in, plain_interface}
-use Rattle.macsec_pcapng.specs.Limits.{max_options, room_length}
+use Rattle.{
+  std.proofs.{Common.{◌≡◌, ◌∙◌, ◌≤◌, ℕ, List, ap, drop, refl, sym, false, nat_lt, le-ltb}, lemmas.List.take_rest},
+  macsec_pcap.specs.declared.form.Order.Order,
+  macsec_pcapng.specs.{Interfaces.{interface_of, options_in, plain_interface}, Limits.{max_options, room_length}},
+}
 use Rattle.macsec_pcapng.proofs.interfaces.interface_of.Goals as goal
 
 -- a body that is kept completely

@@ -1,12 +1,13 @@
-use Rattle.std.proofs.Common.{◌≡◌, ◌≢◌, ◌∙◌, ◌+◌, ◌-◌, ◌≤◌, ◌<◌, ℕ, List, ap, arith, drop, length, refl, sym, take}
-use Rattle.std.specs.Prelude.{Result, Ok, Err, ◌==◌, false, true, nat_lt}
-use Rattle.std.proofs.lemmas.Bool.{le-ltb, lt-ltb}
-use Rattle.std.proofs.lemmas.Bool.Decides.{nat_tests}
-use Rattle.macsec_pcap.specs.declared.fault.PcapFault.{PcapFault}
-use Rattle.macsec_pcap.specs.declared.fault.PcapFault.TheVariants.{BlockLength}
-use Rattle.macsec_pcap.specs.declared.form.Order.{Order}
-use Rattle.macsec_pcapng.specs.declared.interfaces.Interface.{Interface}
-use Rattle.macsec_pcapng.specs.Interfaces.{behind_option, option_at, option_code, option_length, padded, value_length, with_option}
+use Rattle.std.proofs.{
+  Common.{◌≡◌, ◌≢◌, ◌∙◌, ◌+◌, ◌-◌, ◌≤◌, ◌<◌, ℕ, List, ap, arith, drop, length, refl, sym, take, Result, Ok, Err, ◌==◌},
+  Common.{false, true, nat_lt, le-ltb, lt-ltb},
+  lemmas.Bool.Decides.nat_tests,
+}
+use Rattle.macsec_pcap.specs.declared.{fault.PcapFault.{PcapFault, TheVariants.BlockLength}, form.Order.Order}
+use Rattle.macsec_pcapng.specs.{
+  Interfaces.{behind_option, option_at, option_code, option_length, padded, value_length, with_option},
+  declared.interfaces.Interface.Interface,
+}
 use Rattle.macsec_pcapng.proofs.interfaces.option_at.Goals as goal
 
 -- an option before the last: its code, the length of its value, and its total length

@@ -1,11 +1,9 @@
 -- A separate equation for each number. This proof is here for speed.
-use Rattle.std.proofs.Common.{◌≡◌, ◌∙◌, ◌-◌, ℕ, List, ap, drop, length, take}
-use Rattle.std.specs.Prelude.{None}
-use Rattle.std.proofs.lemmas.List.{take_rest}
-use Rattle.macsec_pcap.specs.declared.form.Order.{Order}
-use Rattle.macsec_pcap.specs.Numbers.{number}
-use Rattle.macsec_pcapng.specs.declared.interfaces.Interface.{Interface}
-use Rattle.macsec_pcapng.specs.Interfaces.{plain_interface}
+use Rattle.{
+  std.proofs.{Common.{◌≡◌, ◌∙◌, ◌-◌, ℕ, List, ap, drop, length, take, None}, lemmas.List.take_rest},
+  macsec_pcap.specs.{Numbers.number, declared.form.Order.Order},
+  macsec_pcapng.specs.{Interfaces.plain_interface, declared.interfaces.Interface.Interface},
+}
 use Rattle.macsec_pcapng.proofs.interfaces.plain_interface.Goals as goal
 
 abbrev plain : ℕ → ℕ → Interface

@@ -1,8 +1,8 @@
-use Rattle.std.proofs.Common.{◌≡◌, ◌<◌, ◌+◌, ◌-◌, ◌∙◌, ap, arith, sym}
-use Rattle.std.proofs.lemmas.List.{take_rest}
-use Rattle.macsec_pcapng.specs.Interfaces.{options_in}
-use Rattle.macsec_pcapng.specs.Limits.{max_options}
-use Rattle.macsec_pcapng.proofs.Options.{options_in-end, options_in-fault, options_in-more, options_in-none}
+use Rattle.std.proofs.{Common.{◌≡◌, ◌<◌, ◌+◌, ◌-◌, ◌∙◌, ap, arith, sym}, lemmas.List.take_rest}
+use Rattle.macsec_pcapng.{
+  proofs.Options.{options_in-end, options_in-fault, options_in-more, options_in-none},
+  specs.{Interfaces.options_in, Limits.max_options},
+}
 use Rattle.macsec_pcapng.proofs.interfaces.with_options.Goals as goal
 
 pub loop-preserved : goal.loop-preserved

@@ -1,6 +1,4 @@
-use Rattle.std.proofs.Common.{◌≡◌, ◌-◌}
-use Rattle.macsec_pcapng.specs.Interfaces.{options_in}
-use Rattle.macsec_pcapng.specs.Limits.{max_options}
+use Rattle.{std.proofs.Common.{◌≡◌, ◌-◌}, macsec_pcapng.specs.{Interfaces.options_in, Limits.max_options}}
 use Rattle.macsec_pcapng.proofs.interfaces.with_options.Given as goal
 
 -- the options from here on give the same interface as all options from the start

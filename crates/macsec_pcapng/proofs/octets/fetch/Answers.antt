@@ -1,6 +1,5 @@
 -- The room was filled. This proof is here for speed.
-use Rattle.std.proofs.Common.{arith}
-use Rattle.macsec_pcapng.proofs.TakenOctets.{fetches}
+use Rattle.{std.proofs.Common.arith, macsec_pcapng.proofs.TakenOctets.fetches}
 use Rattle.macsec_pcapng.proofs.octets.fetch.Goals as goal
 
 pub returns : goal.returns

@@ -1,5 +1,4 @@
-use Rattle.std.proofs.Common.{◌≤◌, ◌-◌}
-use Rattle.macsec_pcapng.proofs.TakenOctets.{IsPast}
+use Rattle.{std.proofs.Common.{◌≤◌, ◌-◌}, macsec_pcapng.proofs.TakenOctets.IsPast}
 use Rattle.macsec_pcapng.proofs.octets.skip_pieces.Given as goal
 
 -- as many octets were skipped as the count has decreased by

@@ -1,7 +1,5 @@
 -- By the equation itself: without this proof the prover tries other tactics on a mutant, which takes longer.
-use Rattle.std.proofs.Common.{◌∙◌, ap}
-use Rattle.std.proofs.lemmas.List.{take_rest}
-use Rattle.macsec_pcap.specs.Numbers.{number}
+use Rattle.{std.proofs.{Common.{◌∙◌, ap}, lemmas.List.take_rest}, macsec_pcap.specs.Numbers.number}
 use Rattle.macsec_pcapng.proofs.packets.captured_length.Goals as goal
 
 pub returns : goal.returns

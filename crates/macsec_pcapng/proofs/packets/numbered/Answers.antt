@@ -1,22 +1,21 @@
 -- A separate equation for each number of the packet, so that the prover refuses a wrong number quickly.
-use Rattle.std.proofs.Common.{◌≡◌, ◌∙◌, ◌-◌, ◌<◌, ◌≤◌, ℕ, zero, suc, List, [], ◌∷◌, Option, Some, None, Result, Err, false, true}
-use Rattle.std.proofs.Common.{ap, arith, drop, get_or, length, refl, sym, take}
-use Rattle.std.specs.Prelude.{Bool, nat_lt}
-use Rattle.std.proofs.lemmas.Bool.Decides.{nat_tests}
-use Rattle.std.proofs.lemmas.List.{take_rest}
-use Rattle.std.specs.List.{slice_get}
-use Rattle.macsec_pcap.specs.declared.fault.PcapFault.{PcapFault}
-use Rattle.macsec_pcap.specs.declared.fault.PcapFault.TheVariants.{NoInterface}
-use Rattle.macsec_pcap.specs.declared.form.Order.{Order}
-use Rattle.macsec_pcap.specs.Numbers.{number}
-use Rattle.macsec_pcapng.specs.declared.interfaces.Interface.{Interface}
-use Rattle.macsec_pcapng.specs.declared.packets.Packet.{Packet}
-use Rattle.macsec_pcapng.specs.declared.times.Time.{Time}
-use Rattle.macsec_pcapng.specs.Interfaces.{is_ethernet}
-use Rattle.macsec_pcapng.specs.Blocks.{kept}
-use Rattle.macsec_pcapng.specs.Packets.{enhanced_on, other_packet, packet_of, ticks}
-use Rattle.macsec_pcapng.specs.Times.{time_of}
-use Rattle.macsec_pcapng.proofs.OtherPackets.{other_fits}
+use Rattle.{
+  std.proofs.{
+    Common.{◌≡◌, ◌∙◌, ◌-◌, ◌<◌, ◌≤◌, ℕ, zero, suc, List, [], ◌∷◌, Option, Some, None, Result, Err, false, true, ap},
+    Common.{arith, drop, get_or, length, refl, sym, take, Bool, nat_lt},
+    lemmas.{Bool.Decides.nat_tests, List.take_rest},
+  },
+  std.specs.List.slice_get,
+  macsec_pcap.specs.{Numbers.number, declared.{fault.PcapFault.{PcapFault, TheVariants.NoInterface}, form.Order.Order}},
+  macsec_pcapng.proofs.OtherPackets.other_fits,
+  macsec_pcapng.specs.{
+    Blocks.kept,
+    Interfaces.is_ethernet,
+    Packets.{enhanced_on, other_packet, packet_of, ticks},
+    Times.time_of,
+    declared.{interfaces.Interface.Interface, packets.Packet.Packet, times.Time.Time},
+  },
+}
 use Rattle.macsec_pcapng.proofs.packets.numbered.Goals as goal
 
 found_at : {X : Type 0} (xs : List X) (n : ℕ) (x : X) → n < length xs → ((d : X) → x ≡ get_or xs n d) →

@@ -1,7 +1,5 @@
 -- By the number of the interface. This proof is here for speed.
-use Rattle.std.proofs.Common.{◌∙◌, ap}
-use Rattle.std.specs.Prelude.{slice_get}
-use Rattle.macsec_pcapng.specs.Packets.{enhanced_on}
+use Rattle.{std.proofs.Common.{◌∙◌, ap, slice_get}, macsec_pcapng.specs.Packets.enhanced_on}
 use Rattle.macsec_pcapng.proofs.packets.obsolete.Goals as goal
 
 pub returns-clause-packet : goal.returns-clause-packet

@@ -1,6 +1,5 @@
 -- A packet that is not of Ethernet has no data.
-use Rattle.macsec_pcapng.specs.Blocks.{kept}
-use Rattle.macsec_pcapng.proofs.OtherPackets.{other_fits}
+use Rattle.macsec_pcapng.{proofs.OtherPackets.other_fits, specs.Blocks.kept}
 use Rattle.macsec_pcapng.proofs.packets.simple.Goals as goal
 
 pub returns-then-not-is_ethernet-clause-fits : goal.returns-then-not-is_ethernet-clause-fits

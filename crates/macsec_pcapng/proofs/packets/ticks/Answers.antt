@@ -1,9 +1,9 @@
 -- A separate equation for each half. This proof is here for speed.
-use Rattle.std.proofs.Common.{◌≡◌, ◌∙◌, ◌+◌, ◌*◌, ◌-◌, ℕ, List, ap, drop, length, take}
-use Rattle.std.proofs.lemmas.List.{take_rest}
-use Rattle.macsec_pcap.specs.declared.form.Order.{Order}
-use Rattle.macsec_pcap.specs.Numbers.{number}
-use Rattle.macsec_pcapng.specs.Packets.{ticks}
+use Rattle.{
+  std.proofs.{Common.{◌≡◌, ◌∙◌, ◌+◌, ◌*◌, ◌-◌, ℕ, List, ap, drop, length, take}, lemmas.List.take_rest},
+  macsec_pcap.specs.{Numbers.number, declared.form.Order.Order},
+  macsec_pcapng.specs.Packets.ticks,
+}
 use Rattle.macsec_pcapng.proofs.packets.ticks.Goals as goal
 
 is_ticks : (order : Order) (front : List ℕ) (high low : ℕ) →

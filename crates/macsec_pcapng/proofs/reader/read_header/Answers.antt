@@ -1,7 +1,7 @@
-use Rattle.std.proofs.Common.{◌∙◌, ap, take}
-use Rattle.std.specs.Prelude.{false}
-use Rattle.macsec_pcapng.specs.Sections.{new_section}
-use Rattle.macsec_pcapng.proofs.OneTaken.{header_fault, header_made, header_none, header_other}
+use Rattle.{
+  std.proofs.Common.{◌∙◌, ap, take, false},
+  macsec_pcapng.{proofs.OneTaken.{header_fault, header_made, header_none, header_other}, specs.Sections.new_section},
+}
 use Rattle.macsec_pcapng.proofs.reader.read_header.Goals as goal
 
 pub returns-in-Ok-None : goal.returns-in-Ok-None

@@ -1,8 +1,7 @@
-use Rattle.std.proofs.Common.{◌∙◌, ◌+◌, ◌≤◌, ap, arith, refl}
-use Rattle.std.proofs.lemmas.List.{length-take-le}
-use Rattle.std.specs.Prelude.{Some, None, Ok, Err}
-use Rattle.macsec_pcapng.specs.Blocks.{kept}
-use Rattle.macsec_pcapng.proofs.OneTaken.{left_as, one_end, one_fault, one_found, one_refused, taken_as}
+use Rattle.{
+  std.proofs.Common.{◌∙◌, ◌+◌, ◌≤◌, ap, arith, refl, length-take-le, Some, None, Ok, Err},
+  macsec_pcapng.{proofs.OneTaken.{left_as, one_end, one_fault, one_found, one_refused, taken_as}, specs.Blocks.kept},
+}
 use Rattle.macsec_pcapng.proofs.taking.take_one.Goals as goal
 
 pub returns-in-Ok-None-clause-taken : goal.returns-in-Ok-None-clause-taken

@@ -1,5 +1,7 @@
-use Rattle.std.proofs.Common.{◌≡◌, ◌-◌, arith}
-use Rattle.macsec_pcapng.proofs.Ahead.{goes_end, goes_fault, goes_found, goes_on, goes_over}
+use Rattle.{
+  std.proofs.Common.{◌≡◌, ◌-◌, arith},
+  macsec_pcapng.proofs.Ahead.{goes_end, goes_fault, goes_found, goes_on, goes_over},
+}
 use Rattle.macsec_pcapng.proofs.taking.take_packet.Goals as goal
 
 pub loop-blocks-preserved : goal.loop-blocks-preserved

@@ -1,7 +1,7 @@
-use Rattle.std.proofs.Common.{ℕ, ◌<◌, ◌^◌, ◌-◌, arith, subst, sym}
-use Rattle.std.specs.Prelude.{Bool, true, false, if◌then◌else◌, nat_lt}
-use Rattle.std.proofs.Math.Nat.{one-le-pow}
-use Rattle.std.proofs.lemmas.Nat.{pow_pos}
+use Rattle.std.proofs.{
+  Common.{ℕ, ◌<◌, ◌^◌, ◌-◌, arith, subst, sym, Bool, true, false, if◌then◌else◌, nat_lt, pow_pos},
+  Math.Nat.one-le-pow,
+}
 use Rattle.macsec_pcapng.specs.Times.{units}
 use Rattle.macsec_pcapng.proofs.times.nanoseconds.Goals as goal
 

@@ -1,5 +1,4 @@
-use Rattle.std.proofs.Common.{◌≡◌, ◌++◌, take}
-use Rattle.macsec_reserve.specs.Journal.{records_of}
+use Rattle.macsec_reserve.proofs.Prelude.{◌++◌, ◌≡◌, records_of, take}
 use Rattle.macsec_reserve.proofs.compaction.append_records.Given as goal
 
 -- the records before the index are appended

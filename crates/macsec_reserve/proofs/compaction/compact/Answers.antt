@@ -1,8 +1,5 @@
-use Rattle.std.proofs.Common.{◌-◌, ap, drop, length, length-drop, take, ◌∙◌, arith}
-use Rattle.std.specs.Prelude.{◌++◌}
-use Rattle.std.proofs.lemmas.List.{take_all}
-use Rattle.macsec_reserve.specs.Entries.{reduced}
-use Rattle.macsec_reserve.specs.Journal.{records_of, reservations}
+use Rattle.macsec_reserve.proofs.Prelude.{◌++◌, ◌-◌, ◌∙◌, ap, arith, drop, length, length-drop, records_of, reduced}
+use Rattle.macsec_reserve.proofs.Prelude.{reservations, take, take_all}
 use Rattle.macsec_reserve.proofs.compaction.compact.Goals as goal
 
 pub returns : goal.returns

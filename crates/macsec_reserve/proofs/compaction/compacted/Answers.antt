@@ -1,7 +1,7 @@
-use Rattle.std.proofs.Common.{◌≡◌, true, subst, sym, ◌∙◌}
-use Rattle.macsec_reserve.specs.Compaction.{IsCompacted}
-use Rattle.macsec_reserve.specs.Journal.{is_journal}
-use Rattle.macsec_reserve.proofs.ShorterJournals.{are_octets, is_compacted}
+use Rattle.macsec_reserve.proofs.{
+  Prelude.{◌∙◌, ◌≡◌, is_journal, IsCompacted, subst, sym, true},
+  ShorterJournals.{are_octets, is_compacted},
+}
 use Rattle.macsec_reserve.proofs.compaction.compacted.Goals as goal
 
 pub returns-in-Ok-clause-keeps : goal.returns-in-Ok-clause-keeps

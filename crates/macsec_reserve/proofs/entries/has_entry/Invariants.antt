@@ -1,5 +1,4 @@
-use Rattle.std.proofs.Common.{◌≡◌, drop}
-use Rattle.macsec_reserve.specs.Entries.{has_entry}
+use Rattle.macsec_reserve.proofs.Prelude.{◌≡◌, drop, has_entry}
 use Rattle.macsec_reserve.proofs.entries.has_entry.Given as goal
 
 -- no entry before the index has the name

@@ -1,7 +1,4 @@
-use Rattle.std.proofs.Common.{arith}
-use Rattle.std.proofs.lemmas.List.{get_or_default}
-use Rattle.std.proofs.lemmas.List.Edits.{map_over_more}
-use Rattle.macsec_reserve.specs.Entries.{raised_by}
+use Rattle.macsec_reserve.proofs.Prelude.{arith, get_or_default, map_over_more, raised_by}
 use Rattle.macsec_reserve.proofs.entries.raise.Goals as goal
 
 pub loop-reserved-preserved : goal.loop-reserved-preserved

@@ -1,5 +1,4 @@
-use Rattle.std.proofs.Common.{◌≡◌, ◌++◌, map, take, drop}
-use Rattle.macsec_reserve.specs.Entries.{raised_by}
+use Rattle.macsec_reserve.proofs.Prelude.{◌++◌, ◌≡◌, drop, map, raised_by, take}
 use Rattle.macsec_reserve.proofs.entries.raise.Given as goal
 
 -- the entries before the index are raised, and the others are unchanged

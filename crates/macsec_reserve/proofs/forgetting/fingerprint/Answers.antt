@@ -1,9 +1,8 @@
 -- The fingerprint of 16 octets.
-use Rattle.std.proofs.Common.{◌≡◌, length, take, ap, sym, ◌∙◌, rules, arith}
-use Rattle.std.proofs.lemmas.Grind.{common_steps}
-use Rattle.macsec_aes.specs.declared.Key.TheVariants.{K128}
-use Rattle.macsec_reserve.specs.Forgetting.{key_of_fingerprint}
-use Rattle.macsec_reserve.specs.Journal.{sending_name}
+use Rattle.{
+  std.proofs.lemmas.Grind.common_steps,
+  macsec_reserve.proofs.Prelude.{◌∙◌, ◌≡◌, ap, arith, K128, key_of_fingerprint, length, rules, sending_name, sym, take},
+}
 use Rattle.macsec_reserve.proofs.forgetting.fingerprint.Goals as goal
 
 pub returns-in-K128 : goal.returns-in-K128

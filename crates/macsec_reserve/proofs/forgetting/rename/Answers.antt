@@ -1,7 +1,4 @@
-use Rattle.std.proofs.Common.{arith}
-use Rattle.std.proofs.lemmas.List.{get_or_default}
-use Rattle.std.proofs.lemmas.List.Edits.{map_over_more}
-use Rattle.macsec_reserve.specs.Names.{renamed}
+use Rattle.macsec_reserve.proofs.Prelude.{arith, get_or_default, map_over_more, renamed}
 use Rattle.macsec_reserve.proofs.forgetting.rename.Goals as goal
 
 pub loop-named-preserved : goal.loop-named-preserved

@@ -1,5 +1,4 @@
-use Rattle.std.proofs.Common.{◌≡◌, ◌++◌, map, take, drop}
-use Rattle.macsec_reserve.specs.Names.{renamed}
+use Rattle.macsec_reserve.proofs.Prelude.{◌++◌, ◌≡◌, drop, map, renamed, take}
 use Rattle.macsec_reserve.proofs.forgetting.rename.Given as goal
 
 -- the names before the index are as afterwards, and the others are unchanged

@@ -1,8 +1,7 @@
-use Rattle.std.proofs.Common.{◌≡◌, suc, ◌*◌, ◌+◌, [], ap, sym, ◌∙◌, arith}
-use Rattle.std.specs.Prelude.{slice_range}
-use Rattle.macsec_reserve.specs.Entries.{reduced, with_all}
-use Rattle.macsec_reserve.specs.Journal.{reserved_in, reserved_within}
-use Rattle.macsec_reserve.proofs.Reduced.{with_all-append}
+use Rattle.macsec_reserve.proofs.{
+  Prelude.{[], ◌*◌, ◌+◌, ◌∙◌, ◌≡◌, ap, arith, reduced, reserved_in, reserved_within, slice_range, suc, sym, with_all},
+  Reduced.with_all-append,
+}
 use Rattle.macsec_reserve.proofs.journal.entries_of.Goals as goal
 
 pub loop-k-preserved : goal.loop-k-preserved

@@ -1,7 +1,7 @@
-use Rattle.std.proofs.Common.{◌≡◌, length, refl, ap, ◌∙◌, arith}
-use Rattle.std.specs.Prelude.{◌++◌, replicate}
-use Rattle.macsec_reserve.specs.Journal.{title}
-use Rattle.macsec_reserve.proofs.WrittenRecords.{over_end}
+use Rattle.macsec_reserve.proofs.{
+  Prelude.{◌++◌, ◌∙◌, ◌≡◌, ap, arith, length, refl, replicate, title},
+  WrittenRecords.over_end,
+}
 use Rattle.macsec_reserve.proofs.journal.title_and_salt.Goals as goal
 
 pub returns : goal.returns

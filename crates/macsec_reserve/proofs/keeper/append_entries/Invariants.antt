@@ -1,6 +1,7 @@
-use Rattle.std.proofs.Common.{◌≡◌, ◌≤◌, ◌+◌, ◌++◌, length, map, take}
-use Rattle.std.specs.Prelude.{vec_capacity, vec_len}
-use Rattle.macsec_reserve.specs.Names.{entry_of}
+use Rattle.{
+  std.proofs.Common.vec_len,
+  macsec_reserve.proofs.Prelude.{◌++◌, ◌+◌, ◌≡◌, ◌≤◌, entry_of, length, map, take, vec_capacity},
+}
 use Rattle.macsec_reserve.proofs.keeper.append_entries.Given as goal
 
 -- the entries so far, and room for the others

@@ -1,4 +1,4 @@
-use Rattle.std.proofs.Common.{rules}
+use Rattle.macsec_reserve.proofs.Prelude.{rules}
 use Rattle.macsec_reserve.proofs.keeper.may_use.Goals as goal
 
 pub returns-then-from-number : goal.returns-then-from-number

@@ -1,4 +1,4 @@
-use Rattle.std.proofs.Common.{rules}
+use Rattle.macsec_reserve.proofs.Prelude.{rules}
 use Rattle.macsec_reserve.proofs.keeper.was_reserved.Goals as goal
 
 pub returns-then-number-gt0 : goal.returns-then-number-gt0

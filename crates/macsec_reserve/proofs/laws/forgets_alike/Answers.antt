@@ -1,7 +1,9 @@
 -- A run with forgetting, compared with the same run without, by the laws of an endpoint about its keys.
-use Rattle.macsec_reserve.proofs.ForgettingRuns.{forgets_alike, forgets_alike_alone}
-use Rattle.macsec_reserve.proofs.KnownKeys.{is_as_before}
-use Rattle.macsec_reserve.proofs.Replaced.{KeyLaws}
+use Rattle.macsec_reserve.proofs.{
+  ForgettingRuns.{forgets_alike, forgets_alike_alone},
+  KnownKeys.is_as_before,
+  Replaced.KeyLaws,
+}
 use Rattle.macsec_reserve.proofs.laws.forgets_alike.Goals as goal
 
 pub returns-clause-before : goal.returns-clause-before

@@ -1,6 +1,5 @@
 -- A keeping endpoint with an empty journal, by the laws of an endpoint, and one without a journal.
-use Rattle.macsec_reserve.proofs.TheMachine.{is_the_machine, is_the_machine_alone}
-use Rattle.macsec_reserve.proofs.EndpointLaws.{Laws}
+use Rattle.macsec_reserve.proofs.{EndpointLaws.Laws, TheMachine.{is_the_machine, is_the_machine_alone}}
 use Rattle.macsec_reserve.proofs.laws.is_the_machine.Goals as goal
 
 pub returns-clause-reserved : goal.returns-clause-reserved

@@ -1,6 +1,5 @@
 -- Octets that were installed are known and refused, by the laws of an endpoint about its keys.
-use Rattle.macsec_reserve.proofs.KnownKeys.{becomes_known, refuses_known, stays_known}
-use Rattle.macsec_reserve.proofs.Replaced.{KeyLaws}
+use Rattle.macsec_reserve.proofs.{KnownKeys.{becomes_known, refuses_known, stays_known}, Replaced.KeyLaws}
 use Rattle.macsec_reserve.proofs.laws.refuses_forgotten_keys.Goals as goal
 
 pub returns-clause-begins : goal.returns-clause-begins

@@ -1,6 +1,8 @@
 -- The first promise at two ends, by the laws of an endpoint.
-use Rattle.macsec_reserve.proofs.EndpointLaws.{Laws}
-use Rattle.macsec_reserve.proofs.TwoEnds.{repeats_no_iv_at_both, repeats_no_iv_at_both_after_crashes}
+use Rattle.macsec_reserve.proofs.{
+  EndpointLaws.Laws,
+  TwoEnds.{repeats_no_iv_at_both, repeats_no_iv_at_both_after_crashes},
+}
 use Rattle.macsec_reserve.proofs.laws.repeats_no_iv_at_both.Goals as goal
 
 pub returns-clause-durable : goal.returns-clause-durable

@@ -1,7 +1,5 @@
 -- The first promise with forgetting, by the laws of an endpoint.
-use Rattle.macsec_reserve.proofs.EndpointLaws.{Laws}
-use Rattle.macsec_reserve.proofs.ForgettingRuns.{repeats_no_iv_forgetting}
-use Rattle.macsec_reserve.proofs.Replaced.{KeyLaws}
+use Rattle.macsec_reserve.proofs.{EndpointLaws.Laws, ForgettingRuns.repeats_no_iv_forgetting, Replaced.KeyLaws}
 use Rattle.macsec_reserve.proofs.laws.repeats_no_iv_forgetting.Goals as goal
 
 pub returns : goal.returns

@@ -1,7 +1,9 @@
 -- The first promise of the runs' own keys, by the laws of an endpoint.
-use Rattle.macsec_reserve.proofs.EndpointLaws.{Laws}
-use Rattle.macsec_reserve.proofs.OfKeys.{repeats_no_iv_of_keys, repeats_no_iv_of_keys_forgetting}
-use Rattle.macsec_reserve.proofs.Replaced.{KeyLaws}
+use Rattle.macsec_reserve.proofs.{
+  EndpointLaws.Laws,
+  OfKeys.{repeats_no_iv_of_keys, repeats_no_iv_of_keys_forgetting},
+  Replaced.KeyLaws,
+}
 use Rattle.macsec_reserve.proofs.laws.repeats_no_iv_of_keys.Goals as goal
 
 pub returns-clause-kept : goal.returns-clause-kept

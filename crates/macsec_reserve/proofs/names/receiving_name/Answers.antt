@@ -1,4 +1,4 @@
-use Rattle.std.proofs.Common.{rules}
+use Rattle.macsec_reserve.proofs.Prelude.{rules}
 use Rattle.macsec_reserve.proofs.names.receiving_name.Goals as goal
 
 pub returns : goal.returns

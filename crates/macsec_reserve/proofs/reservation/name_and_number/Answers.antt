@@ -1,6 +1,4 @@
-use Rattle.std.proofs.Common.{◌≡◌, length, refl, ap, ◌∙◌, arith}
-use Rattle.std.specs.Prelude.{◌++◌, replicate}
-use Rattle.macsec_reserve.proofs.WrittenRecords.{over_end}
+use Rattle.macsec_reserve.proofs.{Prelude.{◌++◌, ◌∙◌, ◌≡◌, ap, arith, length, refl, replicate}, WrittenRecords.over_end}
 use Rattle.macsec_reserve.proofs.reservation.name_and_number.Goals as goal
 
 pub returns : goal.returns

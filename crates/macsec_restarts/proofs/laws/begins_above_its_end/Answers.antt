@@ -1,8 +1,7 @@
-use Rattle.std.proofs.Common.{ℕ, List}
-use Rattle.macsec_tag.specs.declared.identifiers.Sci.{Sci}
-use Rattle.macsec_reserve.specs.Keeping.{KeepingInput}
-use Rattle.macsec_ahead.specs.Ahead.{Ahead}
-use Rattle.macsec_restarts.proofs.AheadEnds.{keeps_ends, refuses_below_end, remembers_end}
+use Rattle.macsec_restarts.proofs.{
+  Names.{Ahead, KeepingInput, List, Sci, ℕ},
+  AheadEnds.{keeps_ends, refuses_below_end, remembers_end},
+}
 use Rattle.macsec_restarts.proofs.laws.begins_above_its_end.Goals as goal
 
 pub returns-clause-remembers : goal.returns-clause-remembers

@@ -1,8 +1,7 @@
-use Rattle.std.proofs.Common.{ℕ, List}
-use Rattle.macsec_tag.specs.declared.identifiers.Sci.{Sci}
-use Rattle.macsec_reserve.specs.Keeping.{KeepingInput}
-use Rattle.macsec_ahead.specs.Ahead.{Ahead}
-use Rattle.macsec_restarts.proofs.ForgettingEnds.{keeps_ends_forgetting, refuses_below_end_forgetting, remembers_end_forgetting}
+use Rattle.macsec_restarts.proofs.{
+  Names.{Ahead, KeepingInput, List, Sci, ℕ},
+  ForgettingEnds.{keeps_ends_forgetting, refuses_below_end_forgetting, remembers_end_forgetting},
+}
 use Rattle.macsec_restarts.proofs.laws.begins_above_its_end_forgetting.Goals as goal
 
 pub returns-clause-remembers : goal.returns-clause-remembers

@@ -1,7 +1,9 @@
 -- Order, and each frame at most once, by the laws of an endpoint.
-use Rattle.macsec_restarts.proofs.KeptOrder.{comes_in_order_if_kept, comes_in_order_if_read}
-use Rattle.macsec_restarts.proofs.KeptPeers.{peers_at_each}
-use Rattle.macsec_restarts.proofs.KeptWeaker.{is_weaker_to_deliver, is_weaker_to_send}
+use Rattle.macsec_restarts.proofs.{
+  KeptOrder.{comes_in_order_if_kept, comes_in_order_if_read},
+  KeptPeers.peers_at_each,
+  KeptWeaker.{is_weaker_to_deliver, is_weaker_to_send},
+}
 use Rattle.macsec_restarts.proofs.laws.comes_in_order_if_kept.Goals as goal
 
 pub returns-clause-kept : goal.returns-clause-kept

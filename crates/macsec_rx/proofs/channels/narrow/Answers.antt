@@ -1,6 +1,4 @@
-use Rattle.std.proofs.Common.{arith}
-use Rattle.std.proofs.lemmas.List.Edits.{map_over_more}
-use Rattle.macsec_rx.specs.Commands.{row_narrowed}
+use Rattle.{std.proofs.{Common.arith, lemmas.List.Edits.map_over_more}, macsec_rx.specs.Commands.row_narrowed}
 use Rattle.macsec_rx.proofs.channels.narrow.Goals as goal
 
 pub loop-row-preserved : goal.loop-row-preserved

@@ -1,5 +1,4 @@
-use Rattle.std.proofs.Common.{◌≡◌, ◌++◌, map, take, drop}
-use Rattle.macsec_rx.specs.Commands.{row_narrowed}
+use Rattle.{std.proofs.Common.{◌≡◌, ◌++◌, map, take, drop}, macsec_rx.specs.Commands.row_narrowed}
 use Rattle.macsec_rx.proofs.channels.narrow.Given as goal
 
 -- the rows before the index are narrowed, and the others are unchanged

@@ -1,8 +1,9 @@
 -- The octets of the SCI are the address and the port: 0, then the port's octet. Proved from the contract of the copy
 -- and `set-append_right`.
-use Rattle.std.proofs.Common.{◌++◌, ◌∷◌, [], List, ℕ, set, ap, ◌∙◌, arith}
-use Rattle.std.proofs.lemmas.List.{set-append_right}
-use Rattle.macsec_tag.specs.declared.identifiers.Sci.{Sci}
+use Rattle.{
+  std.proofs.{Common.{◌++◌, ◌∷◌, [], List, ℕ, set, ap, ◌∙◌, arith}, lemmas.List.set-append_right},
+  macsec_tag.specs.declared.identifiers.Sci.Sci,
+}
 use Rattle.macsec_rx.proofs.channels.port_of.Goals as goal
 
 as_sci : List ℕ → Sci

@@ -1,7 +1,8 @@
-use Rattle.std.proofs.Common.{◌≡◌, ◌+◌, ◌++◌, ℕ, List, length, take, drop, ap, sym, ◌∙◌, arith, rules}
-use Rattle.std.proofs.lemmas.List.{length-take-le}
-use Rattle.macsec_tag.specs.Tag.{encoding}
-use Rattle.macsec_rx.proofs.Placed.{placed}
+use Rattle.{
+  std.proofs.Common.{◌≡◌, ◌+◌, ◌++◌, ℕ, List, length, take, drop, ap, sym, ◌∙◌, arith, rules, length-take-le},
+  macsec_tag.specs.Tag.encoding,
+  macsec_rx.proofs.Placed.placed,
+}
 use Rattle.macsec_rx.proofs.delivering.deliver.Goals as goal
 
 pub returns-clause-octets : goal.returns-clause-octets

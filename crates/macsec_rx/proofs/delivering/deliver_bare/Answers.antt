@@ -1,7 +1,8 @@
-use Rattle.std.proofs.Common.{◌≡◌, ◌+◌, ◌++◌, ℕ, List, length, take, ap, sym, ◌∙◌, arith}
-use Rattle.std.proofs.lemmas.List.{length-take-le}
-use Rattle.macsec_tag.specs.Tag.{encoding}
-use Rattle.macsec_rx.proofs.Placed.{behind}
+use Rattle.{
+  std.proofs.Common.{◌≡◌, ◌+◌, ◌++◌, ℕ, List, length, take, ap, sym, ◌∙◌, arith, length-take-le},
+  macsec_tag.specs.Tag.encoding,
+  macsec_rx.proofs.Placed.behind,
+}
 use Rattle.macsec_rx.proofs.delivering.deliver_bare.Goals as goal
 
 pub returns-clause-octets : goal.returns-clause-octets

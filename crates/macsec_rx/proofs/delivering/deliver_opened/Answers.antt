@@ -1,10 +1,10 @@
 -- The plaintext of the definition is delivered if the ICV is valid, and nothing otherwise. Proved from the lemmas in
 -- `Opened`: opening by positions is opening by parts.
-use Rattle.std.proofs.Common.{◌≡◌, ℕ, ◌+◌, length, drop, ap, sym, ◌∙◌, rules}
-use Rattle.std.specs.Prelude.{Some, None}
-use Rattle.macsec_suite.specs.InPlace.{validated_octets}
-use Rattle.macsec_rx.specs.Delivered.{received_octets}
-use Rattle.macsec_rx.proofs.Opened.{LowerLaws, data_place, opened, refused}
+use Rattle.{
+  std.proofs.Common.{◌≡◌, ℕ, ◌+◌, length, drop, ap, sym, ◌∙◌, rules, Some, None},
+  macsec_suite.specs.InPlace.validated_octets,
+  macsec_rx.{proofs.Opened.{LowerLaws, data_place, opened, refused}, specs.Delivered.received_octets},
+}
 use Rattle.macsec_rx.proofs.delivering.deliver_opened.Goals as goal
 
 pub returns-then-validate_in_place-clause-octets :

@@ -1,5 +1,4 @@
-use Rattle.std.proofs.Common.{◌+◌, ◌-◌, length, arith, rules}
-use Rattle.std.proofs.lemmas.Slice.{drop-put_mid}
+use Rattle.std.proofs.{Common.{◌+◌, ◌-◌, length, arith, rules}, lemmas.Slice.drop-put_mid}
 use Rattle.macsec_rx.proofs.delivering.put.Goals as goal
 
 pub returns-clause-rest : goal.returns-clause-rest

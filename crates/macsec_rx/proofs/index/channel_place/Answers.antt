@@ -1,6 +1,5 @@
 -- Searching the SCs piece by piece. Proved from the lemmas in `Pieces`.
-use Rattle.std.proofs.Common.{◌*◌, ◌+◌, sym, arith}
-use Rattle.macsec_rx.proofs.Pieces.{next_piece}
+use Rattle.{std.proofs.Common.{◌*◌, ◌+◌, sym, arith}, macsec_rx.proofs.Pieces.next_piece}
 use Rattle.macsec_rx.proofs.index.channel_place.Goals as goal
 
 pub loop-number-preserved : goal.loop-number-preserved

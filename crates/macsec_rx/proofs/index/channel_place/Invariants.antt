@@ -1,6 +1,4 @@
-use Rattle.std.proofs.Common.{◌≡◌, ◌+◌, ◌*◌, drop}
-use Rattle.macsec_rx.specs.Commands.{has_channel}
-use Rattle.macsec_rx.specs.Index.{channel_place}
+use Rattle.{std.proofs.Common.{◌≡◌, ◌+◌, ◌*◌, drop}, macsec_rx.specs.{Commands.has_channel, Index.channel_place}}
 use Rattle.macsec_rx.proofs.index.channel_place.Given as goal
 
 -- no SC before the piece has the SCI

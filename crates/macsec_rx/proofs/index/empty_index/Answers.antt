@@ -1,6 +1,7 @@
-use Rattle.std.proofs.Common.{ℕ}
-use Rattle.std.proofs.lemmas.List.{get_or-replicate, length-replicate}
-use Rattle.macsec_rx.proofs.RowIndex.{IsIndex-none}
+use Rattle.{
+  std.proofs.{Common.ℕ, lemmas.List.{get_or-replicate, length-replicate}},
+  macsec_rx.proofs.RowIndex.IsIndex-none,
+}
 use Rattle.macsec_rx.proofs.index.empty_index.Goals as goal
 
 pub returns : goal.returns

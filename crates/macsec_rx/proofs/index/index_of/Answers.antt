@@ -1,12 +1,13 @@
 -- Each SA has an SC and is added to the index of the SAs before it. Proved from `IsIndex-push` of `RowIndex`.
-use Rattle.std.proofs.Common.{◌≡◌, ◌∙◌, ◌∷◌, [], ◌++◌, ◌+◌, length, refl, subst, sym, ap, take, arith}
-use Rattle.std.specs.Prelude.{Some, slice_get}
-use Rattle.std.proofs.Math.ListN.{set}
-use Rattle.std.proofs.lemmas.List.{take_more, length-take-le}
-use Rattle.std.proofs.lemmas.Option.{slice_get_read}
-use Rattle.macsec_rx.specs.Index.{IsIndex, channel_place, slot}
-use Rattle.macsec_rx.specs.Rows.{IsRxRow}
-use Rattle.macsec_rx.proofs.RowIndex.{IsIndex-push, IsRxRow-at, free_before}
+use Rattle.std.proofs.{
+  Common.{◌≡◌, ◌∙◌, ◌∷◌, [], ◌++◌, ◌+◌, length, refl, subst, sym, ap, take, arith, Some, slice_get, length-take-le},
+  Math.ListN.set,
+  lemmas.{List.take_more, Option.slice_get_read},
+}
+use Rattle.macsec_rx.{
+  proofs.RowIndex.{IsIndex-push, IsRxRow-at, free_before},
+  specs.{Index.{IsIndex, channel_place, slot}, Rows.IsRxRow},
+}
 use Rattle.macsec_rx.proofs.index.index_of.Goals as goal
 
 pub unwrap-channel-requires : goal.unwrap-channel-requires

@@ -1,5 +1,4 @@
-use Rattle.std.proofs.Common.{◌≡◌, length, take}
-use Rattle.macsec_rx.specs.Index.{IsIndex}
+use Rattle.{std.proofs.Common.{◌≡◌, length, take}, macsec_rx.specs.Index.IsIndex}
 use Rattle.macsec_rx.proofs.index.index_of.Given as goal
 
 -- the SAs before the loop's position are in the index

@@ -1,6 +1,5 @@
 -- Writing the number that octets are read as gives the octets again, by the lemma `be_bytes_8`.
-use Rattle.std.proofs.Common.{rules}
-use Rattle.std.proofs.lemmas.Nat.{be_bytes_8}
+use Rattle.std.proofs.{Common.rules, lemmas.Nat.be_bytes_8}
 use Rattle.macsec_rx.proofs.index.number_of.Goals as goal
 
 pub returns : goal.returns

@@ -1,7 +1,5 @@
 -- With the key that was found and the recovered packet number, the opening is as defined.
-use Rattle.std.proofs.Common.{◌≡◌, ◌∙◌}
-use Rattle.macsec_suite.specs.KeyRows.{the_key}
-use Rattle.macsec_rx.proofs.Recovered.{job_found}
+use Rattle.{std.proofs.Common.{◌≡◌, ◌∙◌}, macsec_suite.specs.KeyRows.the_key, macsec_rx.proofs.Recovered.job_found}
 use Rattle.macsec_rx.proofs.judging.job_known.Goals as goal
 
 pub returns : goal.returns

@@ -1,11 +1,10 @@
 -- With the key that was found and the recovered packet number, the judgement is as defined. Proved from the lemma
 -- `judged` of `Recovered`, once for the outcome and once for the SA.
-use Rattle.std.proofs.Common.{◌≡◌, rules, subst}
-use Rattle.std.specs.Prelude.{IfSome, Some}
-use Rattle.macsec_suite.specs.KeyRows.{the_key}
-use Rattle.macsec_rx.specs.Judged.{ShowsOutcome}
-use Rattle.macsec_rx.proofs.Recovered.{judged}
-use Rattle.macsec_rx.proofs.Reopened.{opened_with_found}
+use Rattle.{
+  std.proofs.Common.{◌≡◌, rules, subst, IfSome, Some},
+  macsec_suite.specs.KeyRows.the_key,
+  macsec_rx.{proofs.{Recovered.judged, Reopened.opened_with_found}, specs.Judged.ShowsOutcome},
+}
 use Rattle.macsec_rx.proofs.judging.judge_known.Goals as goal
 
 pub returns-clause-outcome : goal.returns-clause-outcome

@@ -1,6 +1,8 @@
-use Rattle.std.proofs.Common.{◌≡◌, false, ◌&&◌, sym, ◌∙◌}
-use Rattle.macsec_pn.specs.Numbers.{is_late}
-use Rattle.macsec_rx.specs.Judge.{is_disabled}
+use Rattle.{
+  std.proofs.Common.{◌≡◌, false, ◌&&◌, sym, ◌∙◌},
+  macsec_pn.specs.Numbers.is_late,
+  macsec_rx.specs.Judge.is_disabled,
+}
 use Rattle.macsec_rx.proofs.judging.judge_number.Goals as goal
 
 pub returns-clause-outcome : goal.returns-clause-outcome

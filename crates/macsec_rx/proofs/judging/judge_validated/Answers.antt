@@ -1,8 +1,8 @@
-use Rattle.std.proofs.Common.{◌≡◌}
-use Rattle.std.specs.Prelude.{None}
-use Rattle.macsec_suite.specs.KeyTables.{row_shown}
-use Rattle.macsec_rx.specs.Judge.{plaintext_of}
-use Rattle.macsec_rx.proofs.Recovered.{no_plaintext}
+use Rattle.{
+  std.proofs.Common.{◌≡◌, None},
+  macsec_suite.specs.KeyTables.row_shown,
+  macsec_rx.{proofs.Recovered.no_plaintext, specs.Judge.plaintext_of},
+}
 use Rattle.macsec_rx.proofs.judging.judge_validated.Goals as goal
 
 pub returns-in-None-clause-outcome : goal.returns-in-None-clause-outcome

@@ -1,7 +1,6 @@
 -- If the text of a line could not be composed, nothing was written; otherwise its text was written, or a prefix of it. The
 -- write does not change the world.
-use Rattle.std.proofs.Common.{rules, sym, ◌∙◌}
-use Rattle.macsec_script.proofs.Runs.{carried_out, line_written, none_written}
+use Rattle.{std.proofs.Common.{rules, sym, ◌∙◌}, macsec_script.proofs.Runs.{carried_out, line_written, none_written}}
 use Rattle.macsec_script.proofs.running.print_line.Goals as goal
 
 pub returns-then-is_err-clause-text : goal.returns-then-is_err-clause-text

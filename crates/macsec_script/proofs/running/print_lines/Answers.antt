@@ -1,14 +1,14 @@
 -- By induction on the lines: what was written for the lines before the index, and the world after them. A failure
 -- leaves what was written before it. The law `worlds_are_sound` carries soundness through each step.
-use Rattle.std.proofs.Common.{List, arith, subst}
-use Rattle.std.proofs.lemmas.List.{take_all}
-use Rattle.std.proofs.lemmas.Result.{err_from_is_err_and}
-use Rattle.std.specs.Io.KnownBytes.{Appends}
-use Rattle.macsec_link.specs.Beginnings.{StaysSound}
-use Rattle.macsec_script_parser.specs.Parts.{NumberedLine}
-use Rattle.macsec_script.specs.Printed.{text_from}
-use Rattle.macsec_script.specs.Promised.{events_of}
-use Rattle.macsec_script.proofs.Runs.{given_up, none_yet, one_more, sound_before}
+use Rattle.{
+  std.{proofs.{Common.{List, arith, subst, take_all}, lemmas.Result.err_from_is_err_and}, specs.Io.KnownBytes.Appends},
+  macsec_link.specs.Beginnings.StaysSound,
+  macsec_script_parser.specs.Parts.NumberedLine,
+  macsec_script.{
+    proofs.Runs.{given_up, none_yet, one_more, sound_before},
+    specs.{Printed.text_from, Promised.events_of},
+  },
+}
 use Rattle.macsec_script.proofs.running.print_lines.Goals as goal
 
 pub loop-n-init : goal.loop-n-init

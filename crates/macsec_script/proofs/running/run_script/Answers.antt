@@ -1,7 +1,8 @@
 -- What `run_text` ensures of the text that was read holds of all that the reader had, if that is known.
-use Rattle.std.proofs.lemmas.Result.{err_from_is_err_and}
-use Rattle.macsec_script.proofs.Promised.{before_over, nothing_read, promised_over}
-use Rattle.macsec_script.proofs.Unwritten.{carried_over, unread}
+use Rattle.{
+  std.proofs.lemmas.Result.err_from_is_err_and,
+  macsec_script.proofs.{Promised.{before_over, nothing_read, promised_over}, Unwritten.{carried_over, unread}},
+}
 use Rattle.macsec_script.proofs.running.run_script.Goals as goal
 
 pub returns-in_err-text-clause-run : goal.returns-in_err-text-clause-run

@@ -1,10 +1,9 @@
 -- Parsing and printing: the contract of each call gives the premise of the next.
-use Rattle.std.proofs.Common.{ap, ◌∙◌}
-use Rattle.std.specs.Prelude.{Ok}
-use Rattle.std.proofs.KnownBytes.{Keeps-refl}
-use Rattle.std.proofs.lemmas.Result.{err_from_is_err_and}
-use Rattle.macsec_script.proofs.Promised.{nothing_before, text_before, text_promised}
-use Rattle.macsec_script.proofs.Unwritten.{after_parsing, at_fault, is_parsed, left_alone, only_written, parsed_after, printed_after}
+use Rattle.std.proofs.{Common.{ap, ◌∙◌, Ok}, KnownBytes.Keeps-refl, lemmas.Result.err_from_is_err_and}
+use Rattle.macsec_script.proofs.{
+  Promised.{nothing_before, text_before, text_promised},
+  Unwritten.{after_parsing, at_fault, is_parsed, left_alone, only_written, parsed_after, printed_after},
+}
 use Rattle.macsec_script.proofs.running.run_text.Goals as goal
 
 pub returns-in_err-parsed-clause-run : goal.returns-in_err-parsed-clause-run

@@ -1,5 +1,4 @@
-use Rattle.std.proofs.Common.{arith}
-use Rattle.macsec_script_parser.proofs.DigitCodes.{sum_is_small, code_is}
+use Rattle.{std.proofs.Common.arith, macsec_script_parser.proofs.DigitCodes.{sum_is_small, code_is}}
 use Rattle.macsec_script_parser.proofs.key_digits.digit_code.Goals as goal
 
 pub overflow_add-result-3 : goal.overflow_add-result-3

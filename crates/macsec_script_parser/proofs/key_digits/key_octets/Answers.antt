@@ -1,6 +1,7 @@
-use Rattle.std.proofs.Common.{◌∙◌, arith, length-set}
-use Rattle.std.proofs.lemmas.List.{length-replicate}
-use Rattle.macsec_script_parser.proofs.KeyDigits.{all_read, none_read, no_hex, one_more}
+use Rattle.{
+  std.proofs.{Common.{◌∙◌, arith, length-set}, lemmas.List.length-replicate},
+  macsec_script_parser.proofs.KeyDigits.{all_read, none_read, no_hex, one_more},
+}
 use Rattle.macsec_script_parser.proofs.key_digits.key_octets.Goals as goal
 
 pub loop-i-init : goal.loop-i-init

@@ -1,5 +1,4 @@
-use Rattle.std.proofs.Common.{◌≡◌, length}
-use Rattle.macsec_script_parser.proofs.KeyDigits.{AreRead}
+use Rattle.{std.proofs.Common.{◌≡◌, length}, macsec_script_parser.proofs.KeyDigits.AreRead}
 use Rattle.macsec_script_parser.proofs.key_digits.key_octets.Given as goal
 
 abbrev pub invariant-loop-i : goal.invariant-loop-i

@@ -1,5 +1,4 @@
-use Rattle.macsec_script_parser.specs.Kinds.{operator_kinds, frame_kinds, show_kinds}
-use Rattle.macsec_script_parser.proofs.Keywords.{none_of_three}
+use Rattle.macsec_script_parser.{proofs.Keywords.none_of_three, specs.Kinds.{operator_kinds, frame_kinds, show_kinds}}
 use Rattle.macsec_script_parser.proofs.lines.line_at.Goals as goal
 
 pub returns-in-None : goal.returns-in-None

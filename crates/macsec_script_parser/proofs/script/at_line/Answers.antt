@@ -1,6 +1,5 @@
 -- Each fault of a line is the same fault of the script, with the line number: by the definition, one case for each.
-use Rattle.std.proofs.Common.{ap, sym}
-use Rattle.macsec_script_parser.specs.Scripts.{at_line}
+use Rattle.{std.proofs.Common.{ap, sym}, macsec_script_parser.specs.Scripts.at_line}
 use Rattle.macsec_script_parser.proofs.script.at_line.Goals as goal
 
 pub returns-in-Word : goal.returns-in-Word

@@ -1,7 +1,7 @@
-use Rattle.std.proofs.Common.{map}
-use Rattle.std.specs.Prelude.{None}
-use Rattle.macsec_script_parser.specs.Scripts.{add_to_config}
-use Rattle.macsec_script_parser.proofs.LinesLeft.{IsOnTheWay}
+use Rattle.{
+  std.proofs.Common.{map, None},
+  macsec_script_parser.{proofs.LinesLeft.IsOnTheWay, specs.Scripts.add_to_config},
+}
 use Rattle.macsec_script_parser.proofs.script.parse_config_lines.Given as goal
 
 abbrev pub invariant-loop-i : goal.invariant-loop-i

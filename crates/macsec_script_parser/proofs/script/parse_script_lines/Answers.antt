@@ -1,8 +1,9 @@
 -- By lines: what the lines before the index make, with the lines that are left, makes the whole. A faulty line, or one
 -- that is out of order, ends the parsing there.
-use Rattle.macsec_script_parser.specs.declared.script.Begun.TheVariants.{Nothing}
-use Rattle.macsec_script_parser.specs.Scripts.{add_to_script}
-use Rattle.macsec_script_parser.proofs.LinesLeft.{faulty_line, on_after_line, on_after_skipped, stopped}
+use Rattle.macsec_script_parser.{
+  proofs.LinesLeft.{faulty_line, on_after_line, on_after_skipped, stopped},
+  specs.{Scripts.add_to_script, declared.script.Begun.TheVariants.Nothing},
+}
 use Rattle.macsec_script_parser.proofs.script.parse_script_lines.Goals as goal
 
 pub loop-i-preserved-in-Ok-None : goal.loop-i-preserved-in-Ok-None

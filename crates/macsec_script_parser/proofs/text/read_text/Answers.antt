@@ -1,6 +1,5 @@
 -- A failed read is a fault of every input.
-use Rattle.std.proofs.Common.{List, ℕ}
-use Rattle.std.specs.Prelude.{Option, None, Some, IfSome}
+use Rattle.std.proofs.Common.{List, ℕ, Option, None, Some, IfSome}
 use Rattle.macsec_script_parser.proofs.text.read_text.Goals as goal
 
 any_input : (input : Option (List ℕ)) → IfSome input (λ all. Unit {0})

@@ -1,5 +1,4 @@
-use Rattle.std.proofs.Common.{◌≤◌, length}
-use Rattle.std.specs.Io.KnownBytes.{Consumes}
+use Rattle.std.{proofs.Common.{◌≤◌, length}, specs.Io.KnownBytes.Consumes}
 use Rattle.macsec_script_parser.proofs.text.read_text.Given as goal
 
 abbrev pub invariant-loop : goal.invariant-loop

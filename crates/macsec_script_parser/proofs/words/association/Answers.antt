@@ -1,6 +1,5 @@
 -- By this tactic alone. Without these proofs the prover tries others first, which takes longer.
-use Rattle.std.proofs.Common.{arith}
-use Rattle.std.proofs.lemmas.Grind.{common_steps}
+use Rattle.std.proofs.{Common.arith, lemmas.Grind.common_steps}
 use Rattle.macsec_script_parser.proofs.words.association.Goals as goal
 
 pub returns-in_err-decimal : goal.returns-in_err-decimal

@@ -1,7 +1,8 @@
 -- If the digits read so far exceed the highest number, the whole word does. A number below the lowest is out of range.
-use Rattle.std.proofs.Common.{arith}
-use Rattle.std.proofs.lemmas.Grind.{common_steps}
-use Rattle.macsec_script_parser.proofs.Decimals.{too_high, stays_high}
+use Rattle.{
+  std.proofs.{Common.arith, lemmas.Grind.common_steps},
+  macsec_script_parser.proofs.Decimals.{too_high, stays_high},
+}
 use Rattle.macsec_script_parser.proofs.words.decimal.Goals as goal
 
 pub returns-then-next-high : goal.returns-then-next-high

@@ -1,6 +1,7 @@
-use Rattle.std.proofs.Common.{◌≡◌, ◌≤◌, ◌-◌, drop}
-use Rattle.std.specs.List.{list_all}
-use Rattle.macsec_script_parser.specs.Numerals.{decimal_value, is_decimal_digit, number_after}
+use Rattle.{
+  std.{proofs.Common.{◌≡◌, ◌≤◌, ◌-◌, drop}, specs.List.list_all},
+  macsec_script_parser.specs.Numerals.{decimal_value, is_decimal_digit, number_after},
+}
 use Rattle.macsec_script_parser.proofs.words.decimal.Given as goal
 
 abbrev pub invariant-loop-digit : goal.invariant-loop-digit

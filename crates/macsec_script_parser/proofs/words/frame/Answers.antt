@@ -1,7 +1,6 @@
 -- By these tactics alone. Without these proofs the prover tries others first, which takes longer, and on a mutant it
 -- tries all of them.
-use Rattle.std.proofs.Common.{arith}
-use Rattle.std.proofs.lemmas.Grind.{common_steps}
+use Rattle.std.proofs.{Common.arith, lemmas.Grind.common_steps}
 use Rattle.macsec_script_parser.proofs.words.frame.Goals as goal
 
 pub returns-in-Err : goal.returns-in-Err

@@ -1,8 +1,9 @@
-use Rattle.std.proofs.Common.{arith, sym, ◌∙◌, ap}
-use Rattle.std.specs.Option.{option_copied}
-use Rattle.macsec_script_parser.proofs.LastLine.{last_seen, without_last, with_last, without_lines}
+use Rattle.std.{proofs.Common.{arith, sym, ◌∙◌, ap}, specs.Option.option_copied}
+use Rattle.macsec_script_parser.proofs.{
+  LastLine.{last_seen, without_last, with_last, without_lines},
+  words.lines.Goals.{in-Some+then-is_empty, in-Some+else-is_empty, in_default},
+}
 use Rattle.macsec_script_parser.proofs.words.lines.Goals as goal
-use Rattle.macsec_script_parser.proofs.words.lines.Goals.{in-Some+then-is_empty, in-Some+else-is_empty, in_default}
 
 pub returns : goal.returns
 returns c =

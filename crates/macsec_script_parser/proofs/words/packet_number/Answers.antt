@@ -1,6 +1,5 @@
 -- Up to 16 hex digits are below 2^64, so no step overflows.
-use Rattle.std.proofs.Common.{rules, arith}
-use Rattle.macsec_script_parser.proofs.HexDigits.{digit_more}
+use Rattle.{std.proofs.Common.{rules, arith}, macsec_script_parser.proofs.HexDigits.digit_more}
 use Rattle.macsec_script_parser.proofs.words.packet_number.Goals as goal
 
 pub overflow_mul-number : goal.overflow_mul-number

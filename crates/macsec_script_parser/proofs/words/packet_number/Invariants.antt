@@ -1,8 +1,8 @@
-use Rattle.std.proofs.Common.{◌≡◌, ◌<◌, ◌^◌, drop}
-use Rattle.std.specs.Prelude.{unwrap_or}
-use Rattle.std.specs.List.{list_all}
-use Rattle.hex.specs.Hex.{hex_digit_value, is_hex_digit}
-use Rattle.macsec_script_parser.specs.Numerals.{hex_value, number_after}
+use Rattle.{
+  std.{proofs.Common.{◌≡◌, ◌<◌, ◌^◌, drop, unwrap_or}, specs.List.list_all},
+  hex.specs.Hex.{hex_digit_value, is_hex_digit},
+  macsec_script_parser.specs.Numerals.{hex_value, number_after},
+}
 use Rattle.macsec_script_parser.proofs.words.packet_number.Given as goal
 
 abbrev pub invariant-loop-digit : goal.invariant-loop-digit

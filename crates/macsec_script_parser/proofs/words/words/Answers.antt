@@ -1,7 +1,7 @@
-use Rattle.std.proofs.Common.{rules, tests}
-use Rattle.std.proofs.lemmas.Iterator.Consumers.{map_from_collect, YieldsList-from_filter}
-use Rattle.std.proofs.lemmas.Iterator.Splits.{YieldsList-from_slice_split}
-use Rattle.std.specs.Prelude.{not}
+use Rattle.std.proofs.{
+  Common.{rules, tests, not},
+  lemmas.Iterator.{Consumers.{map_from_collect, YieldsList-from_filter}, Splits.YieldsList-from_slice_split},
+}
 use Rattle.macsec_script_parser.specs.Words.{is_blank, is_empty, without_return}
 use Rattle.macsec_script_parser.proofs.words.words.Goals as goal
 

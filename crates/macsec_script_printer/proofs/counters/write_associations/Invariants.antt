@@ -1,8 +1,8 @@
-use Rattle.std.proofs.Common.{take}
-use Rattle.std.specs.Prelude.{flat_map}
-use Rattle.std.specs.Io.KnownBytes.{Appends}
-use Rattle.macsec_secy.specs.Answers.{rx_sa_counters_of}
-use Rattle.macsec_script_printer.specs.Counters.{sa_counters_text}
+use Rattle.{
+  std.{proofs.Common.{take, flat_map}, specs.Io.KnownBytes.Appends},
+  macsec_secy.specs.Answers.rx_sa_counters_of,
+  macsec_script_printer.specs.Counters.sa_counters_text,
+}
 use Rattle.macsec_script_printer.proofs.counters.write_associations.Given as goal
 
 abbrev pub invariant-loop-an : goal.invariant-loop-an

@@ -1,5 +1,4 @@
-use Rattle.std.proofs.Common.{refl}
-use Rattle.macsec_script_printer.proofs.Pieces.{end_of_text}
+use Rattle.{std.proofs.Common.refl, macsec_script_printer.proofs.Pieces.end_of_text}
 use Rattle.macsec_script_printer.proofs.counters.write_channel_and_associations.Goals as goal
 
 pub returns : goal.returns

@@ -1,9 +1,8 @@
 -- Each turn writes the channel at the next place. The loop ends after the last channel.
-use Rattle.std.proofs.Common.{arith, sym}
-use Rattle.std.proofs.lemmas.Grind.{common_steps}
-use Rattle.std.proofs.lemmas.Option.{slice_get_within, get_or_from_slice_get}
-use Rattle.macsec_script_printer.specs.Counters.{channel_text}
-use Rattle.macsec_script_printer.proofs.Pieces.{one_more_piece}
+use Rattle.{
+  std.proofs.{Common.{arith, sym}, lemmas.{Grind.common_steps, Option.{slice_get_within, get_or_from_slice_get}}},
+  macsec_script_printer.{proofs.Pieces.one_more_piece, specs.Counters.channel_text},
+}
 use Rattle.macsec_script_printer.proofs.counters.write_channels.Goals as goal
 
 pub loop-place-preserved : goal.loop-place-preserved

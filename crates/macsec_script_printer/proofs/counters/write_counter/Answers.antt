@@ -1,7 +1,5 @@
 -- By joining the pieces of the line. This proof is here for speed.
-use Rattle.std.proofs.Common.{◌≡◌, List, ◌++◌, append_assoc, refl, subst, ℕ}
-use Rattle.std.specs.Prelude.{OnOk, codes}
-use Rattle.std.specs.Io.KnownBytes.{Appends}
+use Rattle.std.{proofs.Common.{◌≡◌, List, ◌++◌, append_assoc, refl, subst, ℕ, OnOk, codes}, specs.Io.KnownBytes.Appends}
 use Rattle.macsec_script_printer.proofs.counters.write_counter.Goals as goal
 
 -- the pieces of the line, joined from the right and from the left

@@ -1,6 +1,4 @@
-use Rattle.std.proofs.Common.{arith}
-use Rattle.macsec_script_printer.specs.Counters.{counter_text}
-use Rattle.macsec_script_printer.proofs.Pieces.{one_more_seen}
+use Rattle.{std.proofs.Common.arith, macsec_script_printer.{proofs.Pieces.one_more_seen, specs.Counters.counter_text}}
 use Rattle.macsec_script_printer.proofs.counters.write_own.Goals as goal
 
 pub loop-name-preserved : goal.loop-name-preserved

@@ -1,7 +1,7 @@
-use Rattle.std.proofs.Common.{map, take}
-use Rattle.std.specs.Prelude.{flat_map}
-use Rattle.std.specs.Io.KnownBytes.{Appends}
-use Rattle.macsec_script_printer.specs.Counters.{counter_text}
+use Rattle.{
+  std.{proofs.Common.{map, take, flat_map}, specs.Io.KnownBytes.Appends},
+  macsec_script_printer.specs.Counters.counter_text,
+}
 use Rattle.macsec_script_printer.proofs.counters.write_own.Given as goal
 
 abbrev pub invariant-loop-name : goal.invariant-loop-name

@@ -1,8 +1,8 @@
-use Rattle.std.proofs.Common.{◌<◌, ◌≤◌, length, take}
-use Rattle.std.specs.Prelude.{flat_map}
-use Rattle.std.specs.Io.KnownBytes.{Appends}
-use Rattle.macsec_rx.specs.Limits.{max_channel_count}
-use Rattle.macsec_script_printer.specs.Numbers.{channel_text}
+use Rattle.{
+  std.{proofs.Common.{◌<◌, ◌≤◌, length, take, flat_map}, specs.Io.KnownBytes.Appends},
+  macsec_rx.specs.Limits.max_channel_count,
+  macsec_script_printer.specs.Numbers.channel_text,
+}
 use Rattle.macsec_script_printer.proofs.numbers.write_rx_channels.Given as goal
 
 -- the lines of the channels before the place are written; after the first turn, the number of channels is in range

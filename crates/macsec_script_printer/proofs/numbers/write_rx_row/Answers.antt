@@ -1,7 +1,7 @@
-use Rattle.std.proofs.Common.{◌≡◌, ℕ, List, ◌++◌, append_assoc, refl}
-use Rattle.std.specs.Prelude.{codes}
-use Rattle.std.proofs.KnownBytes.{Appends-trans}
-use Rattle.macsec_script_printer.proofs.Pieces.{end_of_text}
+use Rattle.{
+  std.proofs.{Common.{◌≡◌, ℕ, List, ◌++◌, append_assoc, refl, codes}, KnownBytes.Appends-trans},
+  macsec_script_printer.proofs.Pieces.end_of_text,
+}
 use Rattle.macsec_script_printer.proofs.numbers.write_rx_row.Goals as goal
 
 -- the pieces of the line, joined from the right and from the left

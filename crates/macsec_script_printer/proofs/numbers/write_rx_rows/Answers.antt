@@ -1,5 +1,4 @@
-use Rattle.std.proofs.Common.{arith}
-use Rattle.macsec_script_printer.proofs.Pieces.{one_more_piece}
+use Rattle.{std.proofs.Common.arith, macsec_script_printer.proofs.Pieces.one_more_piece}
 use Rattle.macsec_script_printer.proofs.numbers.write_rx_rows.Goals as goal
 
 pub loop-an-preserved : goal.loop-an-preserved

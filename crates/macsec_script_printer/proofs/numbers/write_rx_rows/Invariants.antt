@@ -1,8 +1,8 @@
-use Rattle.std.proofs.Common.{take}
-use Rattle.std.specs.Prelude.{flat_map}
-use Rattle.std.specs.Io.KnownBytes.{Appends}
-use Rattle.macsec_rx.specs.Channels.{rx_row}
-use Rattle.macsec_script_printer.specs.Numbers.{rx_text}
+use Rattle.{
+  std.{proofs.Common.{take, flat_map}, specs.Io.KnownBytes.Appends},
+  macsec_rx.specs.Channels.rx_row,
+  macsec_script_printer.specs.Numbers.rx_text,
+}
 use Rattle.macsec_script_printer.proofs.numbers.write_rx_rows.Given as goal
 
 abbrev pub invariant-loop-an : goal.invariant-loop-an

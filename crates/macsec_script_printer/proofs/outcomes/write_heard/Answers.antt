@@ -1,6 +1,5 @@
 -- By these tactics alone, for speed: without these proofs the prover tries others first, and all of them on a mutant.
-use Rattle.std.proofs.Common.{arith}
-use Rattle.std.proofs.lemmas.Grind.{common_steps}
+use Rattle.std.proofs.{Common.arith, lemmas.Grind.common_steps}
 use Rattle.macsec_script_printer.proofs.outcomes.write_heard.Goals as goal
 
 pub returns-in-Some : goal.returns-in-Some

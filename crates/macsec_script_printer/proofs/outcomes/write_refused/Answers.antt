@@ -1,12 +1,11 @@
 -- By joining the pieces of the line, with the number and the name as premises. So a wrong number is refused quickly.
-use Rattle.std.proofs.Common.{◌≡◌, ◌∙◌, ℕ, List, ◌++◌, ap, append_assoc, arith, refl, subst}
-use Rattle.std.specs.Prelude.{None, Ok, OnOk, codes, decimal}
-use Rattle.std.specs.Io.KnownBytes.{Appends}
-use Rattle.macsec_suite.specs.declared.refusal.Refusal.{Refusal}
-use Rattle.macsec_suite.specs.RefusalNumbers.{number_of_refusal}
-use Rattle.macsec_link_events.specs.declared.Outcome.TheVariants.{Refused}
-use Rattle.macsec_script_printer.specs.Outcomes.{outcome_text}
-use Rattle.macsec_script_printer.specs.Refusals.{refusal_name}
+use Rattle.{
+  std.proofs.Common.{◌≡◌, ◌∙◌, ℕ, List, ◌++◌, ap, append_assoc, arith, refl, subst, None, Ok, OnOk, codes, decimal},
+  std.specs.Io.KnownBytes.Appends,
+  macsec_suite.specs.{RefusalNumbers.number_of_refusal, declared.refusal.Refusal.Refusal},
+  macsec_link_events.specs.declared.Outcome.TheVariants.Refused,
+  macsec_script_printer.specs.{Outcomes.outcome_text, Refusals.refusal_name},
+}
 use Rattle.macsec_script_printer.proofs.outcomes.write_refused.Goals as goal
 
 -- the pieces of the line, joined from the right and from the left

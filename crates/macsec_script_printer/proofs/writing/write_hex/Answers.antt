@@ -1,8 +1,9 @@
 -- By induction on the octets, two digits for each.
-use Rattle.std.proofs.Common.{arith}
-use Rattle.std.proofs.KnownBytes.{Appends-nil}
-use Rattle.hex.specs.Hex.{encode_with}
-use Rattle.macsec_script_printer.proofs.HexTexts.{one_more_octet}
+use Rattle.{
+  std.proofs.{Common.arith, KnownBytes.Appends-nil},
+  hex.specs.Hex.encode_with,
+  macsec_script_printer.proofs.HexTexts.one_more_octet,
+}
 use Rattle.macsec_script_printer.proofs.writing.write_hex.Goals as goal
 
 pub loop-octet-init : goal.loop-octet-init

@@ -1,6 +1,4 @@
-use Rattle.std.proofs.Common.{take}
-use Rattle.std.specs.Io.KnownBytes.{Appends}
-use Rattle.hex.specs.Hex.{encode_lower}
+use Rattle.{std.{proofs.Common.take, specs.Io.KnownBytes.Appends}, hex.specs.Hex.encode_lower}
 use Rattle.macsec_script_printer.proofs.writing.write_hex.Given as goal
 
 abbrev pub invariant-loop-octet : goal.invariant-loop-octet

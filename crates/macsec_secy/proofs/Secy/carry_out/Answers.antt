@@ -1,12 +1,13 @@
 -- The endpoint is sound after each command that one of its tables carries out or refuses. `StaysSound` has one lemma
 -- each for the keys, the transmit SAs and the receive SAs. The other commands have functions of their own, whose
 -- contracts state it.
-use Rattle.std.proofs.Common.{◌≡◌, ◌∙◌, refl, sym, ap₂, rules}
-use Rattle.macsec_suite.specs.Refusals.{refusal_of}
+use Rattle.std.proofs.Common.{ap₂}
+use Rattle.macsec_secy.{
+  proofs.Names.{◌∙◌, ◌≡◌, refl, refusal, refusal_of, rules, state_after_command, sym},
+  proofs.StaysSound.{left_by_rx, ready_by_keys, ready_by_rx, ready_by_tx},
+  specs.contracts.Secy.the_view,
+}
 use Rattle.macsec_commands.specs.declared.command.Command.TheVariants as by
-use Rattle.macsec_secy.specs.contracts.Secy.{the_view}
-use Rattle.macsec_secy.specs.Commands.{refusal, state_after_command}
-use Rattle.macsec_secy.proofs.StaysSound.{left_by_rx, ready_by_keys, ready_by_rx, ready_by_tx}
 use Rattle.macsec_secy.proofs.Secy.carry_out.Goals as goal
 
 -- ---- the keys

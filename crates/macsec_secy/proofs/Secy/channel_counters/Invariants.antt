@@ -1,5 +1,4 @@
-use Rattle.std.proofs.Common.{◌≡◌, drop}
-use Rattle.macsec_secy.specs.Answers.{channel_counters_of}
+use Rattle.macsec_secy.proofs.Names.{◌≡◌, channel_counters_of, drop}
 use Rattle.macsec_secy.proofs.Secy.channel_counters.Given as goal
 
 -- no SC before the index has the SCI

@@ -1,14 +1,13 @@
 -- A link frame: the receive SCs take the machine's step, over the caller's buffer, as in `receive`.
-use Rattle.std.proofs.Common.{◌∙◌, ap, refl, subst, sym}
-use Rattle.macsec_secy.specs.contracts.Secy.{the_view}
-use Rattle.macsec_secy.specs.Outcomes.{IsStep, with_received}
-use Rattle.macsec_secy.specs.Sound.{IsSound}
-use Rattle.macsec_secy.specs.State.{rx_options}
-use Rattle.macsec_secy.specs.Step.{link_frame, step}
-use Rattle.macsec_secy.specs.Sums.{AddsFrames}
-use Rattle.macsec_secy.proofs.FramesCounted.{link_frame_adds}
-use Rattle.macsec_secy.proofs.ReceivedFrames.{received_sound}
-use Rattle.macsec_secy.proofs.Secy.finish_receive.Goals.{After-receive_frame-outcome}
+use Rattle.macsec_secy.{
+  proofs.{
+    Names.{◌∙◌, AddsFrames, ap, IsSound, IsStep, link_frame, refl, rx_options, step, subst, sym, with_received},
+    FramesCounted.link_frame_adds,
+    ReceivedFrames.received_sound,
+    Secy.finish_receive.Goals.After-receive_frame-outcome,
+  },
+  specs.contracts.Secy.the_view,
+}
 use Rattle.macsec_secy.proofs.Secy.finish_receive.Goals as goal
 
 stepped : (c : After-receive_frame-outcome) →

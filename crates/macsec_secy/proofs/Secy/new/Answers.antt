@@ -1,11 +1,9 @@
 -- A new endpoint is in the start state of the machine, by the contracts of `new` and `zero` of its parts. That state is
 -- sound if the configuration has no fault (`at_start`).
-use Rattle.std.proofs.Common.{◌≡◌, refl, rules, subst}
-use Rattle.std.specs.Prelude.{None}
-use Rattle.macsec_rx.specs.Rows.{AreChannels}
-use Rattle.macsec_secy.specs.State.{start}
-use Rattle.macsec_commands.specs.Configs.{config_fault}
-use Rattle.macsec_secy.proofs.StaysSound.{TablesHold, at_start}
+use Rattle.macsec_secy.proofs.{
+  Names.{◌≡◌, AreChannels, config_fault, None, refl, rules, start, subst},
+  StaysSound.{TablesHold, at_start},
+}
 use Rattle.macsec_secy.proofs.Secy.new.Goals as goal
 
 pub invariant_of-result : goal.invariant_of-result

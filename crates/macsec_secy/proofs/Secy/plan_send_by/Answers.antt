@@ -1,11 +1,10 @@
 -- A client frame, one arm for each plan of the transmit SC: the state after is sound.
-use Rattle.std.proofs.Common.{◌≡◌, ◌∙◌, ap, rules, subst, sym}
-use Rattle.macsec_secy.specs.State.{tx_options}
-use Rattle.macsec_secy.specs.Step.{client_frame, step}
-use Rattle.macsec_secy.specs.Sound.{IsSound}
-use Rattle.macsec_secy.specs.contracts.Secy.{the_view}
-use Rattle.macsec_secy.proofs.SentFrames.{sound_after}
-use Rattle.macsec_secy.proofs.Secy.plan_send_by.Goals.{After-plan_frame}
+use Rattle.macsec_secy.{
+  proofs.Names.{◌∙◌, ◌≡◌, ap, client_frame, IsSound, rules, step, subst, sym, tx_options},
+  proofs.Secy.plan_send_by.Goals.After-plan_frame,
+  proofs.SentFrames.sound_after,
+  specs.contracts.Secy.the_view,
+}
 use Rattle.macsec_secy.proofs.Secy.plan_send_by.Goals as goal
 
 -- the state after the step is sound, whatever is planned

@@ -1,15 +1,15 @@
 -- A link frame: the receive SCs take the machine's step, over the endpoint's buffer. The clause on the sum of the
 -- counters is a law of the machine (`FramesCounted`).
-use Rattle.std.proofs.Common.{◌≡◌, ◌∙◌, ap, refl, subst}
-use Rattle.macsec_secy.specs.contracts.Secy.{the_view}
-use Rattle.macsec_secy.specs.Outcomes.{IsStep, output_of_outcome, with_received}
-use Rattle.macsec_secy.specs.Sound.{IsSound}
-use Rattle.macsec_secy.specs.Step.{link_frame, step}
-use Rattle.macsec_secy.specs.Sums.{AddsFrames}
-use Rattle.macsec_secy.proofs.FramesCounted.{link_frame_adds}
-use Rattle.macsec_secy.proofs.Lent.{left_in_place}
-use Rattle.macsec_secy.proofs.ReceivedFrames.{received_sound}
-use Rattle.macsec_secy.proofs.Secy.receive.Goals.{After-receive_frame-outcome}
+use Rattle.macsec_secy.{
+  proofs.{
+    Names.{◌∙◌, ◌≡◌, AddsFrames, ap, IsSound, IsStep, link_frame, refl, step, subst, with_received},
+    FramesCounted.link_frame_adds,
+    Lent.left_in_place,
+    ReceivedFrames.received_sound,
+    Secy.receive.Goals.After-receive_frame-outcome,
+  },
+  specs.{Outcomes.output_of_outcome, contracts.Secy.the_view},
+}
 use Rattle.macsec_secy.proofs.Secy.receive.Goals as goal
 
 stepped : (c : After-receive_frame-outcome) →

@@ -1,12 +1,12 @@
 -- A link frame within limits: the receive SCs take the step within the limits, over the caller's buffer.
-use Rattle.std.proofs.Common.{◌≡◌, ◌∙◌, ap, length, refl, subst, sym}
-use Rattle.macsec_secy.specs.contracts.Secy.{the_view}
-use Rattle.macsec_secy.specs.Limited.{IsLimitedStep, limited_step}
-use Rattle.macsec_secy.specs.Outcomes.{with_received}
-use Rattle.macsec_secy.specs.Sound.{IsSound}
-use Rattle.macsec_secy.specs.State.{rx_options}
-use Rattle.macsec_secy.proofs.LimitedFrames.{after_is, limited_sound, output_is, placed_within}
-use Rattle.macsec_secy.proofs.Secy.receive_into.Goals.{After-receive_frame_within-outcome}
+use Rattle.macsec_secy.{
+  proofs.{
+    Names.{◌∙◌, ◌≡◌, ap, IsLimitedStep, IsSound, length, limited_step, refl, rx_options, subst, sym, with_received},
+    LimitedFrames.{after_is, limited_sound, output_is, placed_within},
+    Secy.receive_into.Goals.After-receive_frame_within-outcome,
+  },
+  specs.contracts.Secy.the_view,
+}
 use Rattle.macsec_secy.proofs.Secy.receive_into.Goals as goal
 
 stepped : (c : After-receive_frame_within-outcome) →

@@ -1,11 +1,9 @@
 -- The table of keys replaces the octets or stays unchanged. Either way the endpoint stays sound by `KeyReplaced`.
-use Rattle.std.proofs.Common.{◌∙◌, ap}
 use Rattle.macsec_aes.specs.Keys.{key_bytes}
-use Rattle.macsec_suite.specs.Replacing.{can_replace}
-use Rattle.macsec_secy.specs.State.{State}
-use Rattle.macsec_secy.specs.GivenUp.{state_after_replacing}
-use Rattle.macsec_secy.specs.contracts.Secy.{the_view}
-use Rattle.macsec_secy.proofs.KeyReplaced.{left_by_keys, ready_by_keys}
+use Rattle.macsec_secy.{
+  proofs.{Names.{◌∙◌, ap, can_replace, State, state_after_replacing}, KeyReplaced.{left_by_keys, ready_by_keys}},
+  specs.contracts.Secy.the_view,
+}
 use Rattle.macsec_secy.proofs.Secy.replace_key.Goals as goal
 
 pub invariant_of-self : goal.invariant_of-self

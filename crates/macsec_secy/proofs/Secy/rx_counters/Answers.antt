@@ -1,7 +1,4 @@
-use Rattle.std.proofs.Common.{◌∙◌, ap}
-use Rattle.std.specs.Prelude.{option_map}
-use Rattle.macsec_secy.specs.declared.counters.ChannelCounters.{ChannelCounters}
-use Rattle.macsec_secy.proofs.AssociationsShown.{shown_sums}
+use Rattle.macsec_secy.proofs.{Names.{◌∙◌, ap, ChannelCounters, option_map}, AssociationsShown.shown_sums}
 use Rattle.macsec_secy.proofs.Secy.rx_counters.Goals as goal
 
 pub returns-clause-sum : goal.returns-clause-sum

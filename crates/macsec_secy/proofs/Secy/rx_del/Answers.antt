@@ -1,15 +1,16 @@
 -- The state after the command is the defined one, and sound. The contract of `RxChannels::rx_del` gives the SCs, the
 -- contract of `remove_association` and `changed_again` give their counters, and `after_effect` the rest.
-use Rattle.std.proofs.Common.{◌≡◌, ◌∙◌, ap, map, length, subst, sym}
-use Rattle.std.specs.List.{refill}
-use Rattle.macsec_rx.specs.Rows.{AreChannels}
+use Rattle.macsec_secy.{
+  proofs.{
+    Names.{◌∙◌, ◌≡◌, ap, AreChannels, at_channel, length, map, refill, state_after_command, subst, sym, unless_refused},
+    Names.without_association,
+    ChannelsCounted.changed_again,
+    Secy.rx_del.Goals.After-remove_association,
+    StaysSound.after_effect,
+  },
+  specs.contracts.Secy.the_view,
+}
 use Rattle.macsec_commands.specs.declared.command.Command.TheVariants as by
-use Rattle.macsec_secy.specs.Commands.{state_after_command, unless_refused}
-use Rattle.macsec_secy.specs.Counting.{at_channel, without_association}
-use Rattle.macsec_secy.specs.contracts.Secy.{the_view}
-use Rattle.macsec_secy.proofs.ChannelsCounted.{changed_again}
-use Rattle.macsec_secy.proofs.StaysSound.{after_effect}
-use Rattle.macsec_secy.proofs.Secy.rx_del.Goals.{After-remove_association}
 use Rattle.macsec_secy.proofs.Secy.rx_del.Goals as goal
 
 counters_left : (c : After-remove_association) → refill (length c.self.inside.rx_counters.items) c.self.inside.rx_counters.items c.remove_association.new.rows ≡

@@ -1,5 +1,5 @@
 -- By search; written down so that a wrong body is refused quickly.
-use Rattle.std.proofs.Common.{rules}
+use Rattle.macsec_secy.proofs.Names.{rules}
 use Rattle.macsec_secy.proofs.Secy.rx_removed.Goals as goal
 
 pub returns : goal.returns

@@ -1,15 +1,16 @@
 -- The state after the command is the defined one, and sound. The contract of `RxChannels::rx_sa` gives the SCs, the
 -- contract of `add_association` and `changed_again` give their counters, and `after_effect` the rest.
-use Rattle.std.proofs.Common.{◌≡◌, ◌∙◌, ap, map, length, rules, subst, sym}
-use Rattle.std.specs.List.{refill}
-use Rattle.macsec_rx.specs.Rows.{AreChannels}
+use Rattle.macsec_secy.{
+  proofs.{
+    Names.{◌∙◌, ◌≡◌, ap, AreChannels, at_channel, length, map, refill, rules, state_after_command, subst, sym},
+    Names.{unless_refused, with_association},
+    ChannelsCounted.changed_again,
+    Secy.rx_sa.Goals.After-add_association,
+    StaysSound.after_effect,
+  },
+  specs.contracts.Secy.the_view,
+}
 use Rattle.macsec_commands.specs.declared.command.Command.TheVariants as by
-use Rattle.macsec_secy.specs.Commands.{state_after_command, unless_refused}
-use Rattle.macsec_secy.specs.Counting.{at_channel, with_association}
-use Rattle.macsec_secy.specs.contracts.Secy.{the_view}
-use Rattle.macsec_secy.proofs.ChannelsCounted.{changed_again}
-use Rattle.macsec_secy.proofs.StaysSound.{after_effect}
-use Rattle.macsec_secy.proofs.Secy.rx_sa.Goals.{After-add_association}
 use Rattle.macsec_secy.proofs.Secy.rx_sa.Goals as goal
 
 counters_left : (c : After-add_association) → refill (length c.self.inside.rx_counters.items) c.self.inside.rx_counters.items c.add_association.new.rows ≡

@@ -1,10 +1,9 @@
 -- Counters exist exactly if the SA does: by `IsSound` an SC has counters for exactly its own SAs (`shown_there`), and
 -- no SA has an SCI without an SC.
-use Rattle.std.proofs.Common.{◌∙◌, ap, rules}
-use Rattle.std.specs.Prelude.{is_some, option_and_then}
-use Rattle.macsec_secy.specs.declared.counters.ChannelCounters.{ChannelCounters}
-use Rattle.macsec_secy.specs.Counting.{counters_at}
-use Rattle.macsec_secy.proofs.AssociationsShown.{shown_there}
+use Rattle.macsec_secy.proofs.{
+  Names.{◌∙◌, ap, ChannelCounters, counters_at, is_some, option_and_then, rules},
+  AssociationsShown.shown_there,
+}
 use Rattle.macsec_secy.proofs.Secy.rx_sa_counters.Goals as goal
 
 pub returns-in_err-channel-clause-there : goal.returns-in_err-channel-clause-there

@@ -1,10 +1,10 @@
 -- A new SC has counters of 0, and the endpoint stays sound. The contract of `RxChannels::rx_sc` gives the SCs, and
 -- `after_effect` the rest.
-use Rattle.std.proofs.Common.{rules, subst, sym}
-use Rattle.macsec_rx.specs.Rows.{AreChannels}
+use Rattle.macsec_secy.{
+  proofs.{Names.{AreChannels, rules, subst, sym}, StaysSound.after_effect},
+  specs.contracts.Secy.the_view,
+}
 use Rattle.macsec_commands.specs.declared.command.Command.TheVariants as by
-use Rattle.macsec_secy.specs.contracts.Secy.{the_view}
-use Rattle.macsec_secy.proofs.StaysSound.{after_effect}
 use Rattle.macsec_secy.proofs.Secy.rx_sc.Goals as goal
 
 pub invariant_of-self-2 : goal.invariant_of-self-2

@@ -1,14 +1,14 @@
 -- The state after the command is the defined one, and sound. The contract of `RxChannels::rx_sc_del` gives the SCs, the
 -- contract of `retain`, which is a filter, gives the remaining counters, and `after_effect` the rest.
-use Rattle.std.proofs.Common.{◌≡◌, ◌∙◌, ap, rules, subst, sym}
-use Rattle.std.specs.Prelude.{filter, not}
 use Rattle.arrayvec.proofs.ArrayVecLemmas.{filter-from_retain}
-use Rattle.macsec_rx.specs.Channels.{same_sci}
-use Rattle.macsec_rx.specs.Rows.{AreChannels}
+use Rattle.macsec_secy.{
+  proofs.{
+    Names.{◌∙◌, ◌≡◌, ap, AreChannels, filter, not, rules, same_sci, state_after_command, subst, sym, unless_refused},
+    StaysSound.after_effect,
+  },
+  specs.contracts.Secy.the_view,
+}
 use Rattle.macsec_commands.specs.declared.command.Command.TheVariants as by
-use Rattle.macsec_secy.specs.Commands.{state_after_command, unless_refused}
-use Rattle.macsec_secy.specs.contracts.Secy.{the_view}
-use Rattle.macsec_secy.proofs.StaysSound.{after_effect}
 use Rattle.macsec_secy.proofs.Secy.rx_sc_del.Goals as goal
 
 kept_counters : (c : goal.After-retain) → c.retain.new.self.items ≡ filter (λ row. not (same_sci row.sci c.args.sci)) c.self.inside.rx_counters.items

@@ -1,12 +1,9 @@
 -- The new window was not refused, so the keys allow it, and every SA is narrowed to it. So the endpoint stays sound by
 -- `after_effect`.
-use Rattle.std.proofs.Common.{◌≡◌, rules, subst}
-use Rattle.std.specs.Prelude.{None}
-use Rattle.macsec_rx.specs.Rows.{AreChannels}
-use Rattle.macsec_commands.specs.declared.command.Command.TheVariants.{Replay}
-use Rattle.macsec_secy.specs.contracts.Secy.{the_view}
-use Rattle.macsec_secy.specs.Commands.{refusal}
-use Rattle.macsec_secy.proofs.StaysSound.{after_effect}
+use Rattle.macsec_secy.{
+  proofs.{Names.{◌≡◌, AreChannels, None, refusal, Replay, rules, subst}, StaysSound.after_effect},
+  specs.contracts.Secy.the_view,
+}
 use Rattle.macsec_secy.proofs.Secy.set_replay.Goals as goal
 
 pub invariant_of-self : goal.invariant_of-self

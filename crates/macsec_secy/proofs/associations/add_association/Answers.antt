@@ -1,7 +1,4 @@
-use Rattle.std.proofs.Common.{arith}
-use Rattle.std.proofs.lemmas.List.{get_or_default}
-use Rattle.std.proofs.lemmas.List.Edits.{map_over_more}
-use Rattle.macsec_secy.specs.Counting.{at_channel, with_association}
+use Rattle.macsec_secy.proofs.Names.{arith, at_channel, get_or_default, map_over_more, with_association}
 use Rattle.macsec_secy.proofs.associations.add_association.Goals as goal
 
 pub loop-row-preserved : goal.loop-row-preserved

@@ -1,5 +1,4 @@
-use Rattle.std.proofs.Common.{◌≡◌, ◌++◌, map, take, drop}
-use Rattle.macsec_secy.specs.Counting.{at_channel, with_association}
+use Rattle.macsec_secy.proofs.Names.{◌++◌, ◌≡◌, at_channel, drop, map, take, with_association}
 use Rattle.macsec_secy.proofs.associations.add_association.Given as goal
 
 -- of the SCs before the index, those with the SCI are changed; the others are unchanged

@@ -1,6 +1,5 @@
 -- The SC at the position is the one with the SA's SCI. Proved from the lemma in `ChannelAt`.
-use Rattle.macsec_secy.specs.Counting.{count_in_channel}
-use Rattle.macsec_secy.proofs.ChannelAt.{map-at_channel_at}
+use Rattle.macsec_secy.proofs.{Names.count_in_channel, ChannelAt.map-at_channel_at}
 use Rattle.macsec_secy.proofs.associations.count_at_row.Goals as goal
 
 pub returns-in-Some : goal.returns-in-Some

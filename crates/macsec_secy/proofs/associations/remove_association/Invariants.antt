@@ -1,5 +1,4 @@
-use Rattle.std.proofs.Common.{◌≡◌, ◌++◌, map, take, drop}
-use Rattle.macsec_secy.specs.Counting.{at_channel, without_association}
+use Rattle.macsec_secy.proofs.Names.{◌++◌, ◌≡◌, at_channel, drop, map, take, without_association}
 use Rattle.macsec_secy.proofs.associations.remove_association.Given as goal
 
 -- of the SCs before the index, those with the SCI are changed; the others are unchanged

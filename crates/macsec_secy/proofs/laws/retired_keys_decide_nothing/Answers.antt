@@ -1,7 +1,6 @@
 -- One clause each: from the step that retires a key on it is retired and unused (`GivenUp`), and then its octets
 -- decide nothing but the refusal KeyRepeated (`OtherOctets`).
-use Rattle.macsec_secy.proofs.GivenUp.{gives_up, stays_given_up, stays_replaced}
-use Rattle.macsec_secy.proofs.OtherOctets.{steps_alike}
+use Rattle.macsec_secy.proofs.{GivenUp.{gives_up, stays_given_up, stays_replaced}, OtherOctets.steps_alike}
 use Rattle.macsec_secy.proofs.laws.retired_keys_decide_nothing.Goals as goal
 
 pub returns-clause-begins : goal.returns-clause-begins

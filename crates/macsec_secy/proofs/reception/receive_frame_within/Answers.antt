@@ -1,11 +1,10 @@
 -- A tagged frame within the limits: the SCs are as they were judged, and the counters as they were counted.
-use Rattle.std.proofs.Common.{◌≡◌, ◌∙◌, ap, length, refl, rules, sym}
-use Rattle.std.specs.Prelude.{None}
-use Rattle.macsec_tag.specs.Table.{reading, tagged}
-use Rattle.macsec_secy.specs.Verdicts.{counted_at_place, counted_by}
-use Rattle.macsec_secy.proofs.ChannelsCounted.{counted_again}
-use Rattle.macsec_secy.proofs.LimitedFrames.{tagged_side}
-use Rattle.macsec_secy.proofs.ReceivedFrames.{tagged_step}
+use Rattle.macsec_secy.proofs.{
+  Names.{◌∙◌, ◌≡◌, ap, counted_at_place, counted_by, length, None, reading, refl, rules, sym, tagged},
+  ChannelsCounted.counted_again,
+  LimitedFrames.tagged_side,
+  ReceivedFrames.tagged_step,
+}
 use Rattle.macsec_secy.proofs.reception.receive_frame_within.Goals as goal
 
 pub returns-in_ok-judged-in-Tagged-clause-step : goal.returns-in_ok-judged-in-Tagged-clause-step

@@ -1,10 +1,11 @@
 -- The result of opening, true or false, is what the definition gives for the whole frame. Proved from the contracts of
 -- the calls with `validated_in_place` of `ClearParts`.
-use Rattle.std.proofs.Common.{◌≡◌, ◌+◌, ◌++◌, List, ℕ, Bool, true, false, refl, ap, min, ◌∙◌}
-use Rattle.std.specs.Prelude.{Option, option_map, if◌then◌else◌, Some, None}
-use Rattle.std.specs.Bool.{OnTrue, OnFalse}
-use Rattle.macsec_suite.specs.InPlace.{validated_octets}
-use Rattle.macsec_suite.proofs.ClearParts.{validated_in_place}
+use Rattle.std.{
+  proofs.Common.{◌≡◌, ◌+◌, ◌++◌, List, ℕ, Bool, true, false, refl, ap, min, ◌∙◌, Option, option_map, if◌then◌else◌},
+  proofs.Common.{Some, None},
+  specs.Bool.{OnTrue, OnFalse},
+}
+use Rattle.macsec_suite.{proofs.ClearParts.validated_in_place, specs.InPlace.validated_octets}
 use Rattle.macsec_suite.proofs.in_place.validate_in_place.Goals as goal
 
 on_true : (b : Bool) (put : List ℕ → List ℕ) (text : List ℕ) {o : Option (List ℕ)} →

@@ -1,6 +1,7 @@
-use Rattle.std.proofs.Common.{get_or, bit_xor, rules}
-use Rattle.std.proofs.lemmas.List.FromFn.{fill_by_all}
-use Rattle.macsec_gcm.specs.Octets.{sum_with_stream}
+use Rattle.{
+  std.proofs.{Common.{get_or, bit_xor, rules}, lemmas.List.FromFn.fill_by_all},
+  macsec_gcm.specs.Octets.sum_with_stream,
+}
 use Rattle.macsec_suite.proofs.iv.exclusive_or.Goals as goal
 
 pub returns : goal.returns

@@ -1,7 +1,7 @@
-use Rattle.std.proofs.Common.{◌∙◌, sym, ap, refl, get_or, ◌&&◌, arith, Bool}
-use Rattle.std.specs.Prelude.{◌==◌}
-use Rattle.std.proofs.lemmas.List.{take_all}
-use Rattle.macsec_suite.proofs.KeyLemmas.{lengths_differ, same_octets-more}
+use Rattle.{
+  std.proofs.Common.{◌∙◌, sym, ap, refl, get_or, ◌&&◌, arith, Bool, ◌==◌, take_all},
+  macsec_suite.proofs.KeyLemmas.{lengths_differ, same_octets-more},
+}
 use Rattle.macsec_suite.proofs.key_table.are_same.Goals as goal
 
 pub returns-then-a-b : goal.returns-then-a-b

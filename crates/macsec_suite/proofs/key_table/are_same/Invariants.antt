@@ -1,5 +1,4 @@
-use Rattle.std.proofs.Common.{◌≡◌, take}
-use Rattle.macsec_gcm.specs.Octets.{same_octets}
+use Rattle.{std.proofs.Common.{◌≡◌, take}, macsec_gcm.specs.Octets.same_octets}
 use Rattle.macsec_suite.proofs.key_table.are_same.Given as goal
 
 -- the first i octets are the same

@@ -1,7 +1,7 @@
-use Rattle.std.proofs.Common.{◌<◌, ◌∙◌, length, arith}
-use Rattle.std.proofs.lemmas.List.Elements.{All-set}
-use Rattle.macsec_suite.specs.KeyTables.{HasOwnKey}
-use Rattle.macsec_suite.proofs.KeyIndex.{same_rows}
+use Rattle.{
+  std.proofs.{Common.{◌<◌, ◌∙◌, length, arith}, lemmas.List.Elements.All-set},
+  macsec_suite.{proofs.KeyIndex.same_rows, specs.KeyTables.HasOwnKey},
+}
 use Rattle.macsec_suite.proofs.key_table.prefer_wide_all.Goals as goal
 
 pub loop-i-preserved : goal.loop-i-preserved

@@ -1,6 +1,4 @@
-use Rattle.std.proofs.Common.{◌≡◌, map}
-use Rattle.std.specs.List.{All}
-use Rattle.macsec_suite.specs.KeyTables.{HasOwnKey, stored_row}
+use Rattle.{std.{proofs.Common.{◌≡◌, map}, specs.List.All}, macsec_suite.specs.KeyTables.{HasOwnKey, stored_row}}
 use Rattle.macsec_suite.proofs.key_table.prefer_wide_all.Given as goal
 
 -- the rows are the same, and each key is prepared from its own octets if it was

@@ -1,6 +1,8 @@
-use Rattle.std.proofs.Common.{rules}
-use Rattle.macsec_gcm.specs.Pieces.{HasChecked}
-use Rattle.macsec_suite.proofs.Cuts.{all_taken, none_taken, one_more_taken}
+use Rattle.{
+  std.proofs.Common.rules,
+  macsec_gcm.specs.Pieces.HasChecked,
+  macsec_suite.proofs.Cuts.{all_taken, none_taken, one_more_taken},
+}
 use Rattle.macsec_suite.proofs.pieces.check_text.Goals as goal
 
 pub loop-piece-init : goal.loop-piece-init

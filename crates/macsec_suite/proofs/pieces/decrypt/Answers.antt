@@ -1,7 +1,8 @@
-use Rattle.std.proofs.Common.{◌≡◌, ℕ, List, [], refl, arith}
-use Rattle.macsec_gcm.specs.Gcm.{gctr}
-use Rattle.macsec_gcm.specs.Pieces.{HasOpened, decrypted}
-use Rattle.macsec_suite.proofs.Cuts.{all_written, none_written, one_more_written}
+use Rattle.{
+  std.proofs.Common.{◌≡◌, ℕ, List, [], refl, arith},
+  macsec_gcm.specs.{Gcm.gctr, Pieces.{HasOpened, decrypted}},
+  macsec_suite.proofs.Cuts.{all_written, none_written, one_more_written},
+}
 use Rattle.macsec_suite.proofs.pieces.decrypt.Goals as goal
 
 nothing : (key iv : List ℕ) → decrypted key iv [] ≡ []

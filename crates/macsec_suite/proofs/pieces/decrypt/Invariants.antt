@@ -1,6 +1,8 @@
-use Rattle.std.proofs.Common.{ℕ, List, []}
-use Rattle.macsec_gcm.specs.Pieces.{HasOpened, decrypted}
-use Rattle.macsec_suite.proofs.Cuts.{AreWritten}
+use Rattle.{
+  std.proofs.Common.{ℕ, List, []},
+  macsec_gcm.specs.Pieces.{HasOpened, decrypted},
+  macsec_suite.proofs.Cuts.AreWritten,
+}
 use Rattle.macsec_suite.proofs.pieces.decrypt.Given as goal
 
 -- the first i pieces were decrypted

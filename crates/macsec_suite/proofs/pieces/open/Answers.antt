@@ -1,8 +1,8 @@
 -- All pieces were checked, so the result holds for the whole text. If the tag is valid, all of them are decrypted.
-use Rattle.std.proofs.Common.{ap, sym, ◌∙◌, subst}
-use Rattle.std.specs.Prelude.{◌≡◌, ℕ, List, [], Some, None, IfSome, IfNone}
-use Rattle.macsec_gcm.specs.Gcm.{open_of}
-use Rattle.macsec_gcm.specs.Pieces.{HasOpened, decrypted}
+use Rattle.{
+  std.proofs.Common.{ap, sym, ◌∙◌, subst, ◌≡◌, ℕ, List, [], Some, None, IfSome, IfNone},
+  macsec_gcm.specs.{Gcm.open_of, Pieces.{HasOpened, decrypted}},
+}
 use Rattle.macsec_suite.proofs.pieces.open.Goals as goal
 
 pub returns-in-Some-clause-gives : goal.returns-in-Some-clause-gives

@@ -1,6 +1,4 @@
-use Rattle.std.proofs.Common.{ℕ, List, []}
-use Rattle.macsec_gcm.specs.Pieces.{HasSealed}
-use Rattle.macsec_suite.proofs.Cuts.{AreTaken}
+use Rattle.{std.proofs.Common.{ℕ, List, []}, macsec_gcm.specs.Pieces.HasSealed, macsec_suite.proofs.Cuts.AreTaken}
 use Rattle.macsec_suite.proofs.pieces.seal_aad.Given as goal
 
 -- the pieces before the rest were authenticated

@@ -1,8 +1,8 @@
-use Rattle.std.proofs.Common.{[], arith}
-use Rattle.std.proofs.lemmas.List.{nil_from_length}
-use Rattle.macsec_gcm.specs.Pieces.{HasSealed}
-use Rattle.macsec_suite.proofs.Cuts.{all_written, none_written, one_more_written}
-use Rattle.macsec_suite.proofs.pieces.seal_text.Invariants.{ciphertext}
+use Rattle.{
+  std.proofs.{Common.{[], arith}, lemmas.List.nil_from_length},
+  macsec_gcm.specs.Pieces.HasSealed,
+  macsec_suite.proofs.{Cuts.{all_written, none_written, one_more_written}, pieces.seal_text.Invariants.ciphertext},
+}
 use Rattle.macsec_suite.proofs.pieces.seal_text.Goals as goal
 
 pub loop-i-init : goal.loop-i-init

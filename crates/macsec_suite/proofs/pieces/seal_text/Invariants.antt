@@ -1,7 +1,8 @@
-use Rattle.std.proofs.Common.{ℕ, List, []}
-use Rattle.macsec_gcm.specs.Gcm.{seal_of}
-use Rattle.macsec_gcm.specs.Pieces.{HasSealed}
-use Rattle.macsec_suite.proofs.Cuts.{AreWritten}
+use Rattle.{
+  std.proofs.Common.{ℕ, List, []},
+  macsec_gcm.specs.{Gcm.seal_of, Pieces.HasSealed},
+  macsec_suite.proofs.Cuts.AreWritten,
+}
 use Rattle.macsec_suite.proofs.pieces.seal_text.Given as goal
 
 abbrev pub ciphertext : List ℕ → List ℕ → List ℕ → List ℕ → List ℕ

@@ -1,6 +1,5 @@
 -- The fault is the first one of the table. Written out for speed.
-use Rattle.std.proofs.Common.{arith, rules}
-use Rattle.std.proofs.lemmas.Grind.{common_steps}
+use Rattle.std.proofs.{Common.{arith, rules}, lemmas.Grind.common_steps}
 use Rattle.macsec_tag.proofs.reading.fault_of.Goals as goal
 
 pub returns-then-frame-lt-SCI_PLACE : goal.returns-then-frame-lt-SCI_PLACE

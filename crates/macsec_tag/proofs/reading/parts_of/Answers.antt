@@ -1,8 +1,9 @@
 -- The parts are the parts by position, and have the lengths that the SecTAG requires.
 use Rattle.std.proofs.Common.{sym, ◌∙◌, ap, subst}
-use Rattle.macsec_tag.specs.Tag.{encoding}
-use Rattle.macsec_tag.specs.Frame.{HasLengths}
-use Rattle.macsec_tag.proofs.ByPlace.{are_octets, parts_cut, lengths_by, spelled_there}
+use Rattle.macsec_tag.{
+  proofs.ByPlace.{are_octets, parts_cut, lengths_by, spelled_there},
+  specs.{Frame.HasLengths, Tag.encoding},
+}
 use Rattle.macsec_tag.proofs.reading.parts_of.Goals as goal
 
 pub returns : goal.returns

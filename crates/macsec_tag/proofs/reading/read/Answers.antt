@@ -1,6 +1,5 @@
 -- A result that is the table's is the grammar's.
-use Rattle.macsec_tag.proofs.ByPlace.{are_octets}
-use Rattle.macsec_tag.proofs.Readings.{answered_tagged_by, answered_untagged_by}
+use Rattle.macsec_tag.proofs.{ByPlace.are_octets, Readings.{answered_tagged_by, answered_untagged_by}}
 use Rattle.macsec_tag.proofs.reading.read.Goals as goal
 
 pub returns-clause-is_tagged : goal.returns-clause-is_tagged

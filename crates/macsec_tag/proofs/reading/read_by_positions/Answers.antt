@@ -1,8 +1,8 @@
 -- Each return is what the table says. Written out for speed.
-use Rattle.std.proofs.Common.{arith, ap, sym, ◌∙◌}
-use Rattle.std.specs.Prelude.{None, Some}
-use Rattle.macsec_tag.specs.Table.{tagged}
-use Rattle.macsec_tag.proofs.Readings.{reads_short, reads_untagged, reads_with, stands_without_fault}
+use Rattle.{
+  std.proofs.Common.{arith, ap, sym, ◌∙◌, None, Some},
+  macsec_tag.{proofs.Readings.{reads_short, reads_untagged, reads_with, stands_without_fault}, specs.Table.tagged},
+}
 use Rattle.macsec_tag.proofs.reading.read_by_positions.Goals as goal
 
 pub fault_of-requires : goal.fault_of-requires

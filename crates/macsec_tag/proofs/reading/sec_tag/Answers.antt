@@ -1,8 +1,8 @@
 -- The SecTAG is the one at its position, and is valid. Written out for speed.
-use Rattle.std.proofs.Common.{arith, sym, subst}
-use Rattle.std.proofs.lemmas.Nat.{and_le_r}
-use Rattle.macsec_tag.specs.Tag.{IsTag}
-use Rattle.macsec_tag.proofs.ByPlace.{are_octets, is_tag_by, tag_cut}
+use Rattle.{
+  std.proofs.{Common.{arith, sym, subst}, lemmas.Nat.and_le_r},
+  macsec_tag.{proofs.ByPlace.{are_octets, is_tag_by, tag_cut}, specs.Tag.IsTag},
+}
 use Rattle.macsec_tag.proofs.reading.sec_tag.Goals as goal
 
 pub returns : goal.returns

@@ -1,6 +1,5 @@
 -- The octets written are the encoding; one goal for each arm and clause. Written out for speed.
-use Rattle.std.proofs.Common.{arith}
-use Rattle.std.proofs.lemmas.Grind.{common_steps}
+use Rattle.std.proofs.{Common.arith, lemmas.Grind.common_steps}
 use Rattle.macsec_tag.proofs.writing.write_tag.Goals as goal
 
 pub returns-in-Some-clause-length : goal.returns-in-Some-clause-length

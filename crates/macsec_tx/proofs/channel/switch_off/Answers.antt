@@ -1,6 +1,4 @@
-use Rattle.std.proofs.Common.{arith}
-use Rattle.std.proofs.lemmas.List.Edits.{map_over_more}
-use Rattle.macsec_tx.specs.Commands.{off_at}
+use Rattle.{std.proofs.{Common.arith, lemmas.List.Edits.map_over_more}, macsec_tx.specs.Commands.off_at}
 use Rattle.macsec_tx.proofs.channel.switch_off.Goals as goal
 
 pub loop-row-preserved : goal.loop-row-preserved

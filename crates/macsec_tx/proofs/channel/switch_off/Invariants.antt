@@ -1,5 +1,4 @@
-use Rattle.std.proofs.Common.{◌≡◌, ◌++◌, map, take, drop}
-use Rattle.macsec_tx.specs.Commands.{off_at}
+use Rattle.{std.proofs.Common.{◌≡◌, ◌++◌, map, take, drop}, macsec_tx.specs.Commands.off_at}
 use Rattle.macsec_tx.proofs.channel.switch_off.Given as goal
 
 -- the rows before the index are disabled if they have the number, and the others are unchanged

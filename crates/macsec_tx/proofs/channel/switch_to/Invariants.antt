@@ -1,5 +1,4 @@
-use Rattle.std.proofs.Common.{◌≡◌, ◌++◌, map, take, drop}
-use Rattle.macsec_tx.specs.Commands.{switch_to}
+use Rattle.{std.proofs.Common.{◌≡◌, ◌++◌, map, take, drop}, macsec_tx.specs.Commands.switch_to}
 use Rattle.macsec_tx.proofs.channel.switch_to.Given as goal
 
 -- the rows before the index are enabled or disabled, and the others are unchanged

@@ -1,6 +1,7 @@
-use Rattle.std.proofs.Common.{◌≡◌, ◌<◌, length, subst, arith}
-use Rattle.std.specs.Option.{ForSome}
-use Rattle.macsec_tx.proofs.SentTags.{is_tag}
+use Rattle.{
+  std.{proofs.Common.{◌≡◌, ◌<◌, length, subst, arith}, specs.Option.ForSome},
+  macsec_tx.proofs.SentTags.is_tag,
+}
 use Rattle.macsec_tx.proofs.sending.tag_of.Goals as goal
 
 pub unwrap-requires : goal.unwrap-requires

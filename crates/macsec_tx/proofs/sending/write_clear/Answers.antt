@@ -1,9 +1,13 @@
-use Rattle.std.proofs.Common.{◌≡◌, ◌≤◌, ◌+◌, ◌++◌, ◌-◌, length, take, drop, ℕ, List, ap, ◌∙◌, arith, length-take, length-drop, length-append}
-use Rattle.std.proofs.lemmas.List.{take_at}
-use Rattle.std.proofs.lemmas.Slice.{between_to_end, take-put_mid}
+use Rattle.{
+  std.proofs.{
+    Common.{◌≡◌, ◌≤◌, ◌+◌, ◌++◌, ◌-◌, length, take, drop, ℕ, List, ap, ◌∙◌, arith, length-take, length-drop},
+    Common.{length-append, take_at},
+    lemmas.Slice.{between_to_end, take-put_mid},
+  },
+  macsec_tag.specs.Tag.encoding,
+  macsec_tx.proofs.Writes.{take-put_mid_front, length-put_mid_front},
+}
 use borrow.Rule.Slice.PartMut.{put_mid}
-use Rattle.macsec_tag.specs.Tag.{encoding}
-use Rattle.macsec_tx.proofs.Writes.{take-put_mid_front, length-put_mid_front}
 use Rattle.macsec_tx.proofs.sending.write_clear.Goals as goal
 
 pub returns-clause-octets : goal.returns-clause-octets

@@ -1,8 +1,9 @@
 -- The data have a length that the cipher accepts, and the octets written are the protected frame. Proved from the lemma
 -- on frames protected in place in `Sealing`.
-use Rattle.std.proofs.Common.{◌≡◌, ◌+◌, ℕ, List, length, take, drop, ap, ◌∙◌, arith, rules, length-take, ◌≤◌}
-use Rattle.std.proofs.lemmas.List.{take_at, length-take-le}
-use Rattle.std.proofs.Math.Seq.{take-add}
+use Rattle.std.proofs.{
+  Common.{◌≡◌, ◌+◌, ℕ, List, length, take, drop, ap, ◌∙◌, arith, rules, length-take, ◌≤◌, take_at, length-take-le},
+  Math.Seq.take-add,
+}
 use Rattle.macsec_tx.proofs.Sealing.{protected_row}
 use Rattle.macsec_tx.proofs.sending.write_frame.Goals as goal
 

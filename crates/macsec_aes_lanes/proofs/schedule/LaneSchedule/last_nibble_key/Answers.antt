@@ -1,12 +1,10 @@
-use Rattle.std.proofs.Common.{◌≡◌, ◌∙◌, ◌+◌, ◌*◌, ℕ, List, [], ◌∷◌, map, slice_index, slice_index_or, ap, refl}
-use Rattle.std.specs.List.{range_with_len}
-use Rattle.macsec_aes.specs.Aes.{rounds_of, schedule_of}
-use Rattle.macsec_aes.specs.Keys.{key_bytes}
-use Rattle.macsec_aes_lanes.specs.AffineConstant.{kept_round_key}
-use Rattle.macsec_aes_lanes.specs.Lanes.{lane_at}
-use Rattle.macsec_aes_lanes.proofs.Below.{below_two}
-use Rattle.macsec_aes_lanes.proofs.NibbleRounds.{kept_is_block}
-use Rattle.macsec_aes_lanes.proofs.Octets.{same_blocks}
+use Rattle.macsec_aes_lanes.proofs.{
+  Names.{[], ◌*◌, ◌+◌, ◌∙◌, ◌∷◌, ◌≡◌, ap, kept_round_key, key_bytes, lane_at, List, map, range_with_len, refl},
+  Names.{rounds_of, schedule_of, slice_index, slice_index_or, ℕ},
+  Below.below_two,
+  NibbleRounds.kept_is_block,
+  Octets.same_blocks,
+}
 use Rattle.macsec_aes_lanes.proofs.schedule.LaneSchedule.last_nibble_key.Goals as goal
 
 pub returns : goal.returns

@@ -1,8 +1,8 @@
-use Rattle.std.proofs.Common.{◌≡◌, ◌∙◌, ◌+◌, ◌*◌, ℕ, List, [], ◌∷◌, slice_index, slice_index_or, ap, refl}
-use Rattle.macsec_aes_lanes.specs.Lanes.{lane_at}
-use Rattle.macsec_aes_lanes.specs.Nibbles.{represented}
-use Rattle.macsec_aes_lanes.proofs.Below.{below_two}
-use Rattle.macsec_aes_lanes.proofs.Octets.{same_blocks}
+use Rattle.macsec_aes_lanes.proofs.{
+  Names.{[], ◌*◌, ◌+◌, ◌∙◌, ◌∷◌, ◌≡◌, ap, lane_at, List, refl, represented, slice_index, slice_index_or, ℕ},
+  Below.below_two,
+  Octets.same_blocks,
+}
 use Rattle.macsec_aes_lanes.proofs.schedule.LaneSchedule.nibble_key.Goals as goal
 
 pub returns : goal.returns

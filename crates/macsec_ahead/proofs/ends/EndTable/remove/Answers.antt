@@ -1,10 +1,8 @@
 -- What is left is filtered.
-use Rattle.std.proofs.Common.{◌≡◌, ◌∙◌, List, ap, filter, rules}
-use Rattle.std.specs.Prelude.{◌==◌, not}
-use Rattle.std.proofs.lemmas.Fn.{filter_same}
-use Rattle.macsec_ahead.specs.declared.ends.EndedKey.{EndedKey}
-use Rattle.macsec_ahead.specs.declared.ends.EndedSa.{EndedSa}
-use Rattle.macsec_ahead.specs.Ends.{Ends, is_under, without_key}
+use Rattle.{
+  std.proofs.{Common.{◌≡◌, ◌∙◌, List, ap, filter, rules, ◌==◌, not}, lemmas.Fn.filter_same},
+  macsec_ahead.specs.{Ends.{Ends, is_under, without_key}, declared.ends.{EndedKey.EndedKey, EndedSa.EndedSa}},
+}
 use Rattle.macsec_ahead.proofs.ends.EndTable.remove.Goals as goal
 
 pub returns : goal.returns

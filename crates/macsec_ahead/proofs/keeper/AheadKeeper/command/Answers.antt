@@ -1,11 +1,11 @@
 -- The ends of the deleted SAs are added, and the ends under a retired key are removed.
-use Rattle.std.proofs.Common.{◌≡◌, false, ap, sym, ◌∙◌}
-use Rattle.macsec_secy.specs.State.{State}
-use Rattle.macsec_secy.specs.Step.{operator_command}
-use Rattle.macsec_reserve.specs.Keeping.{endpoint_input, keeping_step}
-use Rattle.macsec_ahead.specs.contracts.keeper.AheadKeeper.{the_view}
-use Rattle.macsec_ahead.specs.Ahead.{Ahead, ahead_step, begins_again, kept}
-use Rattle.macsec_ahead.proofs.Commands.{answer_of, state_of}
+use Rattle.{
+  std.proofs.Common.{◌≡◌, false, ap, sym, ◌∙◌},
+  macsec_secy.specs.{State.State, Step.operator_command},
+  macsec_reserve.specs.Keeping.{endpoint_input, keeping_step},
+  macsec_ahead.proofs.Commands.{answer_of, state_of},
+  macsec_ahead.specs.{Ahead.{Ahead, ahead_step, begins_again, kept}, contracts.keeper.AheadKeeper.the_view},
+}
 use Rattle.macsec_ahead.proofs.keeper.AheadKeeper.command.Goals as goal
 
 pub returns : goal.returns

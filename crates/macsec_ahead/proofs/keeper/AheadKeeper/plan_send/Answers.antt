@@ -1,8 +1,9 @@
 -- Sending leaves the limits as they are.
-use Rattle.std.proofs.Common.{ap, sym, ◌∙◌}
-use Rattle.macsec_reserve.specs.Keeping.{Keeping}
-use Rattle.macsec_ahead.specs.Limits.{limits_with}
-use Rattle.macsec_ahead.proofs.LimitsKept.{kept_sending}
+use Rattle.{
+  std.proofs.Common.{ap, sym, ◌∙◌},
+  macsec_reserve.specs.Keeping.Keeping,
+  macsec_ahead.{proofs.LimitsKept.kept_sending, specs.Limits.limits_with},
+}
 use Rattle.macsec_ahead.proofs.keeper.AheadKeeper.plan_send.Goals as goal
 
 pub invariant_of-self : goal.invariant_of-self

@@ -1,17 +1,12 @@
 -- The keeping endpoint takes its step within the limits, which follow from what is reserved.
-use Rattle.std.proofs.Common.{◌≡◌, List, refl, ap, sym, ◌∙◌}
-use Rattle.std.specs.Prelude.{Ok, Err}
-use Rattle.macsec_rx.specs.declared.within.PnLimits.{PnLimits}
-use Rattle.macsec_secy.specs.Limited.{output_of_limited_outcome}
-use Rattle.macsec_secy.specs.Step.{link_frame}
-use Rattle.macsec_reserve.specs.Keeping.{Keeping, endpoint_input}
-use Rattle.macsec_reserve.specs.Limited.{limited_keeping_step}
-use Rattle.macsec_ahead.specs.contracts.keeper.AheadKeeper.{the_view}
-use Rattle.macsec_ahead.specs.Ahead.{Ahead, ahead_step}
-use Rattle.macsec_ahead.specs.Limits.{limits_with}
-use Rattle.macsec_ahead.proofs.LimitsKept.{kept_receiving}
-use Rattle.macsec_ahead.proofs.WithinLimits.{limited_is, output_as, output_within}
-use Rattle.macsec_secy.proofs.Lent.{left_in_place}
+use Rattle.{
+  std.proofs.Common.{◌≡◌, List, refl, ap, sym, ◌∙◌, Ok, Err},
+  macsec_rx.specs.declared.within.PnLimits.PnLimits,
+  macsec_secy.{proofs.Lent.left_in_place, specs.{Limited.output_of_limited_outcome, Step.link_frame}},
+  macsec_reserve.specs.{Keeping.{Keeping, endpoint_input}, Limited.limited_keeping_step},
+  macsec_ahead.proofs.{LimitsKept.kept_receiving, WithinLimits.{limited_is, output_as, output_within}},
+  macsec_ahead.specs.{Ahead.{Ahead, ahead_step}, Limits.limits_with, contracts.keeper.AheadKeeper.the_view},
+}
 use Rattle.macsec_ahead.proofs.keeper.AheadKeeper.receive_inside.Goals as goal
 
 pub invariant_of-self : goal.invariant_of-self

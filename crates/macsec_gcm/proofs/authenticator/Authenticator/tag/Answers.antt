@@ -1,8 +1,9 @@
-use Rattle.std.proofs.Common.{◌≡◌, ◌++◌, ◌∷◌, ◌∙◌, List, ℕ, [], ap, arith, length, append_assoc, sym}
-use Rattle.macsec_ghash.specs.Ghash.{ghash, pad}
-use Rattle.macsec_gcm.specs.Gcm.{authentication_tag, hash_subkey, length_block}
-use Rattle.macsec_gcm.proofs.KeyStreams.{sum_with_mask}
-use Rattle.macsec_gcm.proofs.States.{texts_ended}
+use Rattle.{
+  std.proofs.Common.{◌≡◌, ◌++◌, ◌∷◌, ◌∙◌, List, ℕ, [], ap, arith, length, append_assoc, sym},
+  macsec_ghash.specs.Ghash.{ghash, pad},
+  macsec_gcm.proofs.{KeyStreams.sum_with_mask, States.texts_ended},
+  macsec_gcm.specs.Gcm.{authentication_tag, hash_subkey, length_block},
+}
 use Rattle.macsec_gcm.proofs.authenticator.Authenticator.tag.Goals as goal
 
 pub returns : goal.returns

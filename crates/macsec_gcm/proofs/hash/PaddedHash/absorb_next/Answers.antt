@@ -1,5 +1,4 @@
-use Rattle.std.proofs.Common.{arith}
-use Rattle.macsec_gcm.proofs.States.{two_parts}
+use Rattle.{std.proofs.Common.arith, macsec_gcm.proofs.States.two_parts}
 use Rattle.macsec_gcm.proofs.hash.PaddedHash.absorb_next.Goals as goal
 
 pub returns : goal.returns

@@ -1,5 +1,4 @@
-use Rattle.std.proofs.Common.{◌≡◌, ℕ, [], ap, refl, take}
-use Rattle.macsec_gcm.proofs.States.{hashing_more}
+use Rattle.{std.proofs.Common.{◌≡◌, ℕ, [], ap, refl, take}, macsec_gcm.proofs.States.hashing_more}
 use Rattle.macsec_gcm.proofs.hash.PaddedHash.absorb_whole.Goals as goal
 
 pub returns-clause-hashes : goal.returns-clause-hashes

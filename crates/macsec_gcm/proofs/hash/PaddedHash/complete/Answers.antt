@@ -1,6 +1,7 @@
-use Rattle.std.proofs.Common.{◌≡◌, ◌++◌, ◌-◌, ◌∙◌, List, ℕ, ap, refl, take, length, length-append, arith, rules}
-use Rattle.std.proofs.lemmas.List.{length-take-le}
-use Rattle.macsec_gcm.proofs.States.{hashing_more, put_mid-end}
+use Rattle.{
+  std.proofs.Common.{◌≡◌, ◌++◌, ◌-◌, ◌∙◌, List, ℕ, ap, refl, take, length, length-append, arith, rules, length-take-le},
+  macsec_gcm.proofs.States.{hashing_more, put_mid-end},
+}
 use Rattle.macsec_gcm.proofs.hash.PaddedHash.complete.Goals as goal
 
 pub returns-clause-hashes : goal.returns-clause-hashes

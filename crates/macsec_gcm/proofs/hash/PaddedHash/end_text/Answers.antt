@@ -1,5 +1,4 @@
-use Rattle.std.proofs.Common.{refl}
-use Rattle.macsec_gcm.proofs.States.{hashing_ended}
+use Rattle.{std.proofs.Common.refl, macsec_gcm.proofs.States.hashing_ended}
 use Rattle.macsec_gcm.proofs.hash.PaddedHash.end_text.Goals as goal
 
 pub returns : goal.returns

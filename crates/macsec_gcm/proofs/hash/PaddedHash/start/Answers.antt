@@ -1,5 +1,4 @@
-use Rattle.std.proofs.Common.{[], refl}
-use Rattle.macsec_ghash.specs.Ghash.{blocks_of, pad}
+use Rattle.{std.proofs.Common.{[], refl}, macsec_ghash.specs.Ghash.{blocks_of, pad}}
 use Rattle.macsec_gcm.proofs.hash.PaddedHash.start.Goals as goal
 
 pub returns : goal.returns

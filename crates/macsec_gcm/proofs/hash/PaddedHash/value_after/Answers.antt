@@ -1,5 +1,7 @@
-use Rattle.std.proofs.Common.{◌≡◌, ◌∙◌, ◌∷◌, ◌++◌, [], ℕ, List, ap, arith, length, length-append, take}
-use Rattle.std.proofs.lemmas.List.{append-nil, nil_from_length}
+use Rattle.std.proofs.{
+  Common.{◌≡◌, ◌∙◌, ◌∷◌, ◌++◌, [], ℕ, List, ap, arith, length, length-append, take, append-nil},
+  lemmas.List.nil_from_length,
+}
 use Rattle.macsec_ghash.specs.Ghash.{blocks_of, ghash, pad}
 use Rattle.macsec_gcm.proofs.hash.PaddedHash.value_after.Goals as goal
 

@@ -1,8 +1,8 @@
-use Rattle.std.proofs.Common.{◌≡◌, ◌+◌, ◌-◌, ◌≤◌, ◌∙◌, ℕ, List, ap, arith, drop, length, length-append, length-drop, take}
-use Rattle.std.proofs.lemmas.List.{length-take-le, take_all}
-use Rattle.macsec_gcm.specs.Streams.{key_stream}
-use Rattle.macsec_gcm.proofs.KeyStreams.{gctr-append, sum_continues}
-use Rattle.macsec_gcm.proofs.States.{put_mid-end}
+use Rattle.{
+  std.proofs.Common.{◌≡◌, ◌+◌, ◌-◌, ◌≤◌, ◌∙◌, ℕ, List, ap, arith, drop, length, length-append, length-drop, take},
+  std.proofs.Common.{length-take-le, take_all},
+  macsec_gcm.{proofs.{KeyStreams.{gctr-append, sum_continues}, States.put_mid-end}, specs.Streams.key_stream},
+}
 use Rattle.macsec_gcm.proofs.key_stream.KeyStream.add_to.Goals as goal
 
 pub loop-done-preserved : goal.loop-done-preserved

@@ -1,6 +1,7 @@
-use Rattle.std.proofs.Common.{◌+◌, ◌-◌, ◌≤◌, ℕ, List, length}
-use Rattle.macsec_gcm.specs.Pieces.{IsStreamAt}
-use Rattle.macsec_gcm.specs.Streams.{IsSumBelow, key_stream}
+use Rattle.{
+  std.proofs.Common.{◌+◌, ◌-◌, ◌≤◌, ℕ, List, length},
+  macsec_gcm.specs.{Pieces.IsStreamAt, Streams.{IsSumBelow, key_stream}},
+}
 use Rattle.macsec_gcm.proofs.key_stream.KeyStream.add_to.Given as goal
 
 -- as many octets of the key stream are used as octets of the piece are done, and were added to them

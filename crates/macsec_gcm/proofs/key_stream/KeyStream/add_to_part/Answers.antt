@@ -1,8 +1,7 @@
-use Rattle.std.proofs.Common.{◌+◌, ◌-◌, ◌∙◌, arith, refl, drop}
-use Rattle.std.proofs.lemmas.List.{get_or-drop, get_or-take}
-use Rattle.macsec_gcm.specs.Streams.{key_stream}
-use Rattle.macsec_gcm.proofs.KeyStreams.{sum_of_part}
-use Rattle.macsec_gcm.proofs.States.{stream_moves}
+use Rattle.{
+  std.proofs.Common.{◌+◌, ◌-◌, ◌∙◌, arith, refl, drop, get_or-drop, get_or-take},
+  macsec_gcm.{proofs.{KeyStreams.sum_of_part, States.stream_moves}, specs.Streams.key_stream},
+}
 use Rattle.macsec_gcm.proofs.key_stream.KeyStream.add_to_part.Goals as goal
 
 pub returns-clause-moves : goal.returns-clause-moves

@@ -1,8 +1,9 @@
-use Rattle.std.proofs.Common.{◌≡◌, ◌+◌, ◌∙◌, ℕ, List, ap, arith, drop, get_or, length, refl, replicate, rules}
-use Rattle.std.proofs.lemmas.List.{get_or-drop, get_or-take}
+use Rattle.{
+  std.proofs.Common.{◌≡◌, ◌+◌, ◌∙◌, ℕ, List, ap, arith, drop, get_or, length, refl, replicate, rules, get_or-drop},
+  std.proofs.Common.get_or-take,
+  macsec_gcm.proofs.{KeyStreams.sum_with_key_stream, States.{get_or-put_mid, stream_after_block}},
+}
 use borrow.Rule.Slice.PartMut.{put_mid}
-use Rattle.macsec_gcm.proofs.KeyStreams.{sum_with_key_stream}
-use Rattle.macsec_gcm.proofs.States.{get_or-put_mid, stream_after_block}
 use Rattle.macsec_gcm.proofs.key_stream.KeyStream.begin.Goals as goal
 
 pub returns-clause-stream : goal.returns-clause-stream

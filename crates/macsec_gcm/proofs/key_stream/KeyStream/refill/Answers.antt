@@ -1,5 +1,7 @@
-use Rattle.std.proofs.Common.{◌≡◌, ◌+◌, ◌∙◌, ℕ, ap, arith, refl, get_or, length, rules}
-use Rattle.macsec_gcm.proofs.States.{get_or-put_mid, stream_refilled}
+use Rattle.{
+  std.proofs.Common.{◌≡◌, ◌+◌, ◌∙◌, ℕ, ap, arith, refl, get_or, length, rules},
+  macsec_gcm.proofs.States.{get_or-put_mid, stream_refilled},
+}
 use Rattle.macsec_gcm.proofs.key_stream.KeyStream.refill.Goals as goal
 
 pub returns-then-wanted-gt192-clause-same : goal.returns-then-wanted-gt192-clause-same

@@ -1,6 +1,7 @@
-use Rattle.std.proofs.Common.{◌≡◌, ◌∙◌, true, false, refl, rules}
-use Rattle.macsec_gcm.specs.Octets.{same_octets}
-use Rattle.macsec_gcm.proofs.Opening.{open_of-by_test}
+use Rattle.{
+  std.proofs.Common.{◌≡◌, ◌∙◌, true, false, refl, rules},
+  macsec_gcm.{proofs.Opening.open_of-by_test, specs.Octets.same_octets},
+}
 use Rattle.macsec_gcm.proofs.pieces.Opener.finish.Goals as goal
 
 pub returns-then-are_same-clause-opened : goal.returns-then-are_same-clause-opened

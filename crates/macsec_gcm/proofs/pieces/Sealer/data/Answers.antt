@@ -1,5 +1,4 @@
-use Rattle.std.proofs.Common.{length-append}
-use Rattle.macsec_gcm.specs.Gcm.{seal_of}
+use Rattle.{std.proofs.Common.length-append, macsec_gcm.specs.Gcm.seal_of}
 use Rattle.macsec_gcm.proofs.pieces.Sealer.data.Goals as goal
 
 pub returns : goal.returns

@@ -1,6 +1,7 @@
-use Rattle.std.proofs.Common.{arith}
-use Rattle.macsec_gcm.specs.Gcm.{inc32, pre_counter_block, seal_of}
-use Rattle.macsec_gcm.proofs.KeyStreams.{length-gctr}
+use Rattle.{
+  std.proofs.Common.arith,
+  macsec_gcm.{proofs.KeyStreams.length-gctr, specs.Gcm.{inc32, pre_counter_block, seal_of}},
+}
 use Rattle.macsec_gcm.proofs.pieces.Sealer.finish.Goals as goal
 
 pub returns : goal.returns

@@ -1,8 +1,8 @@
 -- The first blocks that are left add to the hash, and at the end the rest is hashed. Proved from the loop's invariant.
-use Rattle.std.proofs.Common.{◌≡◌, ◌-◌, ◌∙◌, ℕ, List, ap, arith, drop, length, length-drop, sym, take}
-use Rattle.std.proofs.lemmas.List.{drop-drop, take_all}
-use Rattle.macsec_ghash.specs.Ghash.{hash_after, pad}
-use Rattle.macsec_ghash.proofs.Blocks.{ghash-append}
+use Rattle.{
+  std.proofs.Common.{◌≡◌, ◌-◌, ◌∙◌, ℕ, List, ap, arith, drop, length, length-drop, sym, take, drop-drop, take_all},
+  macsec_ghash.{proofs.Blocks.ghash-append, specs.Ghash.{hash_after, pad}},
+}
 use Rattle.macsec_ghash.proofs.lane_hash.RunningHash.absorb.Goals as goal
 
 pub loop-done-preserved : goal.loop-done-preserved

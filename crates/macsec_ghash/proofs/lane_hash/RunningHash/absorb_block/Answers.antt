@@ -1,6 +1,7 @@
-use Rattle.std.proofs.Common.{ℕ, [], ◌∷◌, ap, sym, ◌∙◌}
-use Rattle.macsec_ghash.specs.Ghash.{hash_next}
-use Rattle.macsec_ghash.proofs.Blocks.{ghash-append}
+use Rattle.{
+  std.proofs.Common.{ℕ, [], ◌∷◌, ap, sym, ◌∙◌},
+  macsec_ghash.{proofs.Blocks.ghash-append, specs.Ghash.hash_next},
+}
 use Rattle.macsec_ghash.proofs.lane_hash.RunningHash.absorb_block.Goals as goal
 
 pub returns : goal.returns

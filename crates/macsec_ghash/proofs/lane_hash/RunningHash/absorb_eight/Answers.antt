@@ -1,6 +1,7 @@
-use Rattle.std.proofs.Common.{◌≡◌, ◌^◌, ◌<◌, ℕ, List, ap, length, arith, rules, ◌∙◌}
-use Rattle.macsec_ghash.specs.Ghash.{hash_after}
-use Rattle.macsec_ghash.proofs.Tails.{weighted-first}
+use Rattle.{
+  std.proofs.Common.{◌≡◌, ◌^◌, ◌<◌, ℕ, List, ap, length, arith, rules, ◌∙◌},
+  macsec_ghash.{proofs.Tails.weighted-first, specs.Ghash.hash_after},
+}
 use Rattle.macsec_ghash.proofs.lane_hash.RunningHash.absorb_eight.Goals as goal
 
 pub returns-clause-hash : goal.returns-clause-hash

@@ -1,7 +1,7 @@
-use Rattle.std.proofs.Common.{◌≡◌, ◌∙◌, ℕ, List, ap, arith, drop, sym, take}
-use Rattle.std.proofs.lemmas.Grind.{fold-append}
-use Rattle.macsec_ghash.specs.Ghash.{blocks_of, hash_after, hash_next, pad}
-use Rattle.macsec_ghash.proofs.Blocks.{pad_first, pad_more}
+use Rattle.{
+  std.proofs.{Common.{◌≡◌, ◌∙◌, ℕ, List, ap, arith, drop, sym, take}, lemmas.Grind.fold-append},
+  macsec_ghash.{proofs.Blocks.{pad_first, pad_more}, specs.Ghash.{blocks_of, hash_after, hash_next, pad}},
+}
 use Rattle.macsec_ghash.proofs.lane_hash.RunningHash.absorb_first.Goals as goal
 
 pub returns-then-self-eq0-clause-hash : goal.returns-then-self-eq0-clause-hash

@@ -1,8 +1,9 @@
 -- Each chunk adds its block to the hash, and at the end all blocks are hashed. Proved from the loop's invariant and the
 -- lemmas on the blocks of a text in `Blocks`.
-use Rattle.std.proofs.Common.{rules, ◌≡◌, ℕ, length, take, ap, ◌∙◌, min}
-use Rattle.macsec_ghash.specs.Ghash.{hash_after, hash_next, pad}
-use Rattle.macsec_ghash.proofs.Blocks.{pad_chunk, pad_none}
+use Rattle.{
+  std.proofs.Common.{rules, ◌≡◌, ℕ, length, take, ap, ◌∙◌, min},
+  macsec_ghash.{proofs.Blocks.{pad_chunk, pad_none}, specs.Ghash.{hash_after, hash_next, pad}},
+}
 use Rattle.macsec_ghash.proofs.lane_hash.RunningHash.absorb_rest.Goals as goal
 
 -- For speed: on a wrong body the prover would otherwise try more.

@@ -1,5 +1,4 @@
-use Rattle.std.proofs.Common.{◌≡◌, take}
-use Rattle.macsec_ghash.specs.Ghash.{hash_after, pad}
+use Rattle.{std.proofs.Common.{◌≡◌, take}, macsec_ghash.specs.Ghash.{hash_after, pad}}
 use Rattle.macsec_ghash.proofs.lane_hash.RunningHash.absorb_rest.Given as goal
 
 -- hashing the remaining blocks from the state so far gives the hash of all blocks from the first state

@@ -1,7 +1,7 @@
-use Rattle.std.proofs.Common.{ℕ, ◌^◌, ◌<◌, ◌-◌, List, length, ap, arith, ◌∙◌}
-use Rattle.std.proofs.lemmas.Grind.{common_steps}
-use Rattle.macsec_ghash.specs.Powers.{weighted}
-use Rattle.macsec_ghash.proofs.Tails.{tail, weighted-tail}
+use Rattle.{
+  std.proofs.{Common.{ℕ, ◌^◌, ◌<◌, ◌-◌, List, length, ap, arith, ◌∙◌}, lemmas.Grind.common_steps},
+  macsec_ghash.{proofs.Tails.{tail, weighted-tail}, specs.Powers.weighted},
+}
 use Rattle.macsec_ghash.proofs.lane_hash.RunningHash.after.Goals as goal
 
 pub returns : goal.returns

@@ -1,5 +1,4 @@
-use Rattle.std.proofs.Common.{◌≡◌, ◌^◌, ◌<◌, length, arith, rules, ◌∙◌}
-use Rattle.macsec_ghash.proofs.Tails.{weighted-first}
+use Rattle.{std.proofs.Common.{◌≡◌, ◌^◌, ◌<◌, length, arith, rules, ◌∙◌}, macsec_ghash.proofs.Tails.weighted-first}
 use Rattle.macsec_ghash.proofs.lane_hash.RunningHash.after_eight.Goals as goal
 
 pub returns-clause-hash : goal.returns-clause-hash

@@ -1,7 +1,8 @@
-use Rattle.std.proofs.Common.{◌≡◌, ◌≤◌, ◌+◌, ℕ, List, [], ◌∷◌, ◌++◌, length, set, take, ap, sym, ◌∙◌, arith}
-use Rattle.std.proofs.lemmas.List.{length-set, take_all, take_more_set}
-use Rattle.macsec_ghash.specs.Ghash.{hash_after}
-use Rattle.macsec_ghash.proofs.Tails.{hash_after_next}
+use Rattle.std.proofs.{
+  Common.{◌≡◌, ◌≤◌, ◌+◌, ℕ, List, [], ◌∷◌, ◌++◌, length, set, take, ap, sym, ◌∙◌, arith, length-set, take_all},
+  lemmas.List.take_more_set,
+}
+use Rattle.macsec_ghash.{proofs.Tails.hash_after_next, specs.Ghash.hash_after}
 use Rattle.macsec_ghash.proofs.lane_hash.RunningHash.push.Goals as goal
 
 pub returns-else-self-lt7 : goal.returns-else-self-lt7

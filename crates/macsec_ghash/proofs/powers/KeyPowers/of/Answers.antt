@@ -1,9 +1,8 @@
-use Rattle.std.proofs.Common.{◌≡◌, ℕ, ◌-◌, [], ◌∷◌, slice_index, refl, ap, ◌∙◌, arith}
-use Rattle.std.specs.Int.{byte_at}
-use Rattle.macsec_field128.specs.Carryless.{carryless}
-use Rattle.macsec_field128.specs.Field.{block_product}
-use Rattle.macsec_ghash.specs.Powers.{power}
-use Rattle.macsec_ghash.proofs.Below.{below_eight}
+use Rattle.{
+  std.{proofs.Common.{◌≡◌, ℕ, ◌-◌, [], ◌∷◌, slice_index, refl, ap, ◌∙◌, arith}, specs.Int.byte_at},
+  macsec_field128.specs.{Carryless.carryless, Field.block_product},
+  macsec_ghash.{proofs.Below.below_eight, specs.Powers.power},
+}
 use Rattle.macsec_ghash.proofs.powers.KeyPowers.of.Goals as goal
 
 pub invariant_of-result : goal.invariant_of-result

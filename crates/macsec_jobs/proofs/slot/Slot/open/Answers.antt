@@ -1,9 +1,8 @@
 -- The frame was opened with the key of the slot.
-use Rattle.std.proofs.Common.{◌≡◌, length, rules, sym, true, ◌∙◌}
-use Rattle.std.proofs.lemmas.List.{take_at}
-use Rattle.macsec_jobs.specs.PlannedKeys.{same_key}
-use Rattle.macsec_jobs.proofs.Opened.{openable, opened_from}
-use Rattle.macsec_jobs.proofs.SameKeys.{one_key}
+use Rattle.{
+  std.proofs.Common.{◌≡◌, length, rules, sym, true, ◌∙◌, take_at},
+  macsec_jobs.{proofs.{Opened.{openable, opened_from}, SameKeys.one_key}, specs.PlannedKeys.same_key},
+}
 use Rattle.macsec_jobs.proofs.slot.Slot.open.Goals as goal
 
 pub invariant_of-self : goal.invariant_of-self

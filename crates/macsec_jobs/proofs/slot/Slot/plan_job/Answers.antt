@@ -1,11 +1,9 @@
 -- The slot has the job's frame and key.
-use Rattle.std.proofs.Common.{◌≡◌, ap, arith, length, rules, ◌∙◌}
-use Rattle.std.specs.Prelude.{Some}
-use Rattle.std.proofs.lemmas.List.{take_at}
-use Rattle.macsec_suite.specs.KeyRows.{key_row, the_key}
-use Rattle.macsec_suite.specs.KeyTables.{row_shown}
-use Rattle.macsec_jobs.specs.declared.planned_key.PlannedKey.{PlannedKey}
-use Rattle.macsec_jobs.proofs.SameKeys.{found_number}
+use Rattle.{
+  std.proofs.Common.{◌≡◌, ap, arith, length, rules, ◌∙◌, Some, take_at},
+  macsec_suite.specs.{KeyRows.{key_row, the_key}, KeyTables.row_shown},
+  macsec_jobs.{proofs.SameKeys.found_number, specs.declared.planned_key.PlannedKey.PlannedKey},
+}
 use Rattle.macsec_jobs.proofs.slot.Slot.plan_job.Goals as goal
 
 pub returns-clause-number : goal.returns-clause-number

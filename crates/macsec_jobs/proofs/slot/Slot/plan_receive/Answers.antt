@@ -1,7 +1,8 @@
 -- The slot has the key of the job's number.
-use Rattle.std.proofs.Common.{ap, sym, ◌∙◌}
-use Rattle.macsec_jobs.specs.declared.planned_key.PlannedKey.{PlannedKey}
-use Rattle.macsec_jobs.proofs.SameKeys.{found_number}
+use Rattle.{
+  std.proofs.Common.{ap, sym, ◌∙◌},
+  macsec_jobs.{proofs.SameKeys.found_number, specs.declared.planned_key.PlannedKey.PlannedKey},
+}
 use Rattle.macsec_jobs.proofs.slot.Slot.plan_receive.Goals as goal
 
 pub invariant_of-self-2 : goal.invariant_of-self-2

@@ -1,6 +1,6 @@
 -- Only these tactics: without these proofs the prover tries others first, which takes longer, and tries all on a
 -- mutant.
-use Rattle.macsec_link.proofs.Names.{rules, arith, common_steps}
+use Rattle.macsec_link.proofs.Names.{arith, common_steps, rules}
 use Rattle.macsec_link.proofs.world.World.check_client_frame.Goals as goal
 
 pub returns-then-frame-lt-MIN_FRAME_LEN-clause-admits : goal.returns-then-frame-lt-MIN_FRAME_LEN-clause-admits

@@ -1,11 +1,12 @@
 -- A delivery is one step of the written world, or its fault. The end receives the link frame with the number, which is
 -- found and is not too short or too long.
-use Rattle.macsec_link.proofs.Names.{◌≡◌, ℕ, List, ap, rules, subst, sym, None, Err, frame_fault}
-use Rattle.macsec_link.specs.World.{WorldState}
-use Rattle.macsec_link.proofs.LinkFrames.{at_place, heard}
-use Rattle.macsec_link.proofs.world.World.deliver.Goals.{in-A, in-B}
+use Rattle.macsec_link.proofs.{
+  Names.{◌≡◌, ap, Err, frame_fault, List, None, rules, subst, sym, WorldState, ℕ},
+  Faulted.passed_on,
+  LinkFrames.{at_place, heard},
+  world.World.deliver.Goals.{in-A, in-B},
+}
 use Rattle.macsec_commands.specs.declared.event.Event.TheVariants as event
-use Rattle.macsec_link.proofs.Faulted.{passed_on}
 use Rattle.macsec_link.proofs.world.World.deliver.Goals as goal
 
 pub returns-in_err-check_delivery-clause-steps : goal.returns-in_err-check_delivery-clause-steps

@@ -1,7 +1,6 @@
 -- The frame at the number's index, or none after the last one. Written down so that another frame is refused quickly.
-use Rattle.macsec_link.proofs.Names.{◌≡◌, ◌∙◌, ◌<◌, ◌≤◌, ℕ, zero, suc, List, [], ◌∷◌, ap, arith, get_or, length, refl, Some, None, option_copied}
-use Rattle.macsec_link.proofs.Names.{slice_get, Vec, frames_kept}
-use Rattle.macsec_link.specs.World.{WorldState}
+use Rattle.macsec_link.proofs.Names.{[], ◌<◌, ◌∙◌, ◌∷◌, ◌≡◌, ◌≤◌, ap, arith, frames_kept, get_or, length, List, None}
+use Rattle.macsec_link.proofs.Names.{option_copied, refl, slice_get, Some, suc, Vec, WorldState, zero, ℕ}
 use Rattle.macsec_link.proofs.world.World.frame.Goals as goal
 
 found_at : (frames : List (Vec ℕ)) (n : ℕ) (frame : Vec ℕ) → n < length frames →

@@ -1,6 +1,8 @@
-use Rattle.macsec_link.proofs.Names.{◌≡◌, ◌∙◌, ℕ, List, [], ap, sym, Vec, EndConfig, EndState, new_end, frames_kept}
-use Rattle.macsec_link.specs.World.{WorldState, new_world}
-use Rattle.macsec_link.proofs.Faulted.{refuses}
+use Rattle.macsec_link_logs.specs.Ends.{new_end}
+use Rattle.macsec_link.proofs.{
+  Names.{[], ◌∙◌, ◌≡◌, ap, EndConfig, EndState, frames_kept, List, new_world, sym, Vec, WorldState, ℕ},
+  Faulted.refuses,
+}
 use Rattle.macsec_link.proofs.world.World.new.Goals as goal
 
 pub returns-in-Some-clause-made : goal.returns-in-Some-clause-made

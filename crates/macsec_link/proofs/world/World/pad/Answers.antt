@@ -1,8 +1,7 @@
 -- Only these tactics: without these proofs the prover tries others first, which takes longer, and tries all on a
 -- mutant.
-use Rattle.macsec_link.proofs.Names.{◌≡◌, rules, Err}
+use Rattle.macsec_link.proofs.{Names.{◌≡◌, Err, rules}, Faulted.passed_on}
 use Rattle.macsec_commands.specs.declared.event.Event.TheVariants as event
-use Rattle.macsec_link.proofs.Faulted.{passed_on}
 use Rattle.macsec_link.proofs.world.World.pad.Goals as goal
 
 pub returns-in_err-frame-clause-steps : goal.returns-in_err-frame-clause-steps

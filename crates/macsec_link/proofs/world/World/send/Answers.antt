@@ -1,9 +1,10 @@
 -- Only these tactics: without these proofs the prover tries others first, which takes longer, and tries all on a
 -- mutant.
-use Rattle.macsec_link.proofs.Names.{◌≡◌, ◌<◌, ℕ, ap, arith, length, rules, Err, Vec, common_steps, length-map}
-use Rattle.macsec_link.specs.World.{WorldState}
+use Rattle.macsec_link.proofs.{
+  Names.{◌<◌, ◌≡◌, ap, arith, common_steps, Err, length, length-map, rules, Vec, WorldState, ℕ},
+  Faulted.passed_on,
+}
 use Rattle.macsec_commands.specs.declared.event.Event.TheVariants as event
-use Rattle.macsec_link.proofs.Faulted.{passed_on}
 use Rattle.macsec_link.proofs.world.World.send.Goals as goal
 
 pub returns-in_err-check_client_frame-clause-steps : goal.returns-in_err-check_client_frame-clause-steps

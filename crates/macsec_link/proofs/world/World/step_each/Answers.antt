@@ -1,9 +1,10 @@
 -- After each event the run is extended by one step, and the vector has capacity for its result; at the end, by all
 -- events.
-use Rattle.macsec_link.proofs.Names.{arith, take, List, subst, take_all, take_more, Event}
-use Rattle.macsec_link.specs.Beginnings.{StaysSound}
-use Rattle.macsec_link.specs.Answers.{RunsTo, events_kept}
-use Rattle.macsec_link.proofs.RunLemmas.{one_more}
+use Rattle.std.proofs.lemmas.List.{take_more}
+use Rattle.macsec_link.proofs.{
+  Names.{arith, Event, events_kept, List, RunsTo, StaysSound, subst, take, take_all},
+  RunLemmas.one_more,
+}
 use Rattle.macsec_link.proofs.world.World.step_each.Goals as goal
 
 pub loop-event-preserved : goal.loop-event-preserved

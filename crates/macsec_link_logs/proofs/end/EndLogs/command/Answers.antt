@@ -1,13 +1,13 @@
 -- A command at an end is one step of the machine, carried out or refused. `follow_command` updates the logs and their
 -- table as the machine does; the end stays sound by `sound_after`.
-use Rattle.std.proofs.Common.{◌≡◌, ◌∙◌, ap, rules, subst, sym}
-use Rattle.macsec_secy.specs.Step.{done, operator_command, refused, step}
-use Rattle.macsec_link_logs.specs.contracts.end.EndLogs.{the_view}
-use Rattle.macsec_link_logs.specs.Logs.{logs_after_command}
-use Rattle.macsec_link_logs.specs.Places.{live_places}
-use Rattle.macsec_link_logs.specs.Sound.{IsSoundEnd}
-use Rattle.macsec_link_logs.proofs.Commanded.{done_with, refused_with}
-use Rattle.macsec_link_logs.proofs.Logged.{sound_after}
+use Rattle.{
+  std.proofs.Common.{◌≡◌, ◌∙◌, ap, rules, subst, sym},
+  macsec_secy.specs.Step.{done, operator_command, refused, step},
+  macsec_link_logs.{
+    proofs.{Commanded.{done_with, refused_with}, Logged.sound_after},
+    specs.{Logs.logs_after_command, Places.live_places, Sound.IsSoundEnd, contracts.end.EndLogs.the_view},
+  },
+}
 use Rattle.macsec_link_logs.proofs.end.EndLogs.command.Goals as goal
 
 pub returns-in-Ok-clause-sound : goal.returns-in-Ok-clause-sound

@@ -1,16 +1,13 @@
 -- Receiving is one step of the machine, and a delivered frame is in its log. The endpoint's result is the machine's
 -- output, the reserved capacity is large enough for it, and the table of live logs is unchanged.
-use Rattle.std.proofs.Common.{◌≡◌, ◌∙◌, ℕ, List, ap, arith, rules, subst, sym}
-use Rattle.std.specs.Prelude.{Some, None}
-use Rattle.macsec_secy.specs.Sound.{IsSound}
-use Rattle.macsec_secy.specs.Step.{link_frame, received, step}
-use Rattle.macsec_link_logs.specs.contracts.end.EndLogs.{the_view}
-use Rattle.macsec_link_logs.specs.Logs.{logs_delivering}
-use Rattle.macsec_link_logs.specs.Places.{live_places, logs_of}
-use Rattle.macsec_link_logs.specs.Sound.{IsSoundEnd}
-use Rattle.macsec_link_logs.proofs.Heard.{heard, hears, shown_itself}
-use Rattle.macsec_link_logs.proofs.LiveTable.{live_places-delivered}
-use Rattle.macsec_link_logs.proofs.Logged.{sound_after}
+use Rattle.{
+  std.proofs.Common.{◌≡◌, ◌∙◌, ℕ, List, ap, arith, rules, subst, sym, Some, None},
+  macsec_secy.specs.{Sound.IsSound, Step.{link_frame, received, step}},
+  macsec_link_logs.{
+    proofs.{Heard.{heard, hears, shown_itself}, LiveTable.live_places-delivered, Logged.sound_after},
+    specs.{Logs.logs_delivering, Places.{live_places, logs_of}, Sound.IsSoundEnd, contracts.end.EndLogs.the_view},
+  },
+}
 use Rattle.macsec_link_logs.proofs.end.EndLogs.receive.Goals as goal
 
 pub unwrap-requires : goal.unwrap-requires

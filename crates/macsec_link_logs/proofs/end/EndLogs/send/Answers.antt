@@ -1,19 +1,22 @@
 -- Sending is one step of the machine, for each result: a protected frame, an unprotected one, a dropped one. The
 -- reserved capacity and buffer are large enough, by the laws of frame lengths.
-use Rattle.std.proofs.Common.{◌≡◌, ◌∙◌, ℕ, List, ap, arith, length, rules, subst, sym}
-use Rattle.std.specs.Prelude.{Some, None}
-use Rattle.macsec_secy.specs.Answers.{drop_output}
-use Rattle.macsec_secy.specs.Frames.{HasFrameLength, HasFrameLengths, HasLengthsFrom, HasProtectedLength}
-use Rattle.macsec_secy.specs.Sound.{IsSound}
-use Rattle.macsec_secy.specs.Step.{client_frame, leaves, step}
-use Rattle.macsec_link_logs.specs.contracts.end.EndLogs.{the_view}
-use Rattle.macsec_link_logs.specs.Kept.{sent_logs_of}
-use Rattle.macsec_link_logs.specs.Logs.{SentLogs, logs_sending}
-use Rattle.macsec_link_logs.specs.Places.{logs_of}
-use Rattle.macsec_link_logs.specs.Sound.{IsSoundEnd}
-use Rattle.macsec_link_logs.proofs.Logged.{sound_after}
-use Rattle.macsec_link_logs.proofs.SentLogs.{drops, leaves_plain, leaves_under, on_err}
-use Rattle.macsec_link_logs.proofs.SentPlaces.{sent_has_place}
+use Rattle.std.proofs.Common.{◌≡◌, ◌∙◌, ℕ, List, ap, arith, length, rules, subst, sym, Some, None}
+use Rattle.macsec_secy.specs.{
+  Answers.drop_output,
+  Frames.{HasFrameLength, HasFrameLengths, HasLengthsFrom, HasProtectedLength},
+  Sound.IsSound,
+  Step.{client_frame, leaves, step},
+}
+use Rattle.macsec_link_logs.{
+  proofs.{Logged.sound_after, SentLogs.{drops, leaves_plain, leaves_under, on_err}, SentPlaces.sent_has_place},
+  specs.{
+    Kept.sent_logs_of,
+    Logs.{SentLogs, logs_sending},
+    Places.logs_of,
+    Sound.IsSoundEnd,
+    contracts.end.EndLogs.the_view,
+  },
+}
 use Rattle.macsec_link_logs.proofs.end.EndLogs.send.Goals as goal
 
 pub returns-in_err-reserve_places-clause-unchanged : goal.returns-in_err-reserve_places-clause-unchanged

@@ -1,8 +1,8 @@
 -- The frame is added to the log. By a term, so that the prover refuses a mutant quickly.
-use Rattle.std.proofs.Common.{◌∙◌, ℕ, List, ap}
-use Rattle.std.proofs.lemmas.List.{map-append}
-use Rattle.macsec_link_logs.specs.Kept.{KeptSentLog, frames_kept}
-use Rattle.macsec_link_logs.specs.Logs.{SentLog, log_sending}
+use Rattle.{
+  std.proofs.{Common.{◌∙◌, ℕ, List, ap}, lemmas.List.map-append},
+  macsec_link_logs.specs.{Kept.{KeptSentLog, frames_kept}, Logs.{SentLog, log_sending}},
+}
 use Rattle.macsec_link_logs.proofs.sent.SentFrames.push.Goals as goal
 
 abbrev log_of : ℕ → List (List ℕ) → SentLog

@@ -1,9 +1,9 @@
 -- The frames sent under a key are those in its log, or none if it has no log.
-use Rattle.std.proofs.Common.{◌∙◌, ap, sym}
-use Rattle.std.specs.Prelude.{Some, None}
-use Rattle.macsec_link_logs.specs.Kept.{KeptSentLog, KeptSentLogs, sent_logs_of}
-use Rattle.macsec_link_logs.specs.Logs.{sent_under}
-use Rattle.macsec_link_logs.proofs.SentLogs.{found, sent_at, sent_nowhere}
+use Rattle.std.proofs.Common.{◌∙◌, ap, sym, Some, None}
+use Rattle.macsec_link_logs.{
+  proofs.SentLogs.{found, sent_at, sent_nowhere},
+  specs.{Kept.{KeptSentLog, KeptSentLogs, sent_logs_of}, Logs.sent_under},
+}
 use Rattle.macsec_link_logs.proofs.sent.SentLogs.frames.Goals as goal
 
 pub returns-in-Some : goal.returns-in-Some

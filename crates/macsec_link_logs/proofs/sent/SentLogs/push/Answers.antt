@@ -1,12 +1,11 @@
 -- A frame is added to the log of its key, or starts it. By the `requires`, capacity is reserved, so each `push`
 -- succeeds.
-use Rattle.std.proofs.Common.{◌∙◌, ap, arith, refl}
-use Rattle.std.specs.Prelude.{Some, None}
-use Rattle.macsec_link_logs.specs.contracts.sent.SentLogs.{the_view}
-use Rattle.macsec_link_logs.specs.Kept.{KeptSentLogs, sent_logs_of}
-use Rattle.macsec_link_logs.specs.Logs.{SentLog, logs_sending}
-use Rattle.macsec_link_logs.proofs.SentLogs.{AreOfKeys-push, AreOfKeys-set, found, pushed_at, pushed_nowhere}
-use Rattle.macsec_link_logs.proofs.SentPlaces.{place_anew, place_at}
+use Rattle.std.proofs.Common.{◌∙◌, ap, arith, refl, Some, None}
+use Rattle.macsec_link_logs.{
+  proofs.SentLogs.{AreOfKeys-push, AreOfKeys-set, found, pushed_at, pushed_nowhere},
+  proofs.SentPlaces.{place_anew, place_at},
+  specs.{Kept.{KeptSentLogs, sent_logs_of}, Logs.{SentLog, logs_sending}, contracts.sent.SentLogs.the_view},
+}
 use Rattle.macsec_link_logs.proofs.sent.SentLogs.push.Goals as goal
 
 pub push-requires : goal.push-requires

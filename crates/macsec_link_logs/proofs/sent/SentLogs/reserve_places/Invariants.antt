@@ -1,7 +1,8 @@
-use Rattle.std.proofs.Common.{◌≡◌, ℕ, ◌<◌, true}
-use Rattle.std.specs.Prelude.{IfSome}
-use Rattle.macsec_tx.specs.Transmit.{tx_row}
-use Rattle.macsec_link_logs.specs.Kept.{HasPlace, sent_logs_of}
+use Rattle.{
+  std.proofs.Common.{◌≡◌, ℕ, ◌<◌, true, IfSome},
+  macsec_tx.specs.Transmit.tx_row,
+  macsec_link_logs.specs.Kept.{HasPlace, sent_logs_of},
+}
 use Rattle.macsec_link_logs.proofs.sent.SentLogs.reserve_places.Given as goal
 
 -- no frame of a log changes, and there is capacity under the key of each enabled SA that the loop has visited

@@ -1,12 +1,13 @@
 -- Capacity for one more frame under a key: in its log, or in the next one. The logs stay the same, and no other key
 -- loses capacity.
-use Rattle.std.proofs.Common.{◌∙◌, ◌≤◌, List, ap, arith, subst, sym}
-use Rattle.std.specs.Prelude.{Some, None}
-use Rattle.macsec_link_logs.specs.contracts.sent.SentLogs.{the_view}
-use Rattle.macsec_link_logs.specs.Kept.{HasNone, HasPlace, KeptSentLog, KeptSentLogs, sent_logs_of, spare_under}
-use Rattle.macsec_link_logs.specs.Logs.{SentLog}
-use Rattle.macsec_link_logs.proofs.SentLogs.{AreOfKeys-set, found, on_ok, same_logs}
-use Rattle.macsec_link_logs.proofs.SentPlaces.{spare_made, spare_more, spare_nowhere, spare_stays}
+use Rattle.std.proofs.Common.{◌∙◌, ◌≤◌, List, ap, arith, subst, sym, Some, None}
+use Rattle.macsec_link_logs.{
+  proofs.SentLogs.{AreOfKeys-set, found, on_ok, same_logs},
+  proofs.SentPlaces.{spare_made, spare_more, spare_nowhere, spare_stays},
+  specs.Kept.{HasNone, HasPlace, KeptSentLog, KeptSentLogs, sent_logs_of, spare_under},
+  specs.Logs.SentLog,
+  specs.contracts.sent.SentLogs.the_view,
+}
 use Rattle.macsec_link_logs.proofs.sent.SentLogs.reserve_under.Goals as goal
 
 pub invariant_of-self : goal.invariant_of-self

@@ -1,7 +1,8 @@
-use Rattle.std.proofs.Common.{◌≡◌, ◌∙◌, ap, arith, length, refl}
-use Rattle.std.proofs.lemmas.List.{take_at}
-use Rattle.macsec_pcap.specs.Answers.{record_in, shown}
-use Rattle.macsec_pcap.proofs.Ahead.{steps_end, steps_ended, steps_failed, steps_fault, steps_record}
+use Rattle.std.proofs.Common.{◌≡◌, ◌∙◌, ap, arith, length, refl, take_at}
+use Rattle.macsec_pcap.{
+  proofs.Ahead.{steps_end, steps_ended, steps_failed, steps_fault, steps_record},
+  specs.Answers.{record_in, shown},
+}
 use Rattle.macsec_pcap.proofs.reader.PcapReader.next.Goals as goal
 
 pub returns-in-Ok-Some : goal.returns-in-Ok-Some

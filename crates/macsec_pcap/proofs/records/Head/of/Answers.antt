@@ -1,10 +1,8 @@
 -- One equation for each number. This proof is here for speed.
-use Rattle.std.proofs.Common.{◌≡◌, ◌∙◌, ◌-◌, ℕ, List, ap, drop, length, take}
-use Rattle.std.proofs.lemmas.List.{take_rest}
-use Rattle.macsec_pcap.specs.declared.form.Order.{Order}
-use Rattle.macsec_pcap.specs.declared.records.Head.{Head}
-use Rattle.macsec_pcap.specs.Answers.{head_of}
-use Rattle.macsec_pcap.specs.Numbers.{number}
+use Rattle.{
+  std.proofs.{Common.{◌≡◌, ◌∙◌, ◌-◌, ℕ, List, ap, drop, length, take}, lemmas.List.take_rest},
+  macsec_pcap.specs.{Answers.head_of, Numbers.number, declared.{form.Order.Order, records.Head.Head}},
+}
 use Rattle.macsec_pcap.proofs.records.Head.of.Goals as goal
 
 -- the number after the first n octets

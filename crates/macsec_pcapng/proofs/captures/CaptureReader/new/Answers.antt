@@ -1,6 +1,7 @@
-use Rattle.std.proofs.Common.{◌≡◌, ◌≤◌, ◌∙◌, Ok, Err, arith, sym, true, false}
-use Rattle.macsec_pcapng.specs.Blocks.{is_section}
-use Rattle.macsec_pcapng.proofs.Whole.{comes_again, opens_pcap, opens_pcapng}
+use Rattle.{
+  std.proofs.Common.{◌≡◌, ◌≤◌, ◌∙◌, Ok, Err, arith, sym, true, false},
+  macsec_pcapng.{proofs.Whole.{comes_again, opens_pcap, opens_pcapng}, specs.Blocks.is_section},
+}
 use Rattle.macsec_pcapng.proofs.captures.CaptureReader.new.Goals as goal
 
 pub returns-in-Ok-new-clause-opened : goal.returns-in-Ok-new-clause-opened

@@ -1,5 +1,4 @@
-use Rattle.std.proofs.Common.{arith}
-use Rattle.macsec_pcapng.proofs.OneTaken.{not_opened, opens}
+use Rattle.{std.proofs.Common.arith, macsec_pcapng.proofs.OneTaken.{not_opened, opens}}
 use Rattle.macsec_pcapng.proofs.reader.PcapngReader.new.Goals as goal
 
 pub returns-in-Err-clause-opened : goal.returns-in-Err-clause-opened

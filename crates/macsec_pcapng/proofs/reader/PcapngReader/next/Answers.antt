@@ -1,8 +1,11 @@
-use Rattle.std.proofs.Common.{◌≡◌, ◌≤◌, ◌+◌, ◌∙◌, ap, arith, length, refl}
-use Rattle.std.proofs.lemmas.List.{take_at}
-use Rattle.macsec_pcap.specs.Answers.{shown}
-use Rattle.macsec_pcapng.specs.Packets.{packet_record}
-use Rattle.macsec_pcapng.proofs.Ahead.{steps_end, steps_ended, steps_failed, steps_fault, steps_full, steps_record}
+use Rattle.{
+  std.proofs.Common.{◌≡◌, ◌≤◌, ◌+◌, ◌∙◌, ap, arith, length, refl, take_at},
+  macsec_pcap.specs.Answers.shown,
+  macsec_pcapng.{
+    proofs.Ahead.{steps_end, steps_ended, steps_failed, steps_fault, steps_full, steps_record},
+    specs.Packets.packet_record,
+  },
+}
 use Rattle.macsec_pcapng.proofs.reader.PcapngReader.next.Goals as goal
 
 pub returns-in-Ended : goal.returns-in-Ended

@@ -1,8 +1,5 @@
 -- By the equation itself: without these proofs the prover tries other tactics on a mutant, which takes longer.
-use Rattle.std.proofs.Common.{◌∙◌, ap, sym}
-use Rattle.std.specs.Prelude.{Ok}
-use Rattle.macsec_pcapng.specs.Section.{Section}
-use Rattle.macsec_pcapng.specs.Sections.{new_section}
+use Rattle.{std.proofs.Common.{◌∙◌, ap, sym, Ok}, macsec_pcapng.specs.{Section.Section, Sections.new_section}}
 use Rattle.macsec_pcapng.proofs.section.Section.begin.Goals as goal
 
 pub returns-in-Ok : goal.returns-in-Ok

@@ -1,7 +1,8 @@
 -- The kept octets of a body are as many as its type of block needs. These proofs are here for speed.
-use Rattle.std.proofs.Common.{◌≡◌, ◌≤◌, ◌+◌, ℕ, arith, rules}
-use Rattle.std.proofs.lemmas.Bool.Decides.{nat_tests}
-use Rattle.macsec_pcapng.specs.Blocks.{kept}
+use Rattle.{
+  std.proofs.{Common.{◌≡◌, ◌≤◌, ◌+◌, ℕ, arith, rules}, lemmas.Bool.Decides.nat_tests},
+  macsec_pcapng.specs.Blocks.kept,
+}
 use Rattle.macsec_pcapng.proofs.section.Section.take.Goals as goal
 
 at_least : (len n m : ℕ) → n ≡ kept len → m ≤ len → m ≤ 262164 → m ≤ n

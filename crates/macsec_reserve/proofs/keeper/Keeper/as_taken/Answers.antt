@@ -1,9 +1,8 @@
 -- A key to install: whether a retired key has its fingerprint.
-use Rattle.std.proofs.Common.{true, false, ap, ◌∙◌}
-use Rattle.macsec_reserve.specs.contracts.keeper.Keeper.{the_view}
-use Rattle.macsec_reserve.specs.Forgetting.{as_taken}
-use Rattle.macsec_reserve.specs.Keeping.{Keeping}
-use Rattle.macsec_reserve.proofs.ForgettingCalls.{taken_if}
+use Rattle.macsec_reserve.{
+  proofs.{Prelude.{◌∙◌, ap, as_taken, false, Keeping, true}, ForgettingCalls.taken_if},
+  specs.contracts.keeper.Keeper.the_view,
+}
 use Rattle.macsec_reserve.proofs.keeper.Keeper.as_taken.Goals as goal
 
 pub returns-then-has_retired_key : goal.returns-then-has_retired_key

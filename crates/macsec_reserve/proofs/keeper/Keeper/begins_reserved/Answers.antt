@@ -1,11 +1,10 @@
 -- The first packet number of an SA, by the name of its key.
-use Rattle.std.proofs.Common.{ap, sym, ◌∙◌}
-use Rattle.std.specs.Prelude.{◌&&◌, nat_lt, nat_le}
-use Rattle.macsec_reserve.specs.contracts.keeper.Keeper.{the_view}
-use Rattle.macsec_reserve.specs.Journal.{highest, receiving_name}
-use Rattle.macsec_reserve.specs.Keeping.{begins_at, was_reserved}
-use Rattle.macsec_reserve.specs.Names.{name_or_none, name_row}
-use Rattle.macsec_reserve.proofs.KeptNames.{found_name}
+use Rattle.macsec_reserve.{
+  proofs.Prelude.{◌&&◌, ◌∙◌, ap, begins_at, highest, name_or_none, name_row, nat_le, nat_lt, receiving_name, sym},
+  proofs.Prelude.was_reserved,
+  proofs.KeptNames.found_name,
+  specs.contracts.keeper.Keeper.the_view,
+}
 use Rattle.macsec_reserve.proofs.keeper.Keeper.begins_reserved.Goals as goal
 
 pub returns-in-TxSa : goal.returns-in-TxSa

@@ -1,16 +1,13 @@
 -- The first octets of the key's name, as many as its suite's keys have.
-use Rattle.std.proofs.Common.{take, ap, sym, ◌∙◌}
-use Rattle.std.specs.Prelude.{option_map}
-use Rattle.macsec_suite.specs.KeyRows.{key_row, prepared_key}
-use Rattle.macsec_suite.specs.declared.suite.Suite.{Suite}
-use Rattle.macsec_suite.specs.Suites.{key_length}
-use Rattle.macsec_secy.specs.State.{State}
-use Rattle.macsec_reserve.specs.contracts.keeper.Keeper.{the_view}
-use Rattle.macsec_reserve.specs.Forgetting.{fingerprint_of}
-use Rattle.macsec_reserve.specs.Keeping.{Keeping}
-use Rattle.macsec_reserve.specs.Names.{name_or_none, name_row}
-use Rattle.macsec_reserve.proofs.ForgettingCalls.{its_fingerprint}
-use Rattle.macsec_reserve.proofs.KeptNames.{found_name}
+use Rattle.macsec_reserve.{
+  proofs.{
+    Prelude.{◌∙◌, ap, fingerprint_of, Keeping, key_length, key_row, name_or_none, name_row, option_map, prepared_key},
+    Prelude.{State, Suite, sym, take},
+    ForgettingCalls.its_fingerprint,
+    KeptNames.found_name,
+  },
+  specs.contracts.keeper.Keeper.the_view,
+}
 use Rattle.macsec_reserve.proofs.keeper.Keeper.fingerprint_of.Goals as goal
 
 pub returns-in-Some-clause-octets : goal.returns-in-Some-clause-octets

@@ -1,8 +1,5 @@
 -- The endpoint in its block is the keeper's.
-use Rattle.std.proofs.Common.{ap, sym, subst, ◌∙◌}
-use Rattle.macsec_secy.specs.Jobs.{OpensFrame}
-use Rattle.macsec_secy.specs.State.{State}
-use Rattle.macsec_reserve.specs.Keeping.{Keeping}
+use Rattle.macsec_reserve.proofs.Prelude.{◌∙◌, ap, Keeping, OpensFrame, State, subst, sym}
 use Rattle.macsec_reserve.proofs.keeper.Keeper.finish_receive.Goals as goal
 
 pub finish_receive-requires-clause-opened : goal.finish_receive-requires-clause-opened

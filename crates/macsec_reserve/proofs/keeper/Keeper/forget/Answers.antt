@@ -1,17 +1,14 @@
 -- The key has other octets and another name, and every key has an entry.
-use Rattle.std.proofs.Common.{◌≡◌, ◌++◌, true, drop, length, map, ap, sym, ◌∙◌, arith}
-use Rattle.std.specs.Prelude.{if◌then◌else◌, vec_capacity}
-use Rattle.std.proofs.lemmas.List.{length-map, with_items_is}
-use Rattle.macsec_aes.specs.Keys.{key_bytes}
-use Rattle.macsec_suite.specs.Replacing.{can_replace}
-use Rattle.macsec_secy.specs.GivenUp.{replacing}
-use Rattle.macsec_secy.specs.State.{State}
-use Rattle.macsec_reserve.specs.contracts.keeper.Keeper.{the_view}
-use Rattle.macsec_reserve.specs.Forgetting.{can_forget, fingerprint_of, forgetting}
-use Rattle.macsec_reserve.specs.Keeping.{Keeping, for_each_key}
-use Rattle.macsec_reserve.specs.Names.{entry_of, named, renamed}
-use Rattle.macsec_reserve.proofs.ForgettingCalls.{is_forgetting, names_replaced, replaced_if}
-use Rattle.macsec_reserve.proofs.KeyEntries.{entries_of_names, names_fit}
+use Rattle.macsec_reserve.{
+  proofs.{
+    Prelude.{◌++◌, ◌∙◌, ◌≡◌, ap, arith, can_forget, can_replace, drop, entry_of, fingerprint_of, for_each_key},
+    Prelude.{forgetting, if◌then◌else◌, Keeping, key_bytes, length, length-map, map, named, renamed, replacing, State},
+    Prelude.{sym, true, vec_capacity, with_items_is},
+    ForgettingCalls.{is_forgetting, names_replaced, replaced_if},
+    KeyEntries.{entries_of_names, names_fit},
+  },
+  specs.contracts.keeper.Keeper.the_view,
+}
 use Rattle.macsec_reserve.proofs.keeper.Keeper.forget.Goals as goal
 
 pub add_entries-requires : goal.add_entries-requires

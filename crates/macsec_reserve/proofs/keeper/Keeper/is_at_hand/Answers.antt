@@ -1,14 +1,13 @@
 -- What is at hand is what the lists say.
-use Rattle.std.proofs.Common.{◌≡◌, true, ap, sym, subst, ◌∙◌}
-use Rattle.std.specs.Prelude.{Option, Some, option_map}
 use Rattle.macsec_tx.specs.declared.EnabledSa.{EnabledSa}
-use Rattle.macsec_tx.specs.Transmit.{row_on}
-use Rattle.macsec_secy.specs.Step.{client_frame}
-use Rattle.macsec_reserve.specs.contracts.keeper.Keeper.{the_view}
-use Rattle.macsec_reserve.specs.declared.keeper.AtHand.{AtHand}
-use Rattle.macsec_reserve.specs.Keeping.{Keeping, uses_reserved}
-use Rattle.macsec_reserve.specs.Names.{IsAtHand}
-use Rattle.macsec_reserve.proofs.AtHand.{at_hand_goes}
+use Rattle.macsec_reserve.{
+  proofs.{
+    Prelude.{◌∙◌, ◌≡◌, ap, AtHand, client_frame, IsAtHand, Keeping, Option, option_map, row_on, Some, subst, sym, true},
+    Prelude.uses_reserved,
+    AtHand.at_hand_goes,
+  },
+  specs.contracts.keeper.Keeper.the_view,
+}
 use Rattle.macsec_reserve.proofs.keeper.Keeper.is_at_hand.Goals as goal
 
 pub returns : goal.returns

@@ -1,4 +1,4 @@
-use Rattle.std.proofs.Common.{rules}
+use Rattle.macsec_reserve.proofs.Prelude.{rules}
 use Rattle.macsec_reserve.proofs.keeper.Keeper.is_below_floor.Goals as goal
 
 pub returns-then-self : goal.returns-then-self

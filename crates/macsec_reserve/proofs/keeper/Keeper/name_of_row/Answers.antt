@@ -1,11 +1,8 @@
 -- The name under which an SA's packet numbers are reserved, by the name of its key.
-use Rattle.std.proofs.Common.{ap, ◌∙◌}
-use Rattle.macsec_reserve.specs.contracts.keeper.Keeper.{the_view}
-use Rattle.macsec_reserve.specs.Journal.{receiving_name}
-use Rattle.macsec_reserve.specs.Keeping.{Keeping}
-use Rattle.macsec_reserve.specs.Names.{name_or_none, name_row}
-use Rattle.macsec_reserve.specs.Replay.{row_name}
-use Rattle.macsec_reserve.proofs.KeptNames.{found_name}
+use Rattle.macsec_reserve.{
+  proofs.{Prelude.{◌∙◌, ap, Keeping, name_or_none, name_row, receiving_name, row_name}, KeptNames.found_name},
+  specs.contracts.keeper.Keeper.the_view,
+}
 use Rattle.macsec_reserve.proofs.keeper.Keeper.name_of_row.Goals as goal
 
 pub returns : goal.returns

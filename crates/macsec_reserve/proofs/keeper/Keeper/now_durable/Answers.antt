@@ -1,12 +1,10 @@
 -- A report raises the entries; each key has one.
-use Rattle.std.proofs.Common.{◌≡◌, ◌++◌, drop, length, map, ap, ◌∙◌, arith}
-use Rattle.std.specs.Prelude.{vec_capacity}
-use Rattle.std.proofs.lemmas.List.{length-map, with_items_is}
-use Rattle.macsec_reserve.specs.contracts.keeper.Keeper.{the_view}
-use Rattle.macsec_reserve.specs.Entries.{raised_by}
-use Rattle.macsec_reserve.specs.Keeping.{Keeping, for_each_key}
-use Rattle.macsec_reserve.specs.Names.{entry_of}
-use Rattle.macsec_reserve.proofs.KeyEntries.{entries_of_names, names_fit}
+use Rattle.macsec_reserve.{
+  proofs.Prelude.{◌++◌, ◌∙◌, ◌≡◌, ap, arith, drop, entry_of, for_each_key, Keeping, length, length-map, map, raised_by},
+  proofs.Prelude.{vec_capacity, with_items_is},
+  proofs.KeyEntries.{entries_of_names, names_fit},
+  specs.contracts.keeper.Keeper.the_view,
+}
 use Rattle.macsec_reserve.proofs.keeper.Keeper.now_durable.Goals as goal
 
 pub add_entries-requires : goal.add_entries-requires

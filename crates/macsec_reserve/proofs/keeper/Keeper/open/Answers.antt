@@ -1,5 +1,5 @@
 -- The endpoint as it is opened with its journal.
-use Rattle.std.proofs.Common.{sym, ◌∙◌, rules}
+use Rattle.macsec_reserve.proofs.Prelude.{◌∙◌, rules, sym}
 use Rattle.macsec_reserve.proofs.keeper.Keeper.open.Goals as goal
 
 pub returns-clause-result : goal.returns-clause-result

@@ -1,10 +1,8 @@
 -- Planning leaves the names of the keys as they are.
-use Rattle.std.proofs.Common.{subst, sym}
-use Rattle.std.specs.Prelude.{vec_capacity}
-use Rattle.macsec_secy.specs.Sound.{IsSound}
-use Rattle.macsec_secy.specs.State.{State}
-use Rattle.macsec_reserve.specs.Names.{HasNames, IsKept}
-use Rattle.macsec_reserve.proofs.KeptNames.{names_after_sending}
+use Rattle.macsec_reserve.proofs.{
+  Prelude.{HasNames, IsKept, IsSound, State, subst, sym, vec_capacity},
+  KeptNames.names_after_sending,
+}
 use Rattle.macsec_reserve.proofs.keeper.Keeper.plan_send.Goals as goal
 
 pub invariant_of-self : goal.invariant_of-self

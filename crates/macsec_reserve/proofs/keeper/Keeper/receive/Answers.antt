@@ -1,11 +1,10 @@
 -- The endpoint in its block takes the step.
-use Rattle.std.proofs.Common.{refl, ap, sym, subst, ◌∙◌}
-use Rattle.macsec_secy.specs.Sound.{IsSound}
-use Rattle.macsec_secy.specs.State.{State}
-use Rattle.macsec_secy.specs.Step.{link_frame, step}
-use Rattle.macsec_reserve.specs.contracts.keeper.Keeper.{the_view}
-use Rattle.macsec_reserve.specs.Keeping.{Keeping, endpoint_input, endpoint_output, keeping_step}
-use Rattle.macsec_reserve.proofs.Steps.{received_step}
+use Rattle.macsec_reserve.{
+  proofs.Prelude.{◌∙◌, ap, endpoint_input, endpoint_output, IsSound, Keeping, keeping_step, link_frame, refl, State},
+  proofs.Prelude.{step, subst, sym},
+  proofs.Steps.received_step,
+  specs.contracts.keeper.Keeper.the_view,
+}
 use Rattle.macsec_reserve.proofs.keeper.Keeper.receive.Goals as goal
 
 pub returns : goal.returns

@@ -1,12 +1,8 @@
 -- The endpoint in its block is the keeper's.
-use Rattle.std.proofs.Common.{ap, sym, subst, ◌∙◌}
-use Rattle.std.specs.Prelude.{vec_capacity}
-use Rattle.macsec_secy.specs.Jobs.{OpensFrame}
-use Rattle.macsec_secy.specs.Sound.{IsSound}
-use Rattle.macsec_secy.specs.State.{State}
-use Rattle.macsec_reserve.specs.Keeping.{Keeping}
-use Rattle.macsec_reserve.specs.Names.{HasNames, IsKept}
-use Rattle.macsec_reserve.proofs.KeptNames.{names_after_limited}
+use Rattle.macsec_reserve.proofs.{
+  Prelude.{◌∙◌, ap, HasNames, IsKept, IsSound, Keeping, OpensFrame, State, subst, sym, vec_capacity},
+  KeptNames.names_after_limited,
+}
 use Rattle.macsec_reserve.proofs.keeper.Keeper.receive_into.Goals as goal
 
 pub receive_into-requires-clause-opened : goal.receive_into-requires-clause-opened

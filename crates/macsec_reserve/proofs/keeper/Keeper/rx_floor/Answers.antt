@@ -1,12 +1,9 @@
 -- The floor of an SA, by the name of its key.
-use Rattle.std.proofs.Common.{List, ℕ, ap, ◌∙◌}
-use Rattle.std.specs.Prelude.{Some, option_map}
-use Rattle.macsec_reserve.specs.declared.keeper.NamedKey.{NamedKey}
-use Rattle.macsec_reserve.specs.contracts.keeper.Keeper.{the_view}
-use Rattle.macsec_reserve.specs.Journal.{highest, receiving_name}
-use Rattle.macsec_reserve.specs.Keeping.{Keeping, rx_floor}
-use Rattle.macsec_reserve.specs.Names.{name_row}
-use Rattle.macsec_reserve.proofs.KeptNames.{found_floor}
+use Rattle.macsec_reserve.{
+  proofs.Prelude.{◌∙◌, ap, highest, Keeping, List, name_row, NamedKey, option_map, receiving_name, Some, ℕ},
+  proofs.KeptNames.found_floor,
+  specs.{Keeping.rx_floor, contracts.keeper.Keeper.the_view},
+}
 use Rattle.macsec_reserve.proofs.keeper.Keeper.rx_floor.Goals as goal
 
 pub returns-in-None : goal.returns-in-None

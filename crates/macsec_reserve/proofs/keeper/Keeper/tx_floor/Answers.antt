@@ -1,12 +1,8 @@
 -- The floor of a key, by its name.
-use Rattle.std.proofs.Common.{ℕ, ap, ◌∙◌}
-use Rattle.std.specs.Prelude.{Some, option_map}
-use Rattle.macsec_reserve.specs.declared.keeper.NamedKey.{NamedKey}
-use Rattle.macsec_reserve.specs.contracts.keeper.Keeper.{the_view}
-use Rattle.macsec_reserve.specs.Journal.{highest}
-use Rattle.macsec_reserve.specs.Keeping.{Keeping, tx_floor}
-use Rattle.macsec_reserve.specs.Names.{name_row}
-use Rattle.macsec_reserve.proofs.KeptNames.{found_floor}
+use Rattle.macsec_reserve.{
+  proofs.{Prelude.{◌∙◌, ap, highest, Keeping, name_row, NamedKey, option_map, Some, ℕ}, KeptNames.found_floor},
+  specs.{Keeping.tx_floor, contracts.keeper.Keeper.the_view},
+}
 use Rattle.macsec_reserve.proofs.keeper.Keeper.tx_floor.Goals as goal
 
 pub returns-in-None : goal.returns-in-None

@@ -1,15 +1,13 @@
 -- If an SA would protect the frame, its number is tested, by the name of its key.
-use Rattle.std.proofs.Common.{◌∙◌, ap}
-use Rattle.std.specs.Prelude.{◌&&◌, nat_lt, nat_le}
-use Rattle.macsec_secy.specs.State.{State}
-use Rattle.macsec_secy.specs.Laws.{number_used}
-use Rattle.macsec_secy.specs.Step.{client_frame}
-use Rattle.macsec_reserve.specs.contracts.keeper.Keeper.{the_view}
-use Rattle.macsec_reserve.specs.Journal.{highest}
-use Rattle.macsec_reserve.specs.Keeping.{uses_reserved}
-use Rattle.macsec_reserve.specs.Names.{name_or_none, name_row}
-use Rattle.macsec_reserve.proofs.KeptNames.{found_name}
-use Rattle.macsec_reserve.proofs.Sending.{one_used}
+use Rattle.macsec_reserve.{
+  proofs.{
+    Prelude.{◌&&◌, ◌∙◌, ap, client_frame, highest, name_or_none, name_row, nat_le, nat_lt, number_used, State},
+    Prelude.uses_reserved,
+    KeptNames.found_name,
+    Sending.one_used,
+  },
+  specs.contracts.keeper.Keeper.the_view,
+}
 use Rattle.macsec_reserve.proofs.keeper.Keeper.uses_reserved.Goals as goal
 
 pub returns-in-Some : goal.returns-in-Some

@@ -1,5 +1,4 @@
-use Rattle.std.proofs.Common.{ap, ◌∙◌}
-use Rattle.macsec_reserve.specs.Journal.{reserved_in}
+use Rattle.macsec_reserve.proofs.Prelude.{◌∙◌, ap, reserved_in}
 use Rattle.macsec_reserve.proofs.reservation.Reservation.from_octets.Goals as goal
 
 pub returns : goal.returns

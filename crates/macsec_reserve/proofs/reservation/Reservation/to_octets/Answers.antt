@@ -1,7 +1,7 @@
-use Rattle.std.proofs.Common.{◌≡◌, length, refl, ap, ◌∙◌, arith}
-use Rattle.std.specs.Prelude.{◌++◌, replicate}
-use Rattle.macsec_reserve.specs.Journal.{check_of}
-use Rattle.macsec_reserve.proofs.WrittenRecords.{over_end}
+use Rattle.macsec_reserve.proofs.{
+  Prelude.{◌++◌, ◌∙◌, ◌≡◌, ap, arith, check_of, length, refl, replicate},
+  WrittenRecords.over_end,
+}
 use Rattle.macsec_reserve.proofs.reservation.Reservation.to_octets.Goals as goal
 
 pub returns : goal.returns

@@ -1,13 +1,11 @@
 -- The SA at the index accepts the packet number as defined. Proved from the lemma on changing a row at an index in
 -- `RowIndex`.
-use Rattle.std.proofs.Common.{◌≡◌, ◌∙◌, ap, refl, arith}
-use Rattle.std.specs.Prelude.{IsSomeAnd}
-use Rattle.macsec_pn.specs.Numbers.{accept}
-use Rattle.macsec_rx.specs.Channels.{with_numbers}
-use Rattle.macsec_rx.specs.Judge.{row_accepting}
-use Rattle.macsec_rx.specs.Rows.{AreRxRows}
-use Rattle.macsec_rx.proofs.RowIndex.{IsRxRow-at, is_at-own, with_rx-set}
-use Rattle.macsec_rx.proofs.RxRows.{IsRxRow-accepting}
+use Rattle.{
+  std.proofs.Common.{◌≡◌, ◌∙◌, ap, refl, arith, IsSomeAnd},
+  macsec_pn.specs.Numbers.accept,
+  macsec_rx.proofs.{RowIndex.{IsRxRow-at, is_at-own, with_rx-set}, RxRows.IsRxRow-accepting},
+  macsec_rx.specs.{Channels.with_numbers, Judge.row_accepting, Rows.AreRxRows},
+}
 use Rattle.macsec_rx.proofs.channels.RxChannels.accept.Goals as goal
 
 changed : (c : goal.After-with_numbers) → c.with_numbers.result ≡ row_accepting c.args.window c.args.number c.args.row.now

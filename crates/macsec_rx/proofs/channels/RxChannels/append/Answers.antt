@@ -1,14 +1,10 @@
 -- There is space for an SA with a free number, and adding it keeps the invariant and the index. Proved from `has_room`
 -- (`Room`), `AreRxRows-append` (`RxRows`) and `IsIndex-push` (`RowIndex`).
-use Rattle.std.proofs.Common.{◌≡◌, ◌∷◌, [], ◌++◌, length, sym, subst, lit<, arith}
-use Rattle.std.specs.Prelude.{None}
-use Rattle.std.proofs.Math.ListN.{set}
-use Rattle.macsec_rx.specs.Channels.{rx_row}
-use Rattle.macsec_rx.specs.Index.{IsIndex, channel_place, slot}
-use Rattle.macsec_rx.specs.Rows.{IsRxRow}
-use Rattle.macsec_rx.proofs.Room.{has_room}
-use Rattle.macsec_rx.proofs.RowIndex.{IsIndex-push}
-use Rattle.macsec_rx.proofs.RxRows.{AreRxRows-append}
+use Rattle.std.proofs.{Common.{◌≡◌, ◌∷◌, [], ◌++◌, length, sym, subst, lit<, arith, None}, Math.ListN.set}
+use Rattle.macsec_rx.{
+  proofs.{Room.has_room, RowIndex.IsIndex-push, RxRows.AreRxRows-append},
+  specs.{Channels.rx_row, Index.{IsIndex, channel_place, slot}, Rows.IsRxRow},
+}
 use Rattle.macsec_rx.proofs.channels.RxChannels.append.Goals as goal
 
 pub push-requires : goal.push-requires

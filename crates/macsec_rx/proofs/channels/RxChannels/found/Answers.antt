@@ -1,12 +1,12 @@
 -- The index finds the SA if there is one, and an SCI without an SC has no SA. Proved from the lemmas in `RowIndex`.
-use Rattle.std.proofs.Common.{◌≡◌, ◌∙◌, ap, sym, arith, true, false, refl}
-use Rattle.std.specs.Prelude.{None, Some, slice_get}
-use Rattle.std.proofs.lemmas.Option.{slice_get_read, slice_get_past}
-use Rattle.macsec_rx.specs.Channels.{rx_row}
-use Rattle.macsec_rx.specs.Commands.{has_channel}
-use Rattle.macsec_rx.specs.Index.{channel_place}
-use Rattle.macsec_rx.proofs.Pieces.{slice_get-channel_place}
-use Rattle.macsec_rx.proofs.RowIndex.{is_found, place_found, rx_row-indexed, rx_row-no_channel}
+use Rattle.std.proofs.{
+  Common.{◌≡◌, ◌∙◌, ap, sym, arith, true, false, refl, None, Some, slice_get},
+  lemmas.Option.{slice_get_read, slice_get_past},
+}
+use Rattle.macsec_rx.{
+  proofs.{Pieces.slice_get-channel_place, RowIndex.{is_found, place_found, rx_row-indexed, rx_row-no_channel}},
+  specs.{Channels.rx_row, Commands.has_channel, Index.channel_place},
+}
 use Rattle.macsec_rx.proofs.channels.RxChannels.found.Goals as goal
 
 pub returns-in_err-channel-clause-row : goal.returns-in_err-channel-clause-row

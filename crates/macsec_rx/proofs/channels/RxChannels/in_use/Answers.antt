@@ -1,8 +1,8 @@
 -- The SA for a frame is the one of its SCI and number, if that is enabled. Proved from the lemmas in `RowIndex`.
-use Rattle.std.proofs.Common.{◌≡◌, ◌∙◌, sym}
-use Rattle.std.specs.Prelude.{Some}
-use Rattle.macsec_rx.specs.Judge.{sci_of}
-use Rattle.macsec_rx.proofs.RowIndex.{in_use-none, in_use-off, in_use-on}
+use Rattle.{
+  std.proofs.Common.{◌≡◌, ◌∙◌, sym, Some},
+  macsec_rx.{proofs.RowIndex.{in_use-none, in_use-off, in_use-on}, specs.Judge.sci_of},
+}
 use Rattle.macsec_rx.proofs.channels.RxChannels.in_use.Goals as goal
 
 pub returns-in_err-found-clause-row : goal.returns-in_err-found-clause-row

@@ -1,14 +1,16 @@
 -- The key of the SA that is enabled for the frame is in the table, because the key of every SA is (`RxRows`). A verdict
 -- with an SA has the one that was found (`Pieces`), and its limits are those at the SA's index (`Limited`).
-use Rattle.std.proofs.Common.{◌≡◌, sym, subst, ap, ◌∙◌}
-use Rattle.std.specs.Prelude.{IfSome, IsSome}
-use Rattle.macsec_suite.specs.KeyRows.{key_row}
-use Rattle.macsec_rx.specs.Judge.{accepted_number, judge_tagged, judge_tagged_row}
-use Rattle.macsec_rx.specs.Within.{outside}
-use Rattle.macsec_rx.proofs.Limited.{outside_is}
-use Rattle.macsec_rx.proofs.Pieces.{channel_found}
-use Rattle.macsec_rx.proofs.RxRows.{IfSome-in_use}
-use Rattle.macsec_rx.proofs.channels.RxChannels.judge_within.Goals.{After-outside_found}
+use Rattle.{
+  std.proofs.Common.{◌≡◌, sym, subst, ap, ◌∙◌, IfSome, IsSome},
+  macsec_suite.specs.KeyRows.key_row,
+  macsec_rx.proofs.{
+    Limited.outside_is,
+    Pieces.channel_found,
+    RxRows.IfSome-in_use,
+    channels.RxChannels.judge_within.Goals.After-outside_found,
+  },
+  macsec_rx.specs.{Judge.{accepted_number, judge_tagged, judge_tagged_row}, Within.outside},
+}
 use Rattle.macsec_rx.proofs.channels.RxChannels.judge_within.Goals as goal
 
 pub judge_tagged_row-outcome-requires-clause-key_there :

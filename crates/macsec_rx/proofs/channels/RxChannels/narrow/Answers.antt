@@ -1,10 +1,9 @@
 -- Narrowing every SA keeps the invariant and the index. Proved from the lemmas in `RxRows` and `RowIndex`.
 use Rattle.std.proofs.Common.{◌≡◌, length, ap, ◌∙◌, refl, subst, map}
-use Rattle.macsec_rx.specs.Commands.{row_narrowed}
-use Rattle.macsec_rx.specs.Index.{IsIndex}
-use Rattle.macsec_rx.specs.Rows.{AreRxRows}
-use Rattle.macsec_rx.proofs.RowIndex.{IsIndex-map}
-use Rattle.macsec_rx.proofs.RxRows.{AreRxRows-narrowed, refill-same_length}
+use Rattle.macsec_rx.{
+  proofs.{RowIndex.IsIndex-map, RxRows.{AreRxRows-narrowed, refill-same_length}},
+  specs.{Commands.row_narrowed, Index.IsIndex, Rows.AreRxRows},
+}
 use Rattle.macsec_rx.proofs.channels.RxChannels.narrow.Goals as goal
 
 pub invariant_of-self : goal.invariant_of-self

@@ -1,11 +1,8 @@
 -- Changing one SA at its index keeps the invariant and the index. Proved from `ArePut-set` of `RowIndex`.
-use Rattle.std.proofs.Common.{◌≡◌, subst, sym}
-use Rattle.std.specs.Prelude.{IsSomeAnd, slice_get}
-use Rattle.std.proofs.Math.ListN.{set}
-use Rattle.std.proofs.lemmas.List.{length-set}
-use Rattle.macsec_rx.specs.Rows.{IsRxRow}
-use Rattle.macsec_rx.proofs.RowIndex.{ArePut-set}
-use Rattle.macsec_rx.proofs.RxRows.{refill-same_length}
+use Rattle.{
+  std.proofs.{Common.{◌≡◌, subst, sym, IsSomeAnd, slice_get, length-set}, Math.ListN.set},
+  macsec_rx.{proofs.{RowIndex.ArePut-set, RxRows.refill-same_length}, specs.Rows.IsRxRow},
+}
 use Rattle.macsec_rx.proofs.channels.RxChannels.put.Goals as goal
 
 pub invariant_of-self : goal.invariant_of-self

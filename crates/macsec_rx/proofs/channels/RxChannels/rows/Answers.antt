@@ -1,8 +1,8 @@
 -- The SAs of an SC have different association numbers, so there are at most four for each SC.
-use Rattle.std.proofs.Common.{◌≤◌, length, subst, arith}
-use Rattle.macsec_rx.specs.Channels.{Channels}
-use Rattle.macsec_rx.specs.Limits.{max_row_count}
-use Rattle.macsec_rx.proofs.Room.{rows_fit}
+use Rattle.{
+  std.proofs.Common.{◌≤◌, length, subst, arith},
+  macsec_rx.{proofs.Room.rows_fit, specs.{Channels.Channels, Limits.max_row_count}},
+}
 use Rattle.macsec_rx.proofs.channels.RxChannels.rows.Goals as goal
 
 pub returns-clause-count : goal.returns-clause-count

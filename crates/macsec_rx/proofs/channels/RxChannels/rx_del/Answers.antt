@@ -1,12 +1,10 @@
 -- The other SAs are left, the invariant is kept, and the index is rebuilt. Proved from the contract of `retain`, which
 -- is a filter, and the lemma on deletion in `RxRows`.
-use Rattle.std.proofs.Common.{◌≡◌, ap, rules}
-use Rattle.std.specs.Prelude.{filter, not}
-use Rattle.arrayvec.proofs.ArrayVecLemmas.{filter-from_retain}
-use Rattle.macsec_rx.specs.Channels.{is_at}
-use Rattle.macsec_rx.specs.Commands.{without_rx}
-use Rattle.macsec_rx.specs.Index.{IsIndex}
-use Rattle.macsec_rx.proofs.RxRows.{AreRxRows-filter}
+use Rattle.{
+  std.proofs.Common.{◌≡◌, ap, rules, filter, not},
+  arrayvec.proofs.ArrayVecLemmas.filter-from_retain,
+  macsec_rx.{proofs.RxRows.AreRxRows-filter, specs.{Channels.is_at, Commands.without_rx, Index.IsIndex}},
+}
 use Rattle.macsec_rx.proofs.channels.RxChannels.rx_del.Goals as goal
 
 pub index_of-self-inside-requires-clause-rows : goal.index_of-self-inside-requires-clause-rows

@@ -1,13 +1,14 @@
 -- The key of the SA is in the table, and raising the SA at the index that was found is the defined change. Proved from
 -- the lemmas on finding an SA and on changing a row at an index (`RxRows`, `RowIndex`).
-use Rattle.std.proofs.Common.{◌≡◌, ◌∙◌, ap, refl, arith, rules}
-use Rattle.std.specs.Prelude.{IsSome}
-use Rattle.macsec_suite.specs.KeyRows.{key_row}
-use Rattle.macsec_pn.specs.Numbers.{raise}
-use Rattle.macsec_rx.specs.Channels.{with_numbers}
-use Rattle.macsec_rx.specs.Commands.{row_raised}
-use Rattle.macsec_rx.proofs.RowIndex.{IsRxRow-at, is_found, with_rx-set}
-use Rattle.macsec_rx.proofs.RxRows.{IsRxRow-raised, found_if_there, holds_of_row}
+use Rattle.{
+  std.proofs.Common.{◌≡◌, ◌∙◌, ap, refl, arith, rules, IsSome},
+  macsec_pn.specs.Numbers.raise,
+  macsec_suite.specs.KeyRows.key_row,
+  macsec_rx.{
+    proofs.{RowIndex.{IsRxRow-at, is_found, with_rx-set}, RxRows.{IsRxRow-raised, found_if_there, holds_of_row}},
+    specs.{Channels.with_numbers, Commands.row_raised},
+  },
+}
 use Rattle.macsec_rx.proofs.channels.RxChannels.rx_low.Goals as goal
 
 pub unwrap-requires : goal.unwrap-requires

@@ -1,9 +1,10 @@
 -- Enabling the SA at the index that was found is the defined change. Proved from the lemma on changing a row at an
 -- index in `RowIndex`.
 use Rattle.std.proofs.Common.{refl, true}
-use Rattle.macsec_rx.specs.Commands.{row_switched}
-use Rattle.macsec_rx.proofs.RowIndex.{IsRxRow-at, is_found, with_rx-set}
-use Rattle.macsec_rx.proofs.RxRows.{IsRxRow-switched}
+use Rattle.macsec_rx.{
+  proofs.{RowIndex.{IsRxRow-at, is_found, with_rx-set}, RxRows.IsRxRow-switched},
+  specs.Commands.row_switched,
+}
 use Rattle.macsec_rx.proofs.channels.RxChannels.rx_on.Goals as goal
 
 pub put-requires-clause-there : goal.put-requires-clause-there

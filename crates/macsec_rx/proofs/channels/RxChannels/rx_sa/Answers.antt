@@ -1,7 +1,8 @@
 -- An SA with a free number of an SC can be added. Proved from the contracts of the look-ups and by search.
-use Rattle.std.proofs.Common.{◌≡◌, sym, ◌∙◌, arith, rules, true}
-use Rattle.macsec_rx.specs.Commands.{has_channel}
-use Rattle.macsec_rx.proofs.RxRows.{none_from_is_some}
+use Rattle.{
+  std.proofs.Common.{◌≡◌, sym, ◌∙◌, arith, rules, true},
+  macsec_rx.{proofs.RxRows.none_from_is_some, specs.Commands.has_channel},
+}
 use Rattle.macsec_rx.proofs.channels.RxChannels.rx_sa.Goals as goal
 
 pub append-requires-clause-free : goal.append-requires-clause-free

@@ -1,11 +1,15 @@
 -- Adding an SC with a free SCI keeps the invariant and the index. Proved from the lemmas on adding an SC (`Scis`,
 -- `RxRows`, `RowIndex`).
 use Rattle.std.proofs.Common.{◌≡◌, ◌∙◌, ◌<◌, ◌≤◌, ap, sym, false, length, arith, rules, tests}
-use Rattle.macsec_rx.specs.Commands.{has_channel}
-use Rattle.macsec_rx.proofs.Room.{rows_fit}
-use Rattle.macsec_rx.proofs.RowIndex.{IsIndex-more_channels}
-use Rattle.macsec_rx.proofs.RxRows.{AreRxRows-more_channels}
-use Rattle.macsec_rx.proofs.Scis.{joined_scis, still_channel}
+use Rattle.macsec_rx.{
+  proofs.{
+    Room.rows_fit,
+    RowIndex.IsIndex-more_channels,
+    RxRows.AreRxRows-more_channels,
+    Scis.{joined_scis, still_channel},
+  },
+  specs.Commands.has_channel,
+}
 use Rattle.macsec_rx.proofs.channels.RxChannels.rx_sc.Goals as goal
 
 pub invariant_of-self : goal.invariant_of-self

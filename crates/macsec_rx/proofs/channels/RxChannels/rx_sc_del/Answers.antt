@@ -1,14 +1,12 @@
 -- The other SCs and their SAs are left, the invariant is kept, and the index is rebuilt. Proved from the contracts of
 -- `retain`, which is a filter, and the lemmas on deletion (`Scis`, `RxRows`).
-use Rattle.std.proofs.Common.{◌≡◌, ◌≤◌, ap, rules, arith, length}
-use Rattle.std.specs.Prelude.{filter, not}
-use Rattle.arrayvec.proofs.ArrayVecLemmas.{filter-from_retain}
-use Rattle.std.proofs.lemmas.List.Sums.{count_by-le-length, length-filter}
-use Rattle.macsec_rx.specs.Channels.{same_sci}
-use Rattle.macsec_rx.specs.Commands.{without_channel}
-use Rattle.macsec_rx.specs.Index.{IsIndex}
-use Rattle.macsec_rx.proofs.RxRows.{AreRxRows-filter}
-use Rattle.macsec_rx.proofs.Scis.{kept_scis, other_channel}
+use Rattle.{
+  std.proofs.Common.{◌≡◌, ◌≤◌, ap, rules, arith, length, filter, not},
+  std.proofs.lemmas.List.Sums.{count_by-le-length, length-filter},
+  arrayvec.proofs.ArrayVecLemmas.filter-from_retain,
+  macsec_rx.proofs.{RxRows.AreRxRows-filter, Scis.{kept_scis, other_channel}},
+  macsec_rx.specs.{Channels.same_sci, Commands.without_channel, Index.IsIndex},
+}
 use Rattle.macsec_rx.proofs.channels.RxChannels.rx_sc_del.Goals as goal
 
 pub index_of-self-inside-requires-clause-rows : goal.index_of-self-inside-requires-clause-rows

@@ -1,8 +1,9 @@
 -- If SCB or ES is set, the SCI has the source address, which is the second half of the addresses. Proved from a lemma
 -- on the second of two lists of six octets.
-use Rattle.std.proofs.Common.{◌≡◌, ◌++◌, ◌-◌, ℕ, List, length, take, drop, ap, sym, ◌∙◌, arith, rules}
-use Rattle.std.proofs.lemmas.List.{append-nil}
-use Rattle.std.proofs.Math.Seq.{take-append_seam, drop-append_seam}
+use Rattle.std.proofs.{
+  Common.{◌≡◌, ◌++◌, ◌-◌, ℕ, List, length, take, drop, ap, sym, ◌∙◌, arith, rules, append-nil},
+  Math.Seq.{take-append_seam, drop-append_seam},
+}
 use Rattle.macsec_rx.specs.Judge.{port_of}
 use Rattle.macsec_rx.proofs.channels.RxChannels.sci_of.Goals as goal
 

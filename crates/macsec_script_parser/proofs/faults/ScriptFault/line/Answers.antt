@@ -1,6 +1,5 @@
 -- By the definition, one case for each fault.
-use Rattle.std.proofs.Common.{ap, sym}
-use Rattle.macsec_script_parser.specs.Faults.{fault_line}
+use Rattle.{std.proofs.Common.{ap, sym}, macsec_script_parser.specs.Faults.fault_line}
 use Rattle.macsec_script_parser.proofs.faults.ScriptFault.line.Goals as goal
 
 pub returns-in-Word : goal.returns-in-Word

@@ -1,9 +1,8 @@
 -- The words are read from left to right, as the table says for this kind.
-use Rattle.std.proofs.Common.{sym, ap, ◌∙◌}
-use Rattle.std.specs.Prelude.{Err}
-use Rattle.std.proofs.lemmas.Result.{err_from_is_err_and}
-use Rattle.macsec_script_parser.specs.Kinds.{end_line}
-use Rattle.macsec_script_parser.proofs.WordsInOrder.{of_five_words, taken, failed}
+use Rattle.{
+  std.proofs.{Common.{sym, ap, ◌∙◌, Err}, lemmas.Result.err_from_is_err_and},
+  macsec_script_parser.{proofs.WordsInOrder.{of_five_words, taken, failed}, specs.Kinds.end_line},
+}
 use Rattle.macsec_script_parser.proofs.lines.ends.configured_end.Goals as goal
 
 pub returns-in_err-at : goal.returns-in_err-at

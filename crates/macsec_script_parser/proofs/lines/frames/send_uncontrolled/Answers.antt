@@ -1,11 +1,10 @@
 -- The line has the frame of its word, or the fault of the word.
-use Rattle.std.proofs.Common.{sym, ap, ◌∙◌, refl}
-use Rattle.std.specs.Prelude.{codes, Ok, Err}
-use Rattle.std.proofs.lemmas.Result.{err_from_is_err_and}
+use Rattle.std.proofs.{Common.{sym, ap, ◌∙◌, refl, codes, Ok, Err}, lemmas.Result.err_from_is_err_and}
+use Rattle.macsec_script_parser.{
+  proofs.WordsInOrder.{at_one_word, reads_fault, taken},
+  specs.{Kinds.{does, kinds_at, read_line}, Readings.Reads},
+}
 use Rattle.macsec_commands.specs.declared.event.Event.TheVariants as event
-use Rattle.macsec_script_parser.specs.Kinds.{does, kinds_at, read_line}
-use Rattle.macsec_script_parser.specs.Readings.{Reads}
-use Rattle.macsec_script_parser.proofs.WordsInOrder.{at_one_word, reads_fault, taken}
 use Rattle.macsec_script_parser.proofs.lines.frames.send_uncontrolled.Goals as goal
 
 pub returns-in_err-frame : goal.returns-in_err-frame

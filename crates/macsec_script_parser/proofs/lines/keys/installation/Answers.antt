@@ -1,8 +1,8 @@
 -- The three words, the suite, and the SSCI with the salt, in this order.
-use Rattle.std.proofs.Common.{sym, ap, ◌∙◌, refl}
-use Rattle.std.specs.Prelude.{Err}
-use Rattle.std.proofs.lemmas.Result.{err_from_is_err_and}
-use Rattle.macsec_script_parser.proofs.WordsInOrder.{taken, failed}
+use Rattle.{
+  std.proofs.{Common.{sym, ap, ◌∙◌, refl, Err}, lemmas.Result.err_from_is_err_and},
+  macsec_script_parser.proofs.WordsInOrder.{taken, failed},
+}
 use Rattle.macsec_script_parser.proofs.lines.keys.installation.Goals as goal
 
 pub returns-in_err-number : goal.returns-in_err-number

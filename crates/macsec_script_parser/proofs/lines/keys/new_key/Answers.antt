@@ -1,9 +1,10 @@
 -- One case for each count of words. Each kind of key is read from the first three words and the words after them.
-use Rattle.std.proofs.Common.{◌≡◌, ◌∙◌}
-use Rattle.std.specs.Prelude.{codes}
-use Rattle.macsec_script_parser.specs.Kinds.{kinds_at, read_line}
-use Rattle.macsec_script_parser.proofs.WordsInOrder.{at_three_words, at_four_words, at_five_words, at_six_words}
-use Rattle.macsec_script_parser.proofs.KeyParts.{key_of-suite, key_of-ssci, key_of-both}
+use Rattle.std.proofs.Common.{◌≡◌, ◌∙◌, codes}
+use Rattle.macsec_script_parser.{
+  proofs.KeyParts.{key_of-suite, key_of-ssci, key_of-both},
+  proofs.WordsInOrder.{at_three_words, at_four_words, at_five_words, at_six_words},
+  specs.Kinds.{kinds_at, read_line},
+}
 use Rattle.macsec_script_parser.proofs.lines.keys.new_key.Goals as goal
 
 pub returns-in-len3 : goal.returns-in-len3

@@ -1,8 +1,8 @@
 -- The suite that was read, or its fault.
-use Rattle.std.proofs.Common.{sym, ap, ◌∙◌}
-use Rattle.std.specs.Prelude.{Some, Err}
-use Rattle.std.proofs.lemmas.Result.{err_from_is_err_and}
-use Rattle.macsec_script_parser.specs.Fields.{map_ok}
+use Rattle.{
+  std.proofs.{Common.{sym, ap, ◌∙◌, Some, Err}, lemmas.Result.err_from_is_err_and},
+  macsec_script_parser.specs.Fields.map_ok,
+}
 use Rattle.macsec_script_parser.proofs.lines.keys.some_suite.Goals as goal
 
 pub returns-in_err-suite : goal.returns-in_err-suite

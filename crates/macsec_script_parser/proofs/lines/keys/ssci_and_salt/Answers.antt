@@ -1,9 +1,8 @@
 -- The SSCI, and then the salt.
-use Rattle.std.proofs.Common.{ℕ, List, sym, ap, ◌∙◌}
-use Rattle.std.specs.Prelude.{Err}
-use Rattle.std.proofs.lemmas.Result.{err_from_is_err_and}
-use Rattle.macsec_script_parser.specs.Fields.{map_ok}
-use Rattle.macsec_script_parser.proofs.WordsInOrder.{taken, failed}
+use Rattle.{
+  std.proofs.{Common.{ℕ, List, sym, ap, ◌∙◌, Err}, lemmas.Result.err_from_is_err_and},
+  macsec_script_parser.{proofs.WordsInOrder.{taken, failed}, specs.Fields.map_ok},
+}
 use Rattle.macsec_script_parser.proofs.lines.keys.ssci_and_salt.Goals as goal
 
 pub returns-in_err-ssci : goal.returns-in_err-ssci

@@ -1,8 +1,8 @@
 -- For each keyword, the line is the one that its kind in the table makes. Any other keyword is not in this group.
-use Rattle.std.proofs.Common.{◌≡◌, map, sym, ◌∙◌}
-use Rattle.std.specs.Prelude.{codes}
-use Rattle.macsec_script_parser.specs.Kinds.{kinds_at, read_line}
-use Rattle.macsec_script_parser.proofs.Keywords.{at_word}
+use Rattle.{
+  std.proofs.Common.{◌≡◌, map, sym, ◌∙◌, codes},
+  macsec_script_parser.{proofs.Keywords.at_word, specs.Kinds.{kinds_at, read_line}},
+}
 use Rattle.macsec_script_parser.proofs.lines.options.option_line.Goals as goal
 
 pub returns-then-is_word-clause-some : goal.returns-then-is_word-clause-some

@@ -1,9 +1,8 @@
 -- The words are read from left to right, as the table says for this kind.
-use Rattle.std.proofs.Common.{arith, sym, ap, ◌∙◌, refl}
-use Rattle.std.specs.Prelude.{Err}
-use Rattle.std.proofs.lemmas.Grind.{common_steps}
-use Rattle.std.proofs.lemmas.Result.{err_from_is_err_and}
-use Rattle.macsec_script_parser.proofs.WordsInOrder.{of_two_words, taken, failed}
+use Rattle.{
+  std.proofs.{Common.{arith, sym, ap, ◌∙◌, refl, Err}, lemmas.{Grind.common_steps, Result.err_from_is_err_and}},
+  macsec_script_parser.proofs.WordsInOrder.{of_two_words, taken, failed},
+}
 use Rattle.macsec_script_parser.proofs.lines.options.replay.Goals as goal
 
 pub returns-in_err-protect : goal.returns-in_err-protect

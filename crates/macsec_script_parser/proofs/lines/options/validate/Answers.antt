@@ -1,8 +1,8 @@
 -- The word is read as the table says for this kind.
-use Rattle.std.proofs.Common.{sym, ap, ◌∙◌, refl}
-use Rattle.std.specs.Prelude.{Err}
-use Rattle.std.proofs.lemmas.Result.{err_from_is_err_and}
-use Rattle.macsec_script_parser.proofs.WordsInOrder.{of_one_word, taken, failed}
+use Rattle.{
+  std.proofs.{Common.{sym, ap, ◌∙◌, refl, Err}, lemmas.Result.err_from_is_err_and},
+  macsec_script_parser.proofs.WordsInOrder.{of_one_word, taken, failed},
+}
 use Rattle.macsec_script_parser.proofs.lines.options.validate.Goals as goal
 
 pub returns-in_err-validation : goal.returns-in_err-validation

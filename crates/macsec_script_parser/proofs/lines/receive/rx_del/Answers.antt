@@ -1,8 +1,8 @@
 -- The words are read from left to right, as the table says for this kind.
-use Rattle.std.proofs.Common.{sym, ap, ◌∙◌, refl}
-use Rattle.std.specs.Prelude.{Err}
-use Rattle.std.proofs.lemmas.Result.{err_from_is_err_and}
-use Rattle.macsec_script_parser.proofs.WordsInOrder.{of_two_words, taken, failed}
+use Rattle.{
+  std.proofs.{Common.{sym, ap, ◌∙◌, refl, Err}, lemmas.Result.err_from_is_err_and},
+  macsec_script_parser.proofs.WordsInOrder.{of_two_words, taken, failed},
+}
 use Rattle.macsec_script_parser.proofs.lines.receive.rx_del.Goals as goal
 
 pub returns-in_err-sci : goal.returns-in_err-sci

@@ -1,8 +1,8 @@
 -- One case for each count of words. Each kind of receive SA is read from the first four words and the SSCI.
-use Rattle.std.proofs.Common.{◌≡◌}
-use Rattle.std.specs.Prelude.{codes}
-use Rattle.macsec_script_parser.specs.Kinds.{kinds_at, read_line}
-use Rattle.macsec_script_parser.proofs.WordsInOrder.{at_four_words, at_five_words}
+use Rattle.{
+  std.proofs.Common.{◌≡◌, codes},
+  macsec_script_parser.{proofs.WordsInOrder.{at_four_words, at_five_words}, specs.Kinds.{kinds_at, read_line}},
+}
 use Rattle.macsec_script_parser.proofs.lines.receive.rx_sa.Goals as goal
 
 pub returns-in-len4 : goal.returns-in-len4

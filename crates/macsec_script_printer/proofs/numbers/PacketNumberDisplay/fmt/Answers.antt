@@ -1,6 +1,5 @@
 -- By whether the number is below 2^64: 16 digits, or the digits of the upper half and then 16 of the lower half.
-use Rattle.std.proofs.Common.{◌≡◌, ◌≤◌, ◌^◌, ◌%◌, arith}
-use Rattle.macsec_script_printer.proofs.HexNumbers.{sixteen, halves}
+use Rattle.{std.proofs.Common.{◌≡◌, ◌≤◌, ◌^◌, ◌%◌, arith}, macsec_script_printer.proofs.HexNumbers.{sixteen, halves}}
 use Rattle.macsec_script_printer.proofs.numbers.PacketNumberDisplay.fmt.Goals as goal
 
 pub returns-then-high-eq0-clause-writes : goal.returns-then-high-eq0-clause-writes

@@ -1,5 +1,5 @@
 -- By search; written down so that a wrong body is refused quickly.
-use Rattle.std.proofs.Common.{rules}
+use Rattle.macsec_secy.proofs.Names.{rules}
 use Rattle.macsec_secy.proofs.counters.ChannelCounters.remove.Goals as goal
 
 pub returns-then-eq : goal.returns-then-eq

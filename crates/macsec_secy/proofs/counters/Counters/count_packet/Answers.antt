@@ -1,4 +1,4 @@
-use Rattle.std.proofs.Common.{rules}
+use Rattle.macsec_secy.proofs.Names.{rules}
 use Rattle.macsec_secy.proofs.counters.Counters.count_packet.Goals as goal
 
 pub returns-in-BadTag : goal.returns-in-BadTag

@@ -1,17 +1,21 @@
 -- There is space for the new key, and it gets its entry in the index. The rows are the old ones and its own. Proved
 -- from the lemmas in `KeyLemmas` and `KeyIndex` on appending a key with a new number.
-use Rattle.std.proofs.Common.{◌≡◌, ◌+◌, ◌<◌, ◌∷◌, [], ◌++◌, map, length, refl, subst, sym, ap, ◌∙◌, arith, rules}
-use Rattle.std.specs.Prelude.{None}
-use Rattle.std.proofs.Math.ListN.{set}
-use Rattle.std.proofs.lemmas.List.{map-append, length-map}
-use Rattle.std.proofs.lemmas.Slice.{pushed}
-use Rattle.macsec_suite.specs.declared.key_table.StoredKey.{StoredKey}
-use Rattle.macsec_suite.proofs.KeyLemmas.{has_room, AreStoredKeys, AreStoredKeys-push}
-use Rattle.macsec_suite.proofs.KeyIndex.{IsIndex-push}
-use Rattle.macsec_suite.specs.KeyNumbers.{max_key_count}
-use Rattle.macsec_suite.specs.KeyRows.{IsKeyRow, key_row}
-use Rattle.macsec_suite.specs.KeyTables.{IsIndex, extended_count, stored_row}
-use Rattle.macsec_suite.proofs.KeyCount.{extended_count-le, extended_count-push}
+use Rattle.std.proofs.{
+  Common.{◌≡◌, ◌+◌, ◌<◌, ◌∷◌, [], ◌++◌, map, length, refl, subst, sym, ap, ◌∙◌, arith, rules, None},
+  Math.ListN.set,
+  lemmas.{List.{map-append, length-map}, Slice.pushed},
+}
+use Rattle.macsec_suite.proofs.{
+  KeyCount.{extended_count-le, extended_count-push},
+  KeyIndex.IsIndex-push,
+  KeyLemmas.{has_room, AreStoredKeys, AreStoredKeys-push},
+}
+use Rattle.macsec_suite.specs.{
+  KeyNumbers.max_key_count,
+  KeyRows.{IsKeyRow, key_row},
+  KeyTables.{IsIndex, extended_count, stored_row},
+  declared.key_table.StoredKey.StoredKey,
+}
 use Rattle.macsec_suite.proofs.key_table.KeyTable.append.Goals as goal
 
 pub overflow_cast-len : goal.overflow_cast-len

@@ -1,13 +1,11 @@
-use Rattle.std.proofs.Common.{◌∙◌, sym, ap, take, Bool, ◌||◌}
-use Rattle.std.specs.List.{list_any}
-use Rattle.std.proofs.lemmas.List.Folds.{list_any_more}
-use Rattle.std.proofs.lemmas.List.{take_all}
-use Rattle.macsec_aes.specs.Keys.{key_bytes}
-use Rattle.macsec_gcm.specs.Octets.{same_octets}
-use Rattle.macsec_suite.specs.declared.key_table.StoredKey.{StoredKey}
-use Rattle.macsec_suite.specs.KeyTables.{stored_row}
-use Rattle.macsec_suite.specs.Refusals.{is_repeated}
-use Rattle.macsec_suite.proofs.KeyLemmas.{is_repeated-map}
+use Rattle.{
+  std.proofs.{Common.{◌∙◌, sym, ap, take, Bool, ◌||◌, take_all}, lemmas.List.Folds.list_any_more},
+  std.specs.List.list_any,
+  macsec_aes.specs.Keys.key_bytes,
+  macsec_gcm.specs.Octets.same_octets,
+  macsec_suite.proofs.KeyLemmas.is_repeated-map,
+  macsec_suite.specs.{KeyTables.stored_row, Refusals.is_repeated, declared.key_table.StoredKey.StoredKey},
+}
 use Rattle.macsec_suite.proofs.key_table.KeyTable.has_bytes.Goals as goal
 
 pub rows-preserved : goal.rows-preserved

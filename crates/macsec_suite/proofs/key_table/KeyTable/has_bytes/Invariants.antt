@@ -1,8 +1,9 @@
-use Rattle.std.proofs.Common.{◌≡◌, take}
-use Rattle.std.specs.List.{list_any}
-use Rattle.macsec_aes.specs.Keys.{key_bytes}
-use Rattle.macsec_gcm.specs.Octets.{same_octets}
-use Rattle.macsec_suite.specs.KeyTables.{stored_row}
+use Rattle.{
+  std.{proofs.Common.{◌≡◌, take}, specs.List.list_any},
+  macsec_aes.specs.Keys.key_bytes,
+  macsec_gcm.specs.Octets.same_octets,
+  macsec_suite.specs.KeyTables.stored_row,
+}
 use Rattle.macsec_suite.proofs.key_table.KeyTable.has_bytes.Given as goal
 
 abbrev pub invariant-rows : goal.invariant-rows

@@ -1,10 +1,8 @@
 -- There is such a key if and only if the count is not 0.
-use Rattle.std.proofs.Common.{ap, map, sym, ◌∙◌}
-use Rattle.std.specs.Prelude.{◌==◌, not}
-use Rattle.std.specs.List.{list_any}
-use Rattle.macsec_suite.specs.KeyRows.{is_extended}
-use Rattle.macsec_suite.specs.KeyTables.{stored_row}
-use Rattle.macsec_suite.proofs.KeyCount.{list_any-count}
+use Rattle.{
+  std.{proofs.Common.{ap, map, sym, ◌∙◌, ◌==◌, not}, specs.List.list_any},
+  macsec_suite.{proofs.KeyCount.list_any-count, specs.{KeyRows.is_extended, KeyTables.stored_row}},
+}
 use Rattle.macsec_suite.proofs.key_table.KeyTable.has_extended.Goals as goal
 
 pub returns : goal.returns

@@ -1,12 +1,12 @@
-use Rattle.std.proofs.Common.{◌∙◌, sym, ap, take, Bool, ◌||◌}
-use Rattle.std.specs.List.{list_any}
-use Rattle.std.proofs.lemmas.List.Folds.{list_any_more}
-use Rattle.std.proofs.lemmas.List.{take_all}
-use Rattle.macsec_aes.specs.Keys.{key_bytes}
-use Rattle.macsec_suite.specs.declared.key_table.StoredKey.{StoredKey}
-use Rattle.macsec_suite.specs.KeyTables.{stored_row}
-use Rattle.macsec_suite.specs.Refusals.{has_retired, is_retired_with}
-use Rattle.macsec_suite.proofs.KeyLemmas.{has_retired-map}
+use Rattle.{
+  std.proofs.{Common.{◌∙◌, sym, ap, take, Bool, ◌||◌, take_all}, lemmas.List.Folds.list_any_more},
+  std.specs.List.list_any,
+  macsec_aes.specs.Keys.key_bytes,
+  macsec_suite.{
+    proofs.KeyLemmas.has_retired-map,
+    specs.{KeyTables.stored_row, Refusals.{has_retired, is_retired_with}, declared.key_table.StoredKey.StoredKey},
+  },
+}
 use Rattle.macsec_suite.proofs.key_table.KeyTable.has_retired.Goals as goal
 
 pub rows-preserved : goal.rows-preserved

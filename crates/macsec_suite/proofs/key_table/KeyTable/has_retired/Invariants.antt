@@ -1,8 +1,8 @@
-use Rattle.std.proofs.Common.{◌≡◌, take}
-use Rattle.std.specs.List.{list_any}
-use Rattle.macsec_aes.specs.Keys.{key_bytes}
-use Rattle.macsec_suite.specs.KeyTables.{stored_row}
-use Rattle.macsec_suite.specs.Refusals.{is_retired_with}
+use Rattle.{
+  std.{proofs.Common.{◌≡◌, take}, specs.List.list_any},
+  macsec_aes.specs.Keys.key_bytes,
+  macsec_suite.specs.{KeyTables.stored_row, Refusals.is_retired_with},
+}
 use Rattle.macsec_suite.proofs.key_table.KeyTable.has_retired.Given as goal
 
 abbrev pub invariant-rows : goal.invariant-rows

@@ -1,8 +1,6 @@
 -- If nothing refuses a key, its number is free. The refusal and the effect are as defined. Proved by search; written
 -- out for speed, and so that a wrong body is refused quickly.
-use Rattle.std.proofs.Common.{◌≡◌, rules}
-use Rattle.macsec_suite.specs.KeyRows.{suite_of}
-use Rattle.macsec_suite.specs.Refusals.{is_too_wide}
+use Rattle.{std.proofs.Common.{◌≡◌, rules}, macsec_suite.specs.{KeyRows.suite_of, Refusals.is_too_wide}}
 use Rattle.macsec_suite.proofs.key_table.KeyTable.install.Goals as goal
 
 pub append-requires-clause-free : goal.append-requires-clause-free

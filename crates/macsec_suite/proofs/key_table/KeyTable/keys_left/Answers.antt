@@ -1,8 +1,8 @@
 -- A table has at most 4,096 keys, since their numbers differ.
-use Rattle.std.proofs.Common.{arith, ap, length}
-use Rattle.std.proofs.lemmas.List.{length-map}
-use Rattle.macsec_suite.proofs.KeyLemmas.{at_most}
-use Rattle.macsec_suite.specs.KeyTables.{stored_row}
+use Rattle.{
+  std.proofs.{Common.{arith, ap, length}, lemmas.List.length-map},
+  macsec_suite.{proofs.KeyLemmas.at_most, specs.KeyTables.stored_row},
+}
 use Rattle.macsec_suite.proofs.key_table.KeyTable.keys_left.Goals as goal
 
 pub overflow_cast-result : goal.overflow_cast-result

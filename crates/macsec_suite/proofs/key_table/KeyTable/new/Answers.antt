@@ -1,5 +1,4 @@
-use Rattle.std.proofs.Common.{refl, rules, arith}
-use Rattle.macsec_suite.proofs.KeyIndex.{IsIndex-none}
+use Rattle.{std.proofs.Common.{refl, rules, arith}, macsec_suite.proofs.KeyIndex.IsIndex-none}
 use Rattle.macsec_suite.proofs.key_table.KeyTable.new.Goals as goal
 
 pub invariant_of-result : goal.invariant_of-result

@@ -1,12 +1,12 @@
 -- The one row of the key's number records the packet number, and the table's invariant is kept. Proved from
 -- `IsChanged-set` of `KeyIndex`.
-use Rattle.std.proofs.Common.{◌≡◌, ◌+◌, ◌<◌, length, map, refl, ap, ◌∙◌, arith}
-use Rattle.std.proofs.Math.ListN.{set}
-use Rattle.macsec_suite.specs.declared.key_table.StoredKey.{StoredKey}
-use Rattle.macsec_suite.specs.KeyRows.{key_row, keys_noting, row_noting}
-use Rattle.macsec_suite.specs.KeyTables.{extended_count, stored_row}
-use Rattle.macsec_suite.proofs.KeyCount.{extended_count-same, extended_count-set}
-use Rattle.macsec_suite.proofs.KeyIndex.{IsChanged, IsChanged-set, place_within}
+use Rattle.std.proofs.{Common.{◌≡◌, ◌+◌, ◌<◌, length, map, refl, ap, ◌∙◌, arith}, Math.ListN.set}
+use Rattle.macsec_suite.{
+  proofs.{KeyCount.{extended_count-same, extended_count-set}, KeyIndex.{IsChanged, IsChanged-set, place_within}},
+  specs.KeyRows.{key_row, keys_noting, row_noting},
+  specs.KeyTables.{extended_count, stored_row},
+  specs.declared.key_table.StoredKey.StoredKey,
+}
 use Rattle.macsec_suite.proofs.key_table.KeyTable.note_used.Goals as goal
 
 is_changed : (c : goal.After-self-1) → IsChanged (row_noting c.args.pn) c.args.place.now.number c.self.inside.places.items c.self.inside.rows.items

@@ -1,10 +1,12 @@
-use Rattle.std.proofs.Common.{◌≡◌, ◌∙◌, List, map, ap, sym, subst, arith, rules}
-use Rattle.std.specs.List.{All}
-use Rattle.std.specs.Vec.{with_items}
-use Rattle.std.proofs.lemmas.List.{with_items_is}
-use Rattle.macsec_suite.specs.KeyRows.{AreKeyRows}
-use Rattle.macsec_suite.specs.KeyTables.{HasOwnKey, IsIndex, extended_count, stored_row}
-use Rattle.macsec_suite.specs.declared.key_table.StoredKey.{StoredKey}
+use Rattle.std.{
+  proofs.{Common.{◌≡◌, ◌∙◌, List, map, ap, sym, subst, arith, rules}, lemmas.List.with_items_is},
+  specs.{List.All, Vec.with_items},
+}
+use Rattle.macsec_suite.specs.{
+  KeyRows.AreKeyRows,
+  KeyTables.{HasOwnKey, IsIndex, extended_count, stored_row},
+  declared.key_table.StoredKey.StoredKey,
+}
 use Rattle.macsec_suite.proofs.key_table.KeyTable.prefer_wide.Goals as goal
 
 pub invariant_of-self : goal.invariant_of-self

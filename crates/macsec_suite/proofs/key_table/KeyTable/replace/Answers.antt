@@ -1,18 +1,23 @@
 -- The octets of the one row of the key's number are replaced, and the table's invariant is kept. Proved from
 -- `IsChanged-set` of `KeyIndex`.
-use Rattle.std.proofs.Common.{◌≡◌, ℕ, ◌<◌, Bool, true, false, List, length, map, refl, ap, sym, ◌∙◌, arith, eqb, eqb-true, ◌&&◌}
-use Rattle.std.specs.Prelude.{Option, Some, IsSome, not}
-use Rattle.std.proofs.Math.ListN.{set}
-use Rattle.std.proofs.lemmas.Bool.{and_parts}
+use Rattle.std.proofs.{
+  Common.{◌≡◌, ℕ, ◌<◌, Bool, true, false, List, length, map, refl, ap, sym, ◌∙◌, arith, eqb, eqb-true, ◌&&◌, Option},
+  Common.{Some, IsSome, not},
+  Math.ListN.set,
+  lemmas.Bool.and_parts,
+}
 use Rattle.macsec_aes.specs.Keys.{key_bytes}
-use Rattle.macsec_suite.specs.declared.key_row.KeyRow.{KeyRow}
-use Rattle.macsec_suite.specs.KeyRows.{InstalledKey, is_extended, key_row, keys_replacing, the_key, with_bytes}
-use Rattle.macsec_suite.specs.KeyTables.{extended_count, row_shown, stored_row}
-use Rattle.macsec_suite.specs.Refusals.{holds_of, is_repeated}
-use Rattle.macsec_suite.specs.Replacing.{can_have, can_replace}
-use Rattle.macsec_suite.specs.Suites.{key_length}
-use Rattle.macsec_suite.proofs.KeyCount.{extended_count-same, extended_count-set}
-use Rattle.macsec_suite.proofs.KeyIndex.{IsChanged, IsChanged-set, place_within}
+use Rattle.macsec_suite.{
+  proofs.{KeyCount.{extended_count-same, extended_count-set}, KeyIndex.{IsChanged, IsChanged-set, place_within}},
+  specs.{
+    KeyRows.{InstalledKey, is_extended, key_row, keys_replacing, the_key, with_bytes},
+    KeyTables.{extended_count, row_shown, stored_row},
+    Refusals.{holds_of, is_repeated},
+    Replacing.{can_have, can_replace},
+    Suites.key_length,
+    declared.key_row.KeyRow.KeyRow,
+  },
+}
 use Rattle.macsec_suite.proofs.key_table.KeyTable.replace.Goals as goal
 
 -- the row that was found has a suite whose keys have this length

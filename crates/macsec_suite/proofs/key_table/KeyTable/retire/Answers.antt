@@ -1,13 +1,10 @@
 -- The one row of the key's number is retired, and the table's invariant is kept. Proved from `IsChanged-set` of
 -- `KeyIndex`.
-use Rattle.std.proofs.Common.{◌<◌, length, map, true, refl, ap, arith, ◌∙◌}
-use Rattle.std.specs.Prelude.{IsSome}
-use Rattle.std.proofs.Math.ListN.{set}
-use Rattle.macsec_suite.specs.declared.key_table.StoredKey.{StoredKey}
-use Rattle.macsec_suite.specs.KeyRows.{key_row, keys_retiring, retired_row}
-use Rattle.macsec_suite.specs.KeyTables.{stored_row}
-use Rattle.macsec_suite.proofs.KeyCount.{extended_count-retiring}
-use Rattle.macsec_suite.proofs.KeyIndex.{IsChanged, IsChanged-set, place_within}
+use Rattle.std.proofs.{Common.{◌<◌, length, map, true, refl, ap, arith, ◌∙◌, IsSome}, Math.ListN.set}
+use Rattle.macsec_suite.{
+  proofs.{KeyCount.extended_count-retiring, KeyIndex.{IsChanged, IsChanged-set, place_within}},
+  specs.{KeyRows.{key_row, keys_retiring, retired_row}, KeyTables.stored_row, declared.key_table.StoredKey.StoredKey},
+}
 use Rattle.macsec_suite.proofs.key_table.KeyTable.retire.Goals as goal
 
 -- a stored key, retired

@@ -1,6 +1,5 @@
 -- The row has the new octets and is otherwise the same, and the key is prepared from them.
-use Rattle.std.proofs.Common.{refl, ap}
-use Rattle.macsec_suite.specs.Keys.{PreparedKey}
+use Rattle.{std.proofs.Common.{refl, ap}, macsec_suite.specs.Keys.PreparedKey}
 use Rattle.macsec_suite.proofs.key_table.StoredKey.replace.Goals as goal
 
 pub returns-clause-row : goal.returns-clause-row

@@ -1,11 +1,9 @@
 -- The first enabled row is at the loop's index, and is the one with its association number.
-use Rattle.std.proofs.Common.{◌≡◌, List, length, refl, sym, subst, ◌∙◌}
-use Rattle.std.specs.Prelude.{Some, slice_get}
-use Rattle.std.proofs.lemmas.Option.{slice_get_read}
-use Rattle.macsec_tx.specs.declared.TxRow.{TxRow}
-use Rattle.macsec_tx.specs.Transmit.{row_on}
-use Rattle.macsec_tx.specs.Rows.{AreTxRows, IsEnabled}
-use Rattle.macsec_tx.proofs.TxRows.{row_on-drop, row_on_is_there}
+use Rattle.std.proofs.{Common.{◌≡◌, List, length, refl, sym, subst, ◌∙◌, Some, slice_get}, lemmas.Option.slice_get_read}
+use Rattle.macsec_tx.{
+  proofs.TxRows.{row_on-drop, row_on_is_there},
+  specs.{Rows.{AreTxRows, IsEnabled}, Transmit.row_on, declared.TxRow.TxRow},
+}
 use Rattle.macsec_tx.proofs.channel.TxChannel.enabled.Goals as goal
 
 pub returns-then-row : goal.returns-then-row

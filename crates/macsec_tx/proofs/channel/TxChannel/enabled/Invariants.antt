@@ -1,5 +1,4 @@
-use Rattle.std.proofs.Common.{◌≡◌, drop}
-use Rattle.macsec_tx.specs.Transmit.{row_on}
+use Rattle.{std.proofs.Common.{◌≡◌, drop}, macsec_tx.specs.Transmit.row_on}
 use Rattle.macsec_tx.proofs.channel.TxChannel.enabled.Given as goal
 
 -- no SA before the index is enabled

@@ -1,9 +1,9 @@
 -- The plan is made over the keys as they were; noting the packet number keeps the prepared keys and their places.
-use Rattle.std.proofs.Common.{rules, sym, subst, List, ℕ}
-use Rattle.macsec_suite.specs.KeyRows.{InstalledKey}
-use Rattle.macsec_tx.specs.Transmit.{Leaving, sending}
-use Rattle.macsec_tx.specs.Answers.{PlansLeaving}
-use Rattle.macsec_tx.proofs.Plans.{plans_after}
+use Rattle.{
+  std.proofs.Common.{rules, sym, subst, List, ℕ},
+  macsec_suite.specs.KeyRows.InstalledKey,
+  macsec_tx.{proofs.Plans.plans_after, specs.{Answers.PlansLeaving, Transmit.{Leaving, sending}}},
+}
 use Rattle.macsec_tx.proofs.channel.TxChannel.plan_frame.Goals as goal
 
 pub returns-in-Job-clause-leaving : goal.returns-in-Job-clause-leaving

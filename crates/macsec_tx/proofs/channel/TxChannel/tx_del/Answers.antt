@@ -1,9 +1,10 @@
 -- The SAs of other numbers are left, and the invariant is kept. Proved from the contract of `retain`, which is a
 -- filter, and the lemma on deletion in `ChangedRows`.
-use Rattle.std.proofs.Common.{◌≡◌, ◌∙◌, ap, rules}
-use Rattle.arrayvec.proofs.ArrayVecLemmas.{filter-from_retain}
-use Rattle.macsec_tx.specs.Commands.{without_tx}
-use Rattle.macsec_tx.proofs.ChangedRows.{AreTxRows-filter}
+use Rattle.{
+  std.proofs.Common.{◌≡◌, ◌∙◌, ap, rules},
+  arrayvec.proofs.ArrayVecLemmas.filter-from_retain,
+  macsec_tx.{proofs.ChangedRows.AreTxRows-filter, specs.Commands.without_tx},
+}
 use Rattle.macsec_tx.proofs.channel.TxChannel.tx_del.Goals as goal
 
 rows_left : (c : goal.After-retain) → c.retain.new.self.items ≡ without_tx c.self.inside.rows.items c.args.an

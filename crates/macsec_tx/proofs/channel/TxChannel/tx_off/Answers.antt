@@ -1,7 +1,8 @@
 -- Disabling one SA keeps the invariant of the rows, by the lemma on changes that keep numbers (`ChangedRows`).
-use Rattle.std.proofs.Common.{length, ap, ◌∙◌}
-use Rattle.macsec_tx.specs.Commands.{off_at}
-use Rattle.macsec_tx.proofs.ChangedRows.{AreTxRows-map, AreTxRows-refill, IsTxRow-off_at, an-off_at}
+use Rattle.{
+  std.proofs.Common.{length, ap, ◌∙◌},
+  macsec_tx.{proofs.ChangedRows.{AreTxRows-map, AreTxRows-refill, IsTxRow-off_at, an-off_at}, specs.Commands.off_at},
+}
 use Rattle.macsec_tx.proofs.channel.TxChannel.tx_off.Goals as goal
 
 pub invariant_of-self : goal.invariant_of-self

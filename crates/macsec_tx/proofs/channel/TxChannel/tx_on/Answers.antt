@@ -1,8 +1,9 @@
 -- Enabling one SA and disabling the others keeps the invariant of the rows, by the lemma on changes that keep numbers
 -- (`ChangedRows`).
-use Rattle.std.proofs.Common.{refl, length, ap, ◌∙◌, rules}
-use Rattle.macsec_tx.specs.Commands.{switch_to}
-use Rattle.macsec_tx.proofs.ChangedRows.{AreTxRows-map, AreTxRows-refill, IsTxRow-switch_to}
+use Rattle.{
+  std.proofs.Common.{refl, length, ap, ◌∙◌, rules},
+  macsec_tx.{proofs.ChangedRows.{AreTxRows-map, AreTxRows-refill, IsTxRow-switch_to}, specs.Commands.switch_to},
+}
 use Rattle.macsec_tx.proofs.channel.TxChannel.tx_on.Goals as goal
 
 pub invariant_of-self : goal.invariant_of-self

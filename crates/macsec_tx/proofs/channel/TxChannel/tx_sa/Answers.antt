@@ -1,9 +1,9 @@
 -- There is space for an SA with a free number, and adding it keeps the invariant. Proved from the lemmas on a new SA in
 -- `TxRows`; the call of `an.number()` shows that the number is below 4.
-use Rattle.std.proofs.Common.{◌≡◌, ◌<◌, sym, ◌∙◌, ap, lit<, arith, rules}
-use Rattle.std.specs.Prelude.{None}
-use Rattle.macsec_tx.specs.Transmit.{tx_row}
-use Rattle.macsec_tx.proofs.TxRows.{AreTxRows-append, has_room, none_from_is_some}
+use Rattle.{
+  std.proofs.Common.{◌≡◌, ◌<◌, sym, ◌∙◌, ap, lit<, arith, rules, None},
+  macsec_tx.{proofs.TxRows.{AreTxRows-append, has_room, none_from_is_some}, specs.Transmit.tx_row},
+}
 use Rattle.macsec_tx.proofs.channel.TxChannel.tx_sa.Goals as goal
 
 pub push-requires : goal.push-requires

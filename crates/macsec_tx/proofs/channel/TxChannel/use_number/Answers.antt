@@ -1,13 +1,13 @@
 -- Using a packet number changes the one row of the enabled SA, and keeps the invariant of the rows, since a number is
 -- left. Proved from the lemmas on that change in `ChangedRows`.
-use Rattle.std.proofs.Common.{◌≡◌, ◌<◌, List, map, length, drop, ap, sym, subst, ◌∙◌}
-use Rattle.std.specs.Prelude.{IfSome, Some, ◌^◌, slice_get}
-use Rattle.std.proofs.lemmas.List.{take_at}
-use Rattle.std.proofs.lemmas.Option.{slice_get_within}
-use Rattle.macsec_tx.specs.declared.TxRow.{TxRow}
-use Rattle.macsec_tx.specs.Rows.{AreTxRows}
-use Rattle.macsec_tx.specs.Transmit.{used_at}
-use Rattle.macsec_tx.proofs.ChangedRows.{AreTxRows-refill, AreTxRows-used_at, tx_row-at, used_at-set}
+use Rattle.std.proofs.{
+  Common.{◌≡◌, ◌<◌, List, map, length, drop, ap, sym, subst, ◌∙◌, IfSome, Some, ◌^◌, slice_get, take_at},
+  lemmas.Option.slice_get_within,
+}
+use Rattle.macsec_tx.{
+  proofs.ChangedRows.{AreTxRows-refill, AreTxRows-used_at, tx_row-at, used_at-set},
+  specs.{Rows.AreTxRows, Transmit.used_at, declared.TxRow.TxRow},
+}
 use Rattle.macsec_tx.proofs.channel.TxChannel.use_number.Goals as goal
 
 pub set_row-requires : goal.set_row-requires

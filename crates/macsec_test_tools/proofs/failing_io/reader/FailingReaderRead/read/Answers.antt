@@ -1,6 +1,5 @@
 -- What is read is a prefix of the rest. These proofs are here for speed.
-use Rattle.std.proofs.Common.{arith}
-use Rattle.std.proofs.lemmas.Grind.{common_steps}
+use Rattle.std.proofs.{Common.arith, lemmas.Grind.common_steps}
 use Rattle.macsec_test_tools.proofs.failing_io.reader.FailingReaderRead.read.Goals as goal
 
 pub returns-clause-bound : goal.returns-clause-bound

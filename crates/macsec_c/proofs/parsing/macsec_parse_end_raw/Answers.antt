@@ -1,0 +1,5 @@
+-- By the contract of `parse_end`, for speed: without this proof the prover tries all tactics on a mutant.
+use Rattle.macsec_c.proofs.parsing.macsec_parse_end_raw.Goals as goal
+
+pub returns : goal.returns
+returns c = c.parse_end.ensures

@@ -1,0 +1,5 @@
+use Rattle.macsec_c_calls.proofs.Parsed.{parsed_commands}
+use Rattle.macsec_c_calls.proofs.laws.parsed_lines_are_commanded.Goals as goal
+
+pub returns : goal.returns
+returns c = parsed_commands

@@ -1,0 +1,152 @@
+-- In every history no tag is forged, or there is a first forged one.
+use Rattle.{
+  std.proofs.{
+    Common.{◌≡◌, ◌⊎◌, inl, inr, ℕ, List, [], ◌∷◌, ◌++◌, Bool, Option, Some, None, IfSome, Contains, All, refl, arith},
+    Common.{append_assoc, append-nil},
+    lemmas.List.Elements.{All-append, All-cons, All-filter, All-nil},
+  },
+  macsec_gcm.specs.Octets.same_octets,
+  macsec_tag.specs.declared.identifiers.Sci.Sci,
+  macsec_suite.specs.CipherUses.CipherUse,
+  macsec_commands.specs.declared.event.End.{End, TheVariants.{A, B}},
+  macsec_secy.specs.Step.link_frame,
+  macsec_reserve.specs.{Histories.{Run, closing, sealed_in_all}, Keeping.endpoint_input},
+  macsec_link.specs.Genuine.use_opened,
+  macsec_secrecy.proofs.UnderKey.under_key,
+  macsec_restarts.specs.{
+    AheadOrder.{ComesInOrderOnceWith, IsOrderlyInside, inside},
+    ForgettingOrder.{ComesInOrderOnceForgetting, given},
+    Happenings.{AtEach, Happening, comes_in, last_run, runs_of},
+    Order.{ComesInOrderOnce, IsOrderly},
+    Origin.ComesFromOther,
+    Peers.IsGenuineAt,
+  },
+  macsec_forgery.proofs.{
+    Counting.contained_or_not,
+    Forgeries.few_keys_have_forgeries,
+    InRuns.counted,
+    Opened.opened_opens,
+    Sealed.runs_open,
+  },
+  macsec_forgery.specs.{
+    Forgeries.{IsWithin, Opens},
+    Restarts.{FewKeysForge, GenuineOrForged, IsForgedBy, IsForgedIn, IsOrderlyButForged, IsOrderlyInsideButForged},
+    Restarts.{OrderAheadOrForged, OrderForgettingOrForged, OrderOrForged, OriginOrForged, sealed_so_far},
+    Runs.under,
+    Tags.mask_of,
+  },
+}
+
+all_open : (before : List Happening) → All Opens (sealed_so_far before)
+all_open before =
+    All-append Opens (sealed_in_all (runs_of A before)) (sealed_in_all (runs_of B before)) (runs_open (runs_of A before)) (runs_open (runs_of B before))
+
+-- ---- one happening
+
+link_frame_or_forged : (before : List Happening) (e : End) (frame : List ℕ)
+    → IsGenuineAt before (comes_in e (endpoint_input (link_frame frame))) ⊎ IsForgedBy before (comes_in e (endpoint_input (link_frame frame)))
+link_frame_or_forged before e frame = by_run (last_run (runs_of e before)) refl
+  where
+    by_use : (run : Run) → last_run (runs_of e before) ≡ Some run → (o : Option CipherUse) → use_opened (closing run).secy frame ≡ o
+        → IfSome o (Contains (sealed_so_far before)) ⊎ IsForgedBy before (comes_in e (endpoint_input (link_frame frame)))
+    by_use run in_run None opened = inl tt
+    by_use run in_run (Some u) opened = elim (contained_or_not (sealed_so_far before) u) [
+      | inl there ↦ inl there
+      | inr none ↦ inr (record {
+        end = e;
+        run = run;
+        frame = frame;
+        is_link_frame = refl;
+        in_run = in_run;
+        forged = u;
+        opened = opened;
+        not_sealed = none;
+        counted = counted (sealed_so_far before) u (all_open before) (opened_opens (closing run).secy frame u opened) none;
+      })
+    ]
+
+    by_run : (o : Option Run) → last_run (runs_of e before) ≡ o
+        → IfSome o (λ run. IfSome (use_opened (closing run).secy frame) (Contains (sealed_so_far before)))
+        ⊎ IsForgedBy before (comes_in e (endpoint_input (link_frame frame)))
+    by_run None in_run = inl tt
+    by_run (Some run) in_run = by_use run in_run (use_opened (closing run).secy frame) refl
+
+genuine_or_forged_at : (before : List Happening) (h : Happening) → IsGenuineAt before h ⊎ IsForgedBy before h
+genuine_or_forged_at before (comes_in e (endpoint_input (link_frame frame))) = link_frame_or_forged before e frame
+genuine_or_forged_at before other = inl tt
+
+-- ---- a history
+
+AtEach-append : (P : List Happening → Happening → Type 0) (before events : List Happening) (h : Happening)
+    → AtEach P before events → P (before ++ events) h → AtEach P before (events ++ h ∷ [])
+AtEach-append P before [] h all now = (rw append-nil at now, tt)
+AtEach-append P before (e ∷ events) h all now =
+    (all.0, AtEach-append P (before ++ e ∷ []) events h all.1 (rw (← append_assoc before (e ∷ []) events) at now))
+
+from_here : (before events : List Happening) → AtEach IsGenuineAt [] before → AtEach IsGenuineAt before events ⊎ IsForgedIn (before ++ events)
+from_here before [] genuine = inl tt
+from_here before (h ∷ events) genuine = elim (genuine_or_forged_at before h) [
+  | inr forged ↦ inr (record { before = before; now = h; later = events; in_order = refl; genuine_before = genuine; by = forged })
+  | inl now ↦ elim (from_here (before ++ h ∷ []) events (AtEach-append IsGenuineAt [] before h genuine now)) [
+    | inl later ↦ inl (now, later)
+    | inr forged ↦ inr (rw append_assoc at forged)
+  ]
+]
+
+pub genuine_or_forged : GenuineOrForged
+genuine_or_forged events = from_here [] events tt
+
+-- ---- origin and order
+
+pub origin_or_forged : ((before : List Happening) → ComesFromOther before) → OriginOrForged
+origin_or_forged comes before peers e run frame row delivered octets in_run strict of_row delivers =
+    elim (genuine_or_forged_at before (comes_in e (endpoint_input (link_frame frame)))) [
+      | inr forged ↦ inl forged
+      | inl genuine ↦ inr (comes before peers e run frame row delivered octets genuine in_run strict of_row delivers)
+    ]
+
+orderly : (e : End) (bytes : List ℕ) (sci : Sci) (an : ℕ) (before events : List Happening)
+    → AtEach IsGenuineAt before events → AtEach (IsOrderlyButForged e bytes sci an) before events → AtEach (IsOrderly e bytes sci an) before events
+orderly e bytes sci an before [] genuine order = tt
+orderly e bytes sci an before (h ∷ events) genuine order =
+    (record { genuine = genuine.0; octets = order.0.octets; ordered = order.0.ordered }, orderly e bytes sci an (before ++ h ∷ []) events genuine.1 order.1)
+
+pub order_or_forged : ((events : List Happening) → ComesInOrderOnce events) → OrderOrForged
+order_or_forged comes events e bytes sci an order peers = elim (genuine_or_forged events) [
+  | inr forged ↦ inl forged
+  | inl genuine ↦ inr (comes events e bytes sci an (orderly e bytes sci an [] events genuine order) peers)
+]
+
+orderly_inside : (ahead : Bool) (e : End) (bytes : List ℕ) (sci : Sci) (an : ℕ) (before events : List Happening)
+    → AtEach IsGenuineAt before events → AtEach (IsOrderlyInsideButForged ahead e bytes sci an) before events
+    → AtEach (IsOrderlyInside ahead e bytes sci an) before events
+orderly_inside ahead e bytes sci an before [] genuine order = tt
+orderly_inside ahead e bytes sci an before (h ∷ events) genuine order = (
+  record { genuine = genuine.0; octets = order.0.octets; ordered = order.0.ordered },
+  orderly_inside ahead e bytes sci an (before ++ h ∷ []) events genuine.1 order.1,
+)
+
+pub order_ahead_or_forged : ((ahead : End → Bool) (events : List Happening) → ComesInOrderOnceWith ahead events) → OrderAheadOrForged
+order_ahead_or_forged comes ahead events e bytes sci an order peers = elim (genuine_or_forged (inside ahead events)) [
+  | inr forged ↦ inl forged
+  | inl genuine ↦ inr (comes ahead events e bytes sci an (orderly_inside (ahead e) e bytes sci an [] (inside ahead events) genuine order) peers)
+]
+
+pub order_forgetting_or_forged : ((ahead : End → Bool) (events : List Happening) → ComesInOrderOnceForgetting ahead events) → OrderForgettingOrForged
+order_forgetting_or_forged comes ahead events e bytes sci an sound order peers = elim (genuine_or_forged (inside ahead (given ahead events))) [
+  | inr forged ↦ inl forged
+  | inl genuine ↦ inr (comes ahead events e bytes sci an sound (orderly_inside (ahead e) e bytes sci an [] (inside ahead (given ahead events)) genuine order) peers)
+]
+
+-- ---- counting
+
+pub few_keys_forge : FewKeysForge
+few_keys_forge n before now it hs within_seals within keys each =
+    let u : CipherUse = it.forged in
+    let seals : List CipherUse = sealed_so_far before in
+    let few = few_keys_have_forgeries n u.key (mask_of u.key) (under u.key seals) (u ∷ []) hs (under_key u.key seals)
+    (All-filter (λ s. same_octets s.key u.key) (IsWithin n) seals within_seals)
+    (All-cons (λ s. s.key ≡ u.key) u [] refl (All-nil (λ s. s.key ≡ u.key)))
+    (All-cons (IsWithin n) u [] within (All-nil (IsWithin n)))
+    keys each in
+    omega (arith, few)

@@ -1,0 +1,5 @@
+use Rattle.macsec_forgery.proofs.Counted.{one_of_few_keys}
+use Rattle.macsec_forgery.proofs.runs.one_of_few_keys.Goals as goal
+
+pub returns : goal.returns
+returns c = one_of_few_keys c.promises.ensures c.reads_by_grammar.ensures

@@ -1,0 +1,30 @@
+//! Each law is about definitions only: the contract of a function that does nothing.
+
+ghost use Rattle.macsec_secrecy.specs.Restarts.{AreHistories, AreHistoriesOfCrashes, LinkSaysNothing, LinkSaysNothingForgetting};
+ghost use Rattle.macsec_secrecy.specs.Restarts.{NoInputTwice, NoInputTwiceForgetting};
+
+use macsec_reserve::laws::{repeats_no_iv_at_both, repeats_no_iv_forgetting};
+
+/// Over all runs of two ends, no input of AES under a key is used twice, but for the block of zeros; and over all runs of
+/// one end that forgets retired keys.
+pub fn no_input_twice()
+    ensures durable { NoInputTwice AreHistories }
+    ensures crashes { NoInputTwice AreHistoriesOfCrashes }
+    ensures forgetting { NoInputTwiceForgetting }
+{
+    // The proof cites these laws.
+    repeats_no_iv_at_both();
+    repeats_no_iv_forgetting();
+}
+
+/// Over all runs of two ends, the link says nothing of the encrypted octets but how many there are; and over all runs of
+/// one end that forgets retired keys.
+pub fn link_says_nothing()
+    ensures durable { LinkSaysNothing AreHistories }
+    ensures crashes { LinkSaysNothing AreHistoriesOfCrashes }
+    ensures forgetting { LinkSaysNothingForgetting }
+{
+    // The proof cites these laws.
+    repeats_no_iv_at_both();
+    repeats_no_iv_forgetting();
+}

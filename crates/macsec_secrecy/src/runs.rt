@@ -1,0 +1,29 @@
+//! Each law is about definitions only: the contract of a function that does nothing.
+
+ghost use Rattle.macsec_secrecy.specs.Runs.{FramesAreAlike, LinkFramesShow, LinkSaysNothing, NoInputTwice, NumberOfInputs};
+
+use macsec_link::laws::promises;
+
+/// In each run, no input of AES under a key is used twice, but for the block of zeros.
+pub fn no_input_twice()
+    ensures once { NoInputTwice }
+    ensures number { NumberOfInputs }
+{
+    // The proof cites this law.
+    promises();
+}
+
+/// A link frame is what is authenticated only, the ciphertext and the tag; and which octets of the client frame are
+/// encrypted. Client frames that agree in length, addresses and the octets that stay clear are alike.
+pub fn link_frames_show()
+    ensures frames { LinkFramesShow }
+    ensures alike { FramesAreAlike }
+{}
+
+/// In each run, the link says nothing of the encrypted octets but how many there are.
+pub fn link_says_nothing()
+    ensures { LinkSaysNothing }
+{
+    // The proof cites this law.
+    promises();
+}
