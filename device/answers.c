@@ -1,5 +1,4 @@
 /* The text of answers: what the library's reading calls show. */
-#define _GNU_SOURCE
 #include "device.h"
 #include <ctype.h>
 #include <inttypes.h>
@@ -9,23 +8,60 @@
 enum { OWN = OWN_COUNTERS, TX = TX_COUNTERS, RX = RX_COUNTERS, METRIC = 40 };
 
 /* The names of the counters, in the order of the members of the library's structs and of docs/ENDPOINT.md's table. */
+/* made: own-counters of tools/families.json */
 static const char *const own_names[OWN] = {
     "InPktsUntagged",    "InPktsNoTag",       "InPktsBadTag",    "InPktsReserved", "InPktsNoSA",  "InPktsNoSAError",
     "InOctetsValidated", "InOctetsDecrypted", "OutPktsUntagged", "OutPktsTooLong", "OutPktsNoSA",
 };
+/* end */
+/* made: tx-counters of tools/families.json */
 static const char *const tx_names[TX] = {
     "OutPktsProtected",
     "OutPktsEncrypted",
     "OutOctetsProtected",
     "OutOctetsEncrypted",
 };
+/* end */
+/* made: rx-counters of tools/families.json */
 static const char *const rx_names[RX] = {
     "InPktsOK", "InPktsUnchecked", "InPktsDelayed", "InPktsLate", "InPktsInvalid", "InPktsNotValid",
 };
+/* end */
+
+/* In the order of the members of struct counts. */
+/* made: device-counters of tools/families.json */
+static const char *const device_names[COUNT_OF_COUNTS] = {
+    "LinkIn",
+    "LinkLost",
+    "LinkTooShort",
+    "LinkTooLong",
+    "NoEndpoint",
+    "LinkOut",
+    "LinkRefused",
+    "TapIn",
+    "TapTooShort",
+    "TapTooLong",
+    "TapOut",
+    "TapRefused",
+    "PortOut",
+    "PortIn",
+    "NoReservation",
+    "JournalFailed",
+    "Requests",
+    "LinkFloods",
+    "LinkNoReservation",
+    "LinkEarlierRun",
+};
+/* end */
 
 void sci_text(const uint8_t sci[8], char text[SCI_TEXT]) {
     for (int i = 0; i < 8; i++)
         snprintf(text + 2 * i, 3, "%02x", sci[i]);
+}
+
+/* The counts are members of one type, so they are an array too. */
+static const uint64_t *counts_of(const struct device *d) {
+    return (const uint64_t *)&d->counts;
 }
 
 /* A packet number as text. 2^64, one past the last, has 17 digits. */
@@ -35,17 +71,17 @@ static void number_text(uint64_t number, uint64_t high, char text[20]) {
 
 /* ---- Commands ---- */
 
-void answer_result(struct text *t, const struct result *r) {
-    if (r->fault != NULL)
-        text_add(t, "fault %s\n", r->fault);
-    else if (r->status == MACSEC_OK && r->raised != 0)
-        text_add(t, "ok pn %016" PRIx64 "\n", r->raised);
-    else if (r->status == MACSEC_OK)
+void answer_result(struct text *t, struct result r) {
+    if (r.fault != NULL)
+        text_add(t, "fault %s\n", r.fault);
+    else if (r.status == MACSEC_OK && r.raised != 0)
+        text_add(t, "ok pn %016" PRIx64 "\n", r.raised);
+    else if (r.status == MACSEC_OK)
         text_add(t, "ok\n");
-    else if (r->status < MACSEC_E_EMPTY)
-        text_add(t, "refused %u %s\n", (unsigned)r->status, macsec_status_name(r->status));
+    else if (r.status < MACSEC_E_EMPTY)
+        text_add(t, "refused %u %s\n", (unsigned)r.status, macsec_status_name(r.status));
     else
-        text_add(t, "fault %s\n", macsec_status_name(r->status));
+        text_add(t, "fault %s\n", macsec_status_name(r.status));
 }
 
 /* ---- What the library prints ---- */
@@ -64,15 +100,29 @@ static size_t without_number(char *octets, size_t length) {
     return kept;
 }
 
-void answer_line(struct text *t, macsec_endpoint *e, const char *line) {
+bool answer_line(struct text *t, macsec_endpoint *e, const char *line, size_t length) {
     char *octets = t->octets + t->length;
     size_t written = 0, room = t->room - t->length;
-    struct result r = { NULL, MACSEC_OK, 0 };
-    r.status = macsec_answer(e, 1, (const uint8_t *)line, strlen(line), (uint8_t *)octets, room, &written);
-    if (r.status == MACSEC_OK)
+    macsec_command command;
+    uint32_t status = macsec_parse_line((const uint8_t *)line, length, &command);
+    macsec_clear_command(&command);
+    if (status != MACSEC_E_LINE_ENDS)
+        return false; /* a command, or a wrong line */
+    status = macsec_answer(e, 1, (const uint8_t *)line, length, (uint8_t *)octets, room, &written);
+    if (status == MACSEC_E_LINE_ENDS)
+        return false;
+    if (status != MACSEC_OK)
+        answer_result(t, result_of(status));
+    else if (written > 0)
         t->length += without_number(octets, written);
     else
-        answer_result(t, &r);
+        text_add(t, "none\n"); /* an answer without octets would look like the end of the connection */
+    return true;
+}
+
+void answer_numbers(struct text *t, const struct device *d) {
+    static const char line[] = "A numbers";
+    (void)answer_line(t, d->endpoint, line, sizeof line - 1);
 }
 
 /* ---- Lines ---- */
@@ -83,12 +133,12 @@ static void add_lines(struct text *t, const char *before, const char *const *nam
 }
 
 /* The lines of a receive channel and of its associations. */
-static void add_channel_lines(struct text *t, const macsec_endpoint *e, const uint8_t sci[8]) {
+static void add_channel_lines(struct text *t, const struct device *d, const uint8_t sci[8]) {
     char name[SCI_TEXT], before[SCI_TEXT + 4];
     uint64_t values[RX];
     sci_text(sci, name);
     for (int an = -1; an < MACSEC_AN_COUNT; an++) {
-        if (totals_rx(e, sci, an, values) != MACSEC_OK)
+        if (totals_rx(d, sci, an, values) != MACSEC_OK)
             continue;
         if (an < 0)
             snprintf(before, sizeof before, "%s ", name);
@@ -98,14 +148,15 @@ static void add_channel_lines(struct text *t, const macsec_endpoint *e, const ui
     }
 }
 
-void answer_counters(struct text *t, const macsec_endpoint *e) {
+void answer_counters(struct text *t, const struct device *d) {
     uint64_t own[OWN], tx[TX];
     uint8_t sci[8];
-    totals_own(e, own, tx);
+    totals_own(d, own, tx);
     add_lines(t, "", own_names, own, OWN);
     add_lines(t, "", tx_names, tx, TX);
-    for (size_t place = 0; macsec_get_rx_sc(e, place, sci) == MACSEC_OK; place++)
-        add_channel_lines(t, e, sci);
+    for (size_t place = 0; macsec_get_rx_sc(d->endpoint, place, sci) == MACSEC_OK; place++)
+        add_channel_lines(t, d, sci);
+    add_lines(t, "device ", device_names, counts_of(d), COUNT_OF_COUNTS);
 }
 
 uint32_t answer_tx_number(struct text *t, const macsec_endpoint *e, uint8_t an) {
@@ -132,11 +183,6 @@ uint32_t answer_rx_number(struct text *t, const macsec_endpoint *e, const uint8_
     return status;
 }
 
-void answer_counts(struct text *t, const struct counts *c) {
-    for (size_t i = 0; i < COUNT_OF_COUNTS; i++)
-        text_add(t, "device %s %" PRIu64 "\n", counts_name(i), counts_value(c, i));
-}
-
 /* LINK, as `ip link` would show it: an isolated one is not in the host's namespace. */
 void answer_link(struct text *t, const struct device *d) {
     const uint8_t *a = d->link.address;
@@ -144,7 +190,7 @@ void answer_link(struct text *t, const struct device *d) {
     if (!d->config.shared)
         namespace_path(path, d->name);
     text_add(t, "link %s %s mtu %u address %02x:%02x:%02x:%02x:%02x:%02x namespace %s tap %s\n", d->link.name,
-             d->life.up ? "up" : "down", (unsigned)d->link.mtu, a[0], a[1], a[2], a[3], a[4], a[5], path, d->tap.name);
+             d->link.up ? "up" : "down", (unsigned)d->link.mtu, a[0], a[1], a[2], a[3], a[4], a[5], path, d->tap.name);
 }
 
 /* ---- JSON ---- */
@@ -172,14 +218,14 @@ static void add_json_transmit(struct text *t, const macsec_endpoint *e) {
     text_add(t, "]");
 }
 
-static void add_json_associations(struct text *t, const macsec_endpoint *e, const uint8_t sci[8]) {
+static void add_json_associations(struct text *t, const struct device *d, const uint8_t sci[8]) {
     const char *comma = "";
     text_add(t, ",\"associations\":[");
     for (uint8_t an = 0; an < MACSEC_AN_COUNT; an++) {
         macsec_rx_sa sa;
         uint64_t values[RX];
         char next[20], lowest[20];
-        if (macsec_get_rx_sa(e, sci, an, &sa) != MACSEC_OK || totals_rx(e, sci, an, values) != MACSEC_OK)
+        if (macsec_get_rx_sa(d->endpoint, sci, an, &sa) != MACSEC_OK || totals_rx(d, sci, an, values) != MACSEC_OK)
             continue;
         number_text(sa.next, sa.next_high, next);
         number_text(sa.lowest, sa.lowest_high, lowest);
@@ -192,17 +238,17 @@ static void add_json_associations(struct text *t, const macsec_endpoint *e, cons
     text_add(t, "]");
 }
 
-static void add_json_receive(struct text *t, const macsec_endpoint *e) {
+static void add_json_receive(struct text *t, const struct device *d) {
     uint8_t sci[8];
     text_add(t, ",\"receive\":[");
-    for (size_t place = 0; macsec_get_rx_sc(e, place, sci) == MACSEC_OK; place++) {
+    for (size_t place = 0; macsec_get_rx_sc(d->endpoint, place, sci) == MACSEC_OK; place++) {
         char name[SCI_TEXT];
         uint64_t values[RX];
         sci_text(sci, name);
-        (void)totals_rx(e, sci, -1, values); /* the channel is there */
+        (void)totals_rx(d, sci, -1, values); /* the channel is there */
         text_add(t, "%s{\"sci\":\"%s\",", place == 0 ? "" : ",", name);
         add_object(t, "counters", rx_names, values, RX);
-        add_json_associations(t, e, sci);
+        add_json_associations(t, d, sci);
         text_add(t, "}");
     }
     text_add(t, "]");
@@ -211,10 +257,10 @@ static void add_json_receive(struct text *t, const macsec_endpoint *e) {
 void answer_json(struct text *t, const struct device *d) {
     uint64_t own[OWN], tx[TX];
     uint32_t left = 0;
-    totals_own(d->endpoint, own, tx);
+    totals_own(d, own, tx);
     (void)macsec_keys_left(d->endpoint, &left); /* without an endpoint it is 0 */
     text_add(t, "{\"device\":\"%s\",\"tap\":\"%s\",\"link\":\"%s\",\"up\":%s,", d->name, d->tap.name, d->link.name,
-             d->life.up ? "true" : "false");
+             d->link.up ? "true" : "false");
     if (!d->config.shared) {
         char path[NAMESPACE_PATH];
         namespace_path(path, d->name);
@@ -222,16 +268,13 @@ void answer_json(struct text *t, const struct device *d) {
     }
     text_add(t, "\"port\":\"%s\",\"keys_left\":%u,", d->port.off ? "off" : "on", (unsigned)left);
     text_add(t, "\"journal_names\":%zu,\"journal_names_max\":%zu,", numbers_names(d->numbers), numbers_names_max());
-    text_add(t, "\"receive_ahead\":%s,", numbers_are_ahead(d->numbers) ? "true" : "false");
-    text_add(t, "\"device_counters\":{");
-    for (size_t i = 0; i < COUNT_OF_COUNTS; i++)
-        text_add(t, "%s\"%s\":%" PRIu64, i == 0 ? "" : ",", counts_name(i), counts_value(&d->counts, i));
-    text_add(t, "},");
+    add_object(t, "device_counters", device_names, counts_of(d), COUNT_OF_COUNTS);
+    text_add(t, ",");
     add_object(t, "counters", own_names, own, OWN);
     text_add(t, ",");
     add_object(t, "transmit_counters", tx_names, tx, TX);
     add_json_transmit(t, d->endpoint);
-    add_json_receive(t, d->endpoint);
+    add_json_receive(t, d);
     text_add(t, "}\n");
 }
 
@@ -254,31 +297,31 @@ static void add_type(struct text *t, const char *prefix, const char *metric) {
     text_add(t, "# TYPE macsec_%s%s_total counter\n", prefix, metric);
 }
 
-static void add_plain_metrics(struct text *t, const char *device, const char *const *names, const uint64_t *values,
-                              int count) {
+static void add_plain_metrics(struct text *t, const char *device, const char *prefix, const char *const *names,
+                              const uint64_t *values, int count) {
     for (int i = 0; i < count; i++) {
         char metric[METRIC];
         metric_name(names[i], metric);
-        add_type(t, "", metric);
-        text_add(t, "macsec_%s_total{device=\"%s\"} %" PRIu64 "\n", metric, device, values[i]);
+        add_type(t, prefix, metric);
+        text_add(t, "macsec_%s%s_total{device=\"%s\"} %" PRIu64 "\n", prefix, metric, device, values[i]);
     }
 }
 
 /* The samples of one counter of all receive channels, or of all receive associations. */
-static void add_rx_metrics(struct text *t, const char *device, const macsec_endpoint *e, int counter, bool of_sas) {
+static void add_rx_metrics(struct text *t, const struct device *d, int counter, bool of_sas) {
     char metric[METRIC], name[SCI_TEXT];
     uint64_t values[RX];
     uint8_t sci[8];
     metric_name(rx_names[counter], metric);
     add_type(t, of_sas ? "sa_" : "", metric);
-    for (size_t place = 0; macsec_get_rx_sc(e, place, sci) == MACSEC_OK; place++) {
+    for (size_t place = 0; macsec_get_rx_sc(d->endpoint, place, sci) == MACSEC_OK; place++) {
         sci_text(sci, name);
-        if (!of_sas && totals_rx(e, sci, -1, values) == MACSEC_OK)
-            text_add(t, "macsec_%s_total{device=\"%s\",sci=\"%s\"} %" PRIu64 "\n", metric, device, name,
+        if (!of_sas && totals_rx(d, sci, -1, values) == MACSEC_OK)
+            text_add(t, "macsec_%s_total{device=\"%s\",sci=\"%s\"} %" PRIu64 "\n", metric, d->name, name,
                      values[counter]);
         for (int an = 0; of_sas && an < MACSEC_AN_COUNT; an++)
-            if (totals_rx(e, sci, an, values) == MACSEC_OK)
-                text_add(t, "macsec_sa_%s_total{device=\"%s\",sci=\"%s\",an=\"%d\"} %" PRIu64 "\n", metric, device,
+            if (totals_rx(d, sci, an, values) == MACSEC_OK)
+                text_add(t, "macsec_sa_%s_total{device=\"%s\",sci=\"%s\",an=\"%d\"} %" PRIu64 "\n", metric, d->name,
                          name, an, values[counter]);
     }
 }
@@ -286,7 +329,7 @@ static void add_rx_metrics(struct text *t, const char *device, const macsec_endp
 static void add_gauges(struct text *t, const struct device *d) {
     uint32_t left = 0;
     (void)macsec_keys_left(d->endpoint, &left);
-    text_add(t, "# TYPE macsec_link_up gauge\nmacsec_link_up{device=\"%s\"} %d\n", d->name, d->life.up);
+    text_add(t, "# TYPE macsec_link_up gauge\nmacsec_link_up{device=\"%s\"} %d\n", d->name, d->link.up);
     text_add(t, "# TYPE macsec_port_on gauge\nmacsec_port_on{device=\"%s\"} %d\n", d->name, !d->port.off);
     text_add(t, "# TYPE macsec_keys_left gauge\nmacsec_keys_left{device=\"%s\"} %u\n", d->name, (unsigned)left);
     text_add(t, "# TYPE macsec_journal_names gauge\nmacsec_journal_names{device=\"%s\"} %zu\n", d->name,
@@ -304,19 +347,13 @@ static void add_gauges(struct text *t, const struct device *d) {
 
 void answer_metrics(struct text *t, const struct device *d) {
     uint64_t own[OWN], tx[TX];
-    totals_own(d->endpoint, own, tx);
-    add_plain_metrics(t, d->name, own_names, own, OWN);
-    add_plain_metrics(t, d->name, tx_names, tx, TX);
+    totals_own(d, own, tx);
+    add_plain_metrics(t, d->name, "", own_names, own, OWN);
+    add_plain_metrics(t, d->name, "", tx_names, tx, TX);
     for (int i = 0; i < RX; i++)
-        add_rx_metrics(t, d->name, d->endpoint, i, false);
+        add_rx_metrics(t, d, i, false);
     for (int i = 0; i < RX; i++)
-        add_rx_metrics(t, d->name, d->endpoint, i, true);
-    for (size_t i = 0; i < COUNT_OF_COUNTS; i++) {
-        char metric[METRIC];
-        metric_name(counts_name(i), metric);
-        add_type(t, "device_", metric);
-        text_add(t, "macsec_device_%s_total{device=\"%s\"} %" PRIu64 "\n", metric, d->name,
-                 counts_value(&d->counts, i));
-    }
+        add_rx_metrics(t, d, i, true);
+    add_plain_metrics(t, d->name, "device_", device_names, counts_of(d), COUNT_OF_COUNTS);
     add_gauges(t, d);
 }

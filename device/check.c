@@ -3,8 +3,10 @@
  * read. No message repeats a word of the file other than a number, an SCI or a name, so none shows a key.
  *
  * `macsec-config --lint` says the same of the lines for the endpoint, in the same words. */
-#define _GNU_SOURCE
-#include "device.h"
+#include "control.h"
+#include "frames.h"
+#include "numbers.h"
+#include "text.h"
 #include "workers.h"
 #include <errno.h>
 #include <limits.h>
@@ -17,6 +19,9 @@
 #include <sys/stat.h>
 #include <unistd.h>
 
+/* What is found: what keeps macsecd from starting, and what is likely to be a slip. */
+enum kind { FAULT, HINT };
+
 struct check {
     struct config config;
     const char *name; /* NULL: a path was given, and its NAME is unknown */
@@ -25,40 +30,30 @@ struct check {
     bool text_only; /* it has a fault, so what the library would refuse is unknown */
     bool sends[MACSEC_KEY_COUNT], receives[MACSEC_KEY_COUNT]; /* the keys of `txsa` and `rxsa` lines */
     bool enables, has_sent; /* is there a `txon` line, and was there a `txsa` line already? */
-    uint8_t address[6];     /* of LINK */
-    bool has_address;
-    uint32_t mtu; /* of LINK, or 0 */
+    uint8_t address[6];     /* of LINK, if it is an Ethernet device */
+    uint32_t mtu;           /* of LINK, or 0 */
     bool is_there, is_ethernet;
-    unsigned faults, hints;
-    bool is_failed; /* did memory run out? */
+    unsigned line; /* that is checked; 0: the whole file */
+    struct words words;
+    unsigned found[2]; /* by their kinds */
+    bool is_failed;    /* did memory run out? */
 };
 
 /* ---- What is printed ---- */
 
-static void print(unsigned line, const char *kind, const char *form, va_list arguments) {
-    if (line == 0)
-        printf("the file: %s", kind);
+/* Prints what was found. Line 0 is the whole file. */
+__attribute__((format(printf, 3, 4))) static void say(struct check *c, enum kind kind, const char *form, ...) {
+    va_list arguments;
+    if (c->line == 0)
+        printf("the file: ");
     else
-        printf("line %u: %s", line, kind);
+        printf("line %u: ", c->line);
+    printf("%s", kind == HINT ? "hint: " : "");
+    va_start(arguments, form);
     vprintf(form, arguments);
+    va_end(arguments);
     putchar('\n');
-}
-
-/* Line 0 is the whole file. */
-__attribute__((format(printf, 3, 4))) static void fault(struct check *c, unsigned line, const char *form, ...) {
-    va_list arguments;
-    va_start(arguments, form);
-    print(line, "", form, arguments);
-    va_end(arguments);
-    c->faults++;
-}
-
-__attribute__((format(printf, 3, 4))) static void hint(struct check *c, unsigned line, const char *form, ...) {
-    va_list arguments;
-    va_start(arguments, form);
-    print(line, "hint: ", form, arguments);
-    va_end(arguments);
-    c->hints++;
+    c->found[kind]++;
 }
 
 /* ---- What the library says of a line ---- */
@@ -69,6 +64,7 @@ struct meaning {
     const char *text, *remedy;
 };
 
+/* made: meanings of tools/families.json */
 static const struct meaning meanings[] = {
     { MACSEC_E_KEY_LENGTH, "the key has another length than its suite's keys",
       "gcm128 and xpn128 need 32 digits, gcm256 and xpn256 64" },
@@ -99,170 +95,182 @@ static const struct meaning meanings[] = {
       "scb one with port 0000" },
     { MACSEC_E_LINE_LONG, "the line has more than 20000 octets", "divide it" },
 };
+/* end */
 
-/* How lines are written: the keyword, and the whole line. */
+/* How the commands are written, by their kinds, and arguments that are right. */
+/* made: usages of tools/families.json */
 static const char *const usages[][2] = {
-    { "end", "end A SUITE SCI MAX FORM, with MAX from 64 to 9248" },
-    { "protect", "A protect on|off" },
-    { "validate", "A validate strict|check|disabled" },
-    { "replay", "A replay on|off WINDOW" },
-    { "tag", "A tag auto|sci|es|scb" },
-    { "key", "A key N KEY OFFSET [SUITE] [SSCI SALT], with N up to 4095, and 32 or 64 digits of KEY" },
-    { "retire", "A retire N" },
-    { "txsa", "A txsa AN N PN int|conf, with AN up to 3 and 1 to 16 hex digits of PN" },
-    { "txon", "A txon AN" },
-    { "txoff", "A txoff AN" },
-    { "txdel", "A txdel AN" },
-    { "rxsc", "A rxsc SCI, with 16 digits of SCI" },
-    { "rxscdel", "A rxscdel SCI" },
-    { "rxsa", "A rxsa SCI AN N PN [SSCI], with 16 digits of SCI and AN up to 3" },
-    { "rxon", "A rxon SCI AN" },
-    { "rxoff", "A rxoff SCI AN" },
-    { "rxlow", "A rxlow SCI AN PN" },
-    { "rxdel", "A rxdel SCI AN" },
+    [MACSEC_COMMAND_PROTECT] = { "A protect on|off", "on" },
+    [MACSEC_COMMAND_VALIDATE] = { "A validate strict|check|disabled", "strict" },
+    [MACSEC_COMMAND_REPLAY] = { "A replay on|off WINDOW", "on 0" },
+    [MACSEC_COMMAND_TAG] = { "A tag auto|sci|es|scb", "auto" },
+    [MACSEC_COMMAND_KEY] = { "A key N KEY OFFSET [SUITE] [SSCI SALT], with N up to 4095, and 32 or 64 digits of KEY",
+                             "0 00000000000000000000000000000000 0" },
+    [MACSEC_COMMAND_RETIRE] = { "A retire N", "0" },
+    [MACSEC_COMMAND_TX_SA] = { "A txsa AN N PN int|conf, with AN up to 3 and 1 to 16 hex digits of PN", "0 0 1 conf" },
+    [MACSEC_COMMAND_TX_ON] = { "A txon AN", "0" },
+    [MACSEC_COMMAND_TX_OFF] = { "A txoff AN", "0" },
+    [MACSEC_COMMAND_TX_DEL] = { "A txdel AN", "0" },
+    [MACSEC_COMMAND_RX_SC] = { "A rxsc SCI, with 16 digits of SCI", "0200000000000001" },
+    [MACSEC_COMMAND_RX_SC_DEL] = { "A rxscdel SCI", "0200000000000001" },
+    [MACSEC_COMMAND_RX_SA] = { "A rxsa SCI AN N PN [SSCI], with 16 digits of SCI and AN up to 3",
+                               "0200000000000001 0 0 1" },
+    [MACSEC_COMMAND_RX_ON] = { "A rxon SCI AN", "0200000000000001 0" },
+    [MACSEC_COMMAND_RX_OFF] = { "A rxoff SCI AN", "0200000000000001 0" },
+    [MACSEC_COMMAND_RX_LOW] = { "A rxlow SCI AN PN", "0200000000000001 0 1" },
+    [MACSEC_COMMAND_RX_DEL] = { "A rxdel SCI AN", "0200000000000001 0" },
 };
+/* end */
 
-/* How a line with these words is to be written. */
-static const char *usage_of(const struct words *w) {
-    for (size_t i = 0; i < sizeof usages / sizeof *usages; i++)
-        if (words_is(w, words_is(w, 0, "A") ? 1 : 0, usages[i][0]))
-            return usages[i][1];
-    return "`device ..`, end A SUITE SCI MAX FORM, or a command at A of macsec(5)";
+/* How a line with this keyword is to be written, or NULL. A line at fault has no kind, so the library reads the keyword
+ * with the arguments of each command. */
+static const char *usage_at(const char *end, const char *keyword) {
+    char line[4 * WORD];
+    macsec_command command;
+    macsec_config config;
+    for (uint32_t kind = MACSEC_COMMAND_NONE + 1; kind < sizeof usages / sizeof *usages; kind++) {
+        int length = snprintf(line, sizeof line, "%s %s %s", end, keyword, usages[kind][1]);
+        if (macsec_parse_line((const uint8_t *)line, (size_t)length, &command) == MACSEC_OK && command.kind == kind)
+            return usages[kind][0];
+    }
+    snprintf(line, sizeof line, "%s A gcm128 0200000000000001 64 sci", keyword);
+    if (macsec_parse_end((const uint8_t *)line, strlen(line), &config) == MACSEC_OK)
+        return "end A SUITE SCI MAX FORM, with MAX from 64 to 9248";
+    return NULL;
 }
 
-static void say_status(struct check *c, unsigned line, uint32_t status, const struct words *w) {
+/* How a line with these words is to be written. The A may be missing. */
+static const char *usage_of(const struct words *w) {
+    char first[WORD] = "", second[WORD] = "";
+    const char *usage;
+    (void)words_copy(w, 0, first, sizeof first);
+    (void)words_copy(w, 1, second, sizeof second);
+    usage = usage_at(first, second);
+    if (usage == NULL)
+        usage = usage_at("A", first);
+    return usage != NULL ? usage : "`device ..`, end A SUITE SCI MAX FORM, or a command at A of macsec(5)";
+}
+
+static void say_status(struct check *c, uint32_t status) {
     const char *kind = status < MACSEC_E_EMPTY ? "refused: " : "";
     for (size_t i = 0; i < sizeof meanings / sizeof *meanings; i++)
         if (meanings[i].status == status) {
             bool is_text = meanings[i].remedy == NULL;
-            fault(c, line, "%s%s%s%s", kind, meanings[i].text, is_text ? "; expected: " : "; ",
-                  is_text ? usage_of(w) : meanings[i].remedy);
+            say(c, FAULT, "%s%s%s%s", kind, meanings[i].text, is_text ? "; expected: " : "; ",
+                is_text ? usage_of(&c->words) : meanings[i].remedy);
             return;
         }
-    fault(c, line, "%s%s", kind, macsec_status_name(status));
+    say(c, FAULT, "%s%s", kind, macsec_status_name(status));
 }
 
-/* Carries out a line; the first one creates the endpoint. If it does not, the others are carried out at the endpoint of
- * another line, and only faults of their text are known. */
-static bool carry_out(struct check *c, unsigned line, const char *text, size_t length, const struct words *w) {
-    static const char other[] = "end A gcm128 0200000000000001 1514 sci";
-    uint32_t number, status;
-    if (c->begun) {
-        status = macsec_command_line(&c->endpoint, (const uint8_t *)text, length);
-    } else {
-        c->begun = true;
-        status = macsec_configure(&c->endpoint, (const uint8_t *)text, length, &number);
-        c->text_only = status != MACSEC_OK;
-        if (c->text_only && macsec_configure(&c->endpoint, (const uint8_t *)other, sizeof other - 1, &number) != 0)
-            status = MACSEC_E_MEMORY;
-    }
+/* Takes the status of a line. Returns true if the line is good. */
+static bool is_good(struct check *c, uint32_t status) {
     if (status == MACSEC_E_MEMORY)
         c->is_failed = true;
     else if (status >= MACSEC_E_LINE_WORD || (status != MACSEC_OK && !c->text_only))
-        say_status(c, line, status, w);
+        say_status(c, status);
     return status == MACSEC_OK;
+}
+
+/* Creates the endpoint. If that fails, the other lines are carried out at another endpoint, and only faults of their
+ * text are known. */
+static bool create(struct check *c, const struct commands *it, macsec_config *end) {
+    static const macsec_config other = { { 2, 0, 0, 0, 0, 0, 0, 1 }, MACSEC_SUITE_GCM_AES_128, MACSEC_FORM_SCI, 1514 };
+    uint32_t status = macsec_parse_end((const uint8_t *)it->line, it->length, end);
+    if (status == MACSEC_OK)
+        status = macsec_new(&c->endpoint, end);
+    c->begun = true;
+    c->text_only = status != MACSEC_OK;
+    if (c->text_only && macsec_new(&c->endpoint, &other) != MACSEC_OK)
+        status = MACSEC_E_MEMORY;
+    return is_good(c, status);
 }
 
 /* ---- Likely slips ---- */
 
-/* Is there a line that enables the receive association of these words? */
-static bool is_enabled(const struct check *c, const struct words *of) {
-    const char *text = (const char *)c->config.text, *line;
-    size_t left = c->config.length, length;
-    uint8_t sci[8], other[8];
-    uint64_t an, number;
-    if (!words_sci(of, 2, sci) || !words_number(of, 3, &an))
-        return true;
-    while ((line = words_line(&text, &left, &length)) != NULL) {
-        struct words w;
-        words_split(&w, line, length);
-        if (words_are(&w, 4, "A", "rxon") && words_sci(&w, 2, other) && words_number(&w, 3, &number) &&
-            memcmp(sci, other, sizeof sci) == 0 && number == an)
-            return true;
-    }
-    return false;
+/* Is there a line that enables this receive association? */
+static bool is_enabled(const struct check *c, const macsec_command *of) {
+    struct commands it = { .text = (const char *)c->config.text, .left = c->config.length };
+    bool found = false;
+    while (!found && commands_next(&it))
+        found = it.command.kind == MACSEC_COMMAND_RX_ON && it.command.an == of->an &&
+                memcmp(it.command.sci, of->sci, sizeof of->sci) == 0;
+    return found;
 }
 
-static void look_at_key(struct check *c, unsigned line, const struct words *w) {
-    uint64_t key, offset;
-    if (!words_number(w, 2, &key) || key >= MACSEC_KEY_COUNT)
-        return;
+static void look_at_key(struct check *c, const macsec_sak *sak) {
+    unsigned key = sak->number;
     if (!c->sends[key] && !c->receives[key])
-        hint(c, line, "no association uses key %u", (unsigned)key);
+        say(c, HINT, "no association uses key %u", key);
     if (c->sends[key] && c->receives[key])
-        hint(c, line,
-             "key %u is for both directions: AES-GCM breaks if both ends ever have one SCI. Write a key for each",
-             (unsigned)key);
-    if (words_number(w, 4, &offset) && offset != 0)
-        hint(c, line, "the first %u octets of each frame stay readable under this key: write 0", (unsigned)offset);
+        say(c, HINT,
+            "key %u is for both directions: AES-GCM breaks if both ends ever have one SCI. Write a key for each", key);
+    if (sak->offset != 0)
+        say(c, HINT, "the first %u octets of each frame stay readable under this key: write 0", sak->offset);
 }
 
 /* Packet numbers of several digits without a letter may be meant in decimal. */
-static void look_at_number(struct check *c, unsigned line, const struct words *w, unsigned index) {
+static void look_at_number(struct check *c, unsigned index) {
     uint64_t number;
     char word[WORD];
-    if (!words_copy(w, index, word, sizeof word) || strlen(word) < 2 || strlen(word) > 8 ||
-        !words_number(w, index, &number) || number < 2)
+    if (!words_copy(&c->words, index, word, sizeof word) || strlen(word) < 2 || strlen(word) > 8 ||
+        !words_number(&c->words, index, &number) || number < 2)
         return;
-    hint(c, line, "packet numbers are hex: decimal %s is %llx", word, (unsigned long long)number);
+    say(c, HINT, "packet numbers are hex: decimal %s is %llx", word, (unsigned long long)number);
 }
 
-static void look_at_association(struct check *c, unsigned line, const struct words *w) {
-    bool sends = words_is(w, 1, "txsa");
-    char sci[SCI_TEXT] = "", an[WORD] = "";
-    look_at_number(c, line, w, sends ? 4 : 5);
-    (void)words_copy(w, sends ? 2 : 3, an, sizeof an);
-    (void)words_copy(w, 2, sci, sizeof sci);
-    if (sends && words_is(w, 5, "int"))
-        hint(c, line, "int does not encrypt: everybody on LINK can read the frames; write conf");
+static void look_at_association(struct check *c, const macsec_command *it) {
+    bool sends = it->kind == MACSEC_COMMAND_TX_SA;
+    char sci[SCI_TEXT];
+    sci_text(it->sci, sci);
+    look_at_number(c, sends ? 4 : 5);
+    if (sends && !it->flag)
+        say(c, HINT, "int does not encrypt: everybody on LINK can read the frames; write conf");
     if (sends && !c->has_sent && !c->enables)
-        hint(c, line, "no transmit association is enabled, so no frame is sent: A txon %s", an);
-    if (!sends && !is_enabled(c, w))
-        hint(c, line, "this association is never enabled, so it receives nothing: A rxon %s %s", sci, an);
+        say(c, HINT, "no transmit association is enabled, so no frame is sent: A txon %u", it->an);
+    if (!sends && !is_enabled(c, it))
+        say(c, HINT, "this association is never enabled, so it receives nothing: A rxon %s %u", sci, it->an);
     c->has_sent = c->has_sent || sends;
 }
 
 /* What a mode lets pass. A request for it is refused unless the configuration allows that. */
-static void look_at_mode(struct check *c, unsigned line, const struct words *w) {
-    const char *refused = limits_allow(&c->config.limits, w) ? "" : ". No `device allow` lets requests say the same";
-    uint64_t window;
-    if (words_is(w, 1, "protect") && words_is(w, 2, "off"))
-        hint(c, line, "frames are sent in clear: write on%s", refused);
-    if (words_is(w, 1, "validate") && !words_is(w, 2, "strict"))
-        hint(c, line, "forged and unprotected frames reach TAP: write strict%s", refused);
-    if (words_is(w, 1, "replay") && words_is(w, 2, "off"))
-        hint(c, line, "recorded frames are delivered again: write on 0%s", refused);
-    else if (words_is(w, 1, "replay") && words_number(w, 3, &window) && window > 0)
-        hint(c, line, "frames that were recorded within this window can be delivered again: write 0%s", refused);
+static void look_at_mode(struct check *c, const macsec_command *it) {
+    const char *refused = limits_allow(&c->config.limits, it) ? "" : ". No `device allow` lets requests say the same";
+    if (it->kind == MACSEC_COMMAND_PROTECT && !it->flag)
+        say(c, HINT, "frames are sent in clear: write on%s", refused);
+    if (it->kind == MACSEC_COMMAND_VALIDATE && it->choice != MACSEC_MODE_STRICT)
+        say(c, HINT, "forged and unprotected frames reach TAP: write strict%s", refused);
+    if (it->kind == MACSEC_COMMAND_REPLAY && !it->flag)
+        say(c, HINT, "recorded frames are delivered again: write on 0%s", refused);
+    else if (it->kind == MACSEC_COMMAND_REPLAY && it->pn > 0)
+        say(c, HINT, "frames that were recorded within this window can be delivered again: write 0%s", refused);
 }
 
 /* Compares the SCI and MAX of the `end` line with LINK's address and MTU. */
-static void look_at_end(struct check *c, unsigned line, const struct words *w) {
+static void look_at_end(struct check *c, const macsec_config *end) {
     uint32_t fitting = c->mtu + 14 < MACSEC_FRAME_MAX ? c->mtu + 14 : MACSEC_FRAME_MAX;
-    const uint8_t *a = c->address;
+    char right[SCI_TEXT];
     uint8_t sci[8];
-    config_take_end(&c->config);
-    if (c->has_address && words_sci(w, 3, sci) && memcmp(sci, a, sizeof c->address) != 0)
-        hint(c, line,
-             "the SCI is not that of LINK %s, so another host may have it: write %02x%02x%02x%02x%02x%02x%02x%02x",
-             c->config.link, a[0], a[1], a[2], a[3], a[4], a[5], sci[6], sci[7]);
+    memcpy(sci, end->sci, sizeof sci);
+    memcpy(sci, c->address, sizeof c->address);
+    sci_text(sci, right);
+    config_take_end(&c->config, end);
+    if (c->is_ethernet && memcmp(end->sci, sci, sizeof sci) != 0)
+        say(c, HINT, "the SCI is not that of LINK %s, so another host may have it: write %s", c->config.link, right);
     if (c->mtu != 0 && c->config.max_frame != fitting)
-        hint(c, line, "MAX does not fit the MTU %u of LINK %s: TAP's MTU is %u; write %u", (unsigned)c->mtu,
-             c->config.link, (unsigned)tap_mtu(c->mtu, c->config.max_frame), (unsigned)fitting);
+        say(c, HINT, "MAX does not fit the MTU %u of LINK %s: TAP's MTU is %u; write %u", (unsigned)c->mtu,
+            c->config.link, (unsigned)tap_mtu(c->mtu, c->config.max_frame), (unsigned)fitting);
 }
 
-static void look_at_command(struct check *c, unsigned line, const struct words *w) {
-    uint8_t sci[8];
-    if (words_is(w, 1, "key"))
-        look_at_key(c, line, w);
-    else if (words_is(w, 1, "txsa") || words_is(w, 1, "rxsa"))
-        look_at_association(c, line, w);
-    else if (words_is(w, 1, "rxsc") && c->has_address && words_sci(w, 2, sci) &&
-             memcmp(sci, c->address, sizeof c->address) == 0)
-        hint(c, line, "the peer's SCI has the address of this host's LINK %s: this may be the other host's file",
-             c->config.link);
-    else
-        look_at_mode(c, line, w);
+static void look_at_command(struct check *c, const macsec_command *it) {
+    if (it->kind == MACSEC_COMMAND_KEY)
+        look_at_key(c, &it->sak);
+    if (it->kind == MACSEC_COMMAND_TX_SA || it->kind == MACSEC_COMMAND_RX_SA)
+        look_at_association(c, it);
+    if (it->kind == MACSEC_COMMAND_RX_SC && c->is_ethernet && memcmp(it->sci, c->address, sizeof c->address) == 0)
+        say(c, HINT, "the peer's SCI has the address of this host's LINK %s: this may be the other host's file",
+            c->config.link);
+    look_at_mode(c, it);
 }
 
 /* ---- The device ---- */
@@ -279,7 +287,6 @@ static bool read_device(struct check *c, const char *name, bool is_link) {
     if (ioctl(any, SIOCGIFHWADDR, &request) == 0) {
         is_there = true;
         c->is_ethernet = request.ifr_hwaddr.sa_family == 1; /* ARPHRD_ETHER */
-        c->has_address = c->is_ethernet;
         memcpy(c->address, request.ifr_hwaddr.sa_data, sizeof c->address);
         if (is_link && c->is_ethernet && ioctl(any, SIOCGIFMTU, &request) == 0)
             c->mtu = (uint32_t)request.ifr_mtu;
@@ -296,74 +303,81 @@ static void find_link(struct check *c) {
                   (!c->config.shared && c->config.tap[0] != '\0' && read_device(c, c->config.tap, false));
 }
 
-static void check_device_line(struct check *c, unsigned line, const struct words *w) {
+static void check_device_line(struct check *c) {
+    const struct words *w = &c->words;
     const char *wrong = config_take(&c->config, w);
     if (wrong != NULL)
-        fault(c, line, "%s", wrong);
+        say(c, FAULT, "%s", wrong);
     else if (words_is(w, 1, "link") && !c->is_there)
-        hint(c, line, "there is no network device %s: macsecd ends with status 1 until there is", c->config.link);
+        say(c, HINT, "there is no network device %s: macsecd ends with status 1 until there is", c->config.link);
     else if (words_is(w, 1, "link") && !c->is_ethernet)
-        fault(c, line, "LINK %s is not an Ethernet device; name one", c->config.link);
-    else if (words_is(w, 1, "receive") && words_is(w, 2, "behind"))
-        hint(c, line, "after a crash, frames that were recorded shortly before it are delivered again: write ahead");
+        say(c, FAULT, "LINK %s is not an Ethernet device; name one", c->config.link);
     else if (words_is(w, 1, "user") && c->config.user != 0)
-        hint(c, line, "while macsecd does not run, this user can read and send TAP's frames in clear: delete the line");
+        say(c, HINT, "while macsecd does not run, this user can read and send TAP's frames in clear: delete the line");
     else if (words_is(w, 1, "workers") && c->config.workers > workers_fitting())
-        hint(c, line, "there are too few processors for so many workers, so frames wait for them: write at most %u",
-             workers_fitting());
+        say(c, HINT, "there are too few processors for so many workers, so frames wait for them: write at most %u",
+            workers_fitting());
 }
 
 /* ---- The lines ---- */
 
 /* What is needed of later lines when a line is judged. */
 static void look_ahead(struct check *c) {
-    const char *text = (const char *)c->config.text, *line;
-    size_t left = c->config.length, length;
-    while ((line = words_line(&text, &left, &length)) != NULL) {
+    struct commands it = { .text = (const char *)c->config.text, .left = c->config.length };
+    while (commands_next(&it)) {
         struct words w;
-        uint64_t key;
-        if (config_zero(line, length) != NULL)
-            continue;
-        words_split(&w, line, length);
-        if (words_is(&w, 0, "device"))
+        words_split(&w, it.line, it.length);
+        if (config_zero(it.line, it.length) == NULL && words_is(&w, 0, "device"))
             (void)config_take(&c->config, &w); /* a fault is reported with its line */
-        if (!words_is(&w, 0, "A"))
-            continue;
-        c->enables = c->enables || words_is(&w, 1, "txon");
-        if (words_is(&w, 1, "txsa") && words_number(&w, 3, &key) && key < MACSEC_KEY_COUNT)
-            c->sends[key] = true;
-        if (words_is(&w, 1, "rxsa") && words_number(&w, 4, &key) && key < MACSEC_KEY_COUNT)
-            c->receives[key] = true;
+        c->enables = c->enables || it.command.kind == MACSEC_COMMAND_TX_ON;
+        if (it.command.kind == MACSEC_COMMAND_TX_SA)
+            c->sends[it.command.key] = true;
+        if (it.command.kind == MACSEC_COMMAND_RX_SA)
+            c->receives[it.command.key] = true;
     }
 }
 
-static void check_line(struct check *c, unsigned number, const char *line, size_t length) {
-    struct words w;
-    bool begins = !c->begun;
-    const char *wrong = config_zero(line, length);
-    words_split(&w, line, length);
+/* Checks a line for the endpoint. */
+static void check_command(struct check *c, const struct commands *it) {
+    macsec_config end;
+    uint32_t status = it->status;
+    if (!c->begun) {
+        if (create(c, it, &end))
+            look_at_end(c, &end);
+        return;
+    }
+    if (status == MACSEC_OK)
+        status = macsec_carry_out(&c->endpoint, &it->command);
+    if (is_good(c, status))
+        look_at_command(c, &it->command);
+}
+
+static void check_line(struct check *c, const struct commands *it) {
+    uint8_t *line = c->config.text + (it->line - (const char *)c->config.text);
+    const char *wrong = config_zero(it->line, it->length);
+    c->line = it->number;
+    words_split(&c->words, it->line, it->length);
     if (wrong != NULL) {
-        fault(c, number, "%s", wrong);
-        memset(c->config.text + (line - (const char *)c->config.text), '#', length); /* as below */
-    } else if (words_is(&w, 0, "device")) {
-        check_device_line(c, number, &w);
-        c->config.text[w.at[0] - (const char *)c->config.text] = '#'; /* for the calls that look at the others */
-    } else if (w.count > 0 && w.at[0][0] != '#' && carry_out(c, number, line, length, &w)) {
-        if (begins)
-            look_at_end(c, number, &w);
-        else
-            look_at_command(c, number, &w);
+        say(c, FAULT, "%s", wrong);
+        memset(line, '#', it->length); /* as below */
+    } else if (words_is(&c->words, 0, "device")) {
+        check_device_line(c);
+        line[c->words.at[0] - it->line] = '#'; /* for the calls that look at the others */
+    } else if (!commands_skips(it)) {
+        check_command(c, it);
     }
 }
 
 static void check_lines(struct check *c) {
-    const char *text = (const char *)c->config.text, *line, *wrong;
-    size_t left = c->config.length, length;
-    for (unsigned number = 1; !c->is_failed && (line = words_line(&text, &left, &length)) != NULL; number++)
-        check_line(c, number, line, length);
+    struct commands it = { .text = (const char *)c->config.text, .left = c->config.length };
+    const char *wrong;
+    while (!c->is_failed && commands_next(&it))
+        check_line(c, &it);
+    macsec_clear_command(&it.command);
+    c->line = 0;
     wrong = config_disagreement(&c->config);
     if (wrong != NULL)
-        fault(c, 0, "%s", wrong);
+        say(c, FAULT, "%s", wrong);
 }
 
 /* ---- The journal ---- */
@@ -374,23 +388,24 @@ static void check_journal(struct check *c) {
     struct stat about, of_folder;
     const char *wrong;
     if (!journals_path(path, sizeof path, c->name)) {
-        c->faults++;
+        c->found[FAULT]++;
         return;
     }
     memcpy(folder, path, sizeof folder);
     *strrchr(folder, '/') = '\0';
     if (lstat(path, &about) != 0 && errno == ENOENT)
-        fault(c, 0, "there is no journal %s; if the keys were never used: macsecd --create-journal %s", path, c->name);
+        say(c, FAULT, "there is no journal %s; if the keys were never used: macsecd --create-journal %s", path,
+            c->name);
     else if (lstat(path, &about) != 0 || stat(folder, &of_folder) != 0)
-        hint(c, 0, "the journal %s can't be looked at: %s", path, strerror(errno));
+        say(c, HINT, "the journal %s can't be looked at: %s", path, strerror(errno));
     else if (!S_ISREG(about.st_mode))
-        fault(c, 0, "the journal %s is not a regular file", path);
+        say(c, FAULT, "the journal %s is not a regular file", path);
     else if (about.st_uid != of_folder.st_uid)
-        fault(c, 0, "the journal %s belongs to another user than its folder, so macsecd can't write it: chown", path);
+        say(c, FAULT, "the journal %s belongs to another user than its folder, so macsecd can't write it: chown", path);
     else if ((wrong = journals_fault(path)) != NULL)
-        fault(c, 0, "the journal %s %s", path, wrong);
+        say(c, FAULT, "the journal %s %s", path, wrong);
     else if (journals_check_keys(&c->config, c->name) != 0)
-        c->faults++; /* it has said why */
+        c->found[FAULT]++; /* it has said why */
 }
 
 /* ---- The whole ---- */
@@ -409,19 +424,16 @@ static void name_tap(struct config *config, const char *name) {
 }
 
 static int finish(struct check *c) {
+    unsigned faults = c->found[FAULT], hints = c->found[HINT];
     macsec_free(&c->endpoint);
     config_wipe(&c->config);
-    if (c->is_failed) {
-        message("out of memory");
+    if (c->is_failed)
+        return message_of_memory();
+    printf("%s: %u fault%s%s, %u hint%s\n", c->config.path, faults, faults == 1 ? "" : "s",
+           faults == 0 ? "" : ", so macsecd does not start", hints, hints == 1 ? "" : "s");
+    if (messages_flush_output() != 0)
         return ENDS_FAILED;
-    }
-    printf("%s: %u fault%s%s, %u hint%s\n", c->config.path, c->faults, c->faults == 1 ? "" : "s",
-           c->faults == 0 ? "" : ", so macsecd does not start", c->hints, c->hints == 1 ? "" : "s");
-    if (fflush(stdout) != 0 || ferror(stdout)) {
-        message_of_errno("standard output");
-        return ENDS_FAILED;
-    }
-    return c->faults == 0 ? 0 : ENDS_WRONG;
+    return faults == 0 ? 0 : ENDS_WRONG;
 }
 
 int check_configuration(const char *name) {
@@ -429,10 +441,8 @@ int check_configuration(const char *name) {
     struct check *c = &check;
     const char *wrong;
     int result;
-    if (strchr(name, '/') == NULL && !config_is_name(name)) {
-        message("no device can have the name %s", name);
-        return ENDS_WRONG;
-    }
+    if (strchr(name, '/') == NULL && !config_is_name(name))
+        return message_wrong("no device can have the name %s", name);
     c->name = strchr(name, '/') == NULL ? name : NULL;
     name_tap(&c->config, name);
     result = confine_memory();
@@ -441,12 +451,13 @@ int check_configuration(const char *name) {
     if (result != 0)
         return result;
     if (wrong != NULL)
-        fault(c, 0, "%s", wrong);
+        say(c, FAULT, "%s", wrong);
     if (c->config.text == NULL)
         return finish(c);
+    c->line = 1;
     wrong = config_take_mark(&c->config);
     if (wrong != NULL)
-        fault(c, 1, "%s", wrong);
+        say(c, FAULT, "%s", wrong);
     look_ahead(c);
     find_link(c);
     check_lines(c);

@@ -1,6 +1,5 @@
 /* NAME.conf: the lines of docs/SCRIPT.md for one end, and lines of the device, which begin with the word `device`. */
-#define _GNU_SOURCE
-#include "device.h"
+#include "text.h"
 #include "workers.h"
 #include <ctype.h>
 #include <errno.h>
@@ -54,10 +53,8 @@ static const char *fault_of_file(const struct stat *status, bool is_credential) 
 
 /* Reads the text into one block, which has no copy. */
 static int read_text(struct config *c, int file, size_t size) {
-    if (size > LONGEST) {
-        message("%s has more than 1,048,576 octets", c->path);
-        return ENDS_WRONG;
-    }
+    if (size > LONGEST)
+        return message_wrong("%s has more than 1,048,576 octets", c->path);
     c->room = size + 1;
     c->text = calloc(c->room, 1);
     if (c->text == NULL) {
@@ -68,10 +65,8 @@ static int read_text(struct config *c, int file, size_t size) {
         ssize_t count = read(file, c->text + c->length, size - c->length);
         if (count < 0 && errno == EINTR)
             continue;
-        if (count < 0) {
-            message_of_errno("%s", c->path);
-            return ENDS_FAILED;
-        }
+        if (count < 0)
+            return message_of_errno("%s", c->path);
         if (count == 0)
             break;
         c->length += (size_t)count;
@@ -106,13 +101,10 @@ static int read_file(struct config *c, const char *name, bool anyhow, const char
     bool is_credential;
     int result = 0, file = open_file(c, name, &is_credential);
     *fault = NULL;
-    if (file < 0) {
-        message_of_errno("cannot open %s", c->path);
-        return ENDS_FAILED;
-    }
+    if (file < 0)
+        return message_of_errno("cannot open %s", c->path);
     if (fstat(file, &status) != 0) {
-        message_of_errno("%s", c->path);
-        result = ENDS_FAILED;
+        result = message_of_errno("%s", c->path);
     } else {
         *fault = fault_of_file(&status, is_credential);
         if (*fault == NULL || (anyhow && S_ISREG(status.st_mode)))
@@ -170,31 +162,47 @@ static bool take_workers(struct config *c, const struct words *w) {
 
 /* Takes a line that switches something on. Returns false if it is another one. */
 static bool take_switch(struct config *c, const struct words *w) {
-    bool is_alone = words_are(w, 3, "device", "isolate") && words_is(w, 2, "alone");
-    bool receives = words_are(w, 3, "device", "receive");
-    bool *says = words_are(w, 2, "device", "persist")                                  ? &c->persistent
-                 : words_are(w, 2, "device", "transient")                              ? &c->transient
-                 : words_are(w, 2, "device", "shared")                                 ? &c->shared
-                 : words_are(w, 2, "device", "isolate")                                ? &c->isolated
-                 : is_alone                                                            ? &c->alone
-                 : receives && words_is(w, 2, "ahead")                                 ? &c->ahead
-                 : receives && words_is(w, 2, "behind")                                ? &c->behind
-                 : words_are(w, 3, "device", "landlock") && words_is(w, 2, "optional") ? &c->unconfined
-                                                                                       : NULL;
-    if (says != NULL)
-        *says = true;
-    return says != NULL;
+    const struct {
+        const char *words;
+        bool *says;
+    } switches[] = {
+        { "persist", &c->persistent },
+        { "transient", &c->transient },
+        { "shared", &c->shared },
+        { "isolate", &c->isolated },
+        { "isolate alone", &c->alone },
+        { "landlock optional", &c->unconfined },
+        { "port off", &c->begins_off },
+        { "allow protect off", &c->limits.unprotected },
+        { "allow validate check", &c->limits.check },
+        { "allow validate disabled", &c->limits.disabled },
+        { "allow replay off", &c->limits.late },
+        { "allow int", &c->limits.integrity },
+        { "allow offset", &c->limits.offset },
+    };
+    for (size_t i = 0; i < sizeof switches / sizeof *switches; i++)
+        if (words_are(w, 1, switches[i].words)) {
+            *switches[i].says = true;
+            return true;
+        }
+    return false;
+}
+
+static const char *wrong_receive(const struct words *w) {
+    if (words_is(w, 2, "behind"))
+        return "`device receive behind` is gone: what is received is reserved ahead, so that no frame is delivered "
+               "twice; delete the line";
+    return "the word after `device receive` is not ahead";
 }
 
 const char *config_take(struct config *c, const struct words *w) {
-    if (words_is(w, 1, "allow"))
-        return limits_take(&c->limits, w);
     if (take_switch(c, w))
         return NULL;
+    if (words_is(w, 1, "allow"))
+        return limits_take(&c->limits, w);
     if (w->count != 3)
         return "`device link NAME`, `tap NAME`, `user NAME`, `group NAME`, `port off`, `workers N`, `receive ahead`, "
-               "`receive behind`, `persist`, `transient`, `isolate`, `shared`, `landlock optional` or `allow ..` is "
-               "expected";
+               "`persist`, `transient`, `isolate`, `shared`, `landlock optional` or `allow ..` is expected";
     if (words_is(w, 1, "link"))
         return take_name(c->link, w) ? NULL : "no network device can have this name";
     if (words_is(w, 1, "tap"))
@@ -205,10 +213,8 @@ const char *config_take(struct config *c, const struct words *w) {
         return take_user(c, w) ? NULL : "there is no such user";
     if (words_is(w, 1, "workers"))
         return take_workers(c, w) ? NULL : "the number of workers is not 0 to 8";
-    if (words_is(w, 1, "port") && words_is(w, 2, "off"))
-        return c->begins_off = true, NULL;
     if (words_is(w, 1, "receive"))
-        return "the word after `device receive` is not ahead or behind";
+        return words_is(w, 2, "ahead") ? NULL : wrong_receive(w);
     return "the word after `device` is not link, tap, user, group, port, workers, receive, persist, transient, "
            "isolate, shared, landlock or allow";
 }
@@ -238,10 +244,8 @@ static int take_lines(struct config *c) {
             wrong = config_take(c, &w);
             c->text[w.at[0] - (const char *)c->text] = '#';
         }
-        if (wrong != NULL) {
-            message("%s: line %u: %s", c->path, number, wrong);
-            return ENDS_WRONG;
-        }
+        if (wrong != NULL)
+            return message_wrong("%s: line %u: %s", c->path, number, wrong);
     }
     return 0;
 }
@@ -256,31 +260,25 @@ const char *config_disagreement(const struct config *c) {
         return "`device shared` and `device isolate` exclude each other";
     if (c->transient && c->persistent)
         return "`device transient` and `device persist` exclude each other";
-    if (c->ahead && c->behind)
-        return "`device receive ahead` and `device receive behind` exclude each other";
     if (c->transient && !c->shared)
         return "`device transient` needs `device shared`: the TAP of an isolated LINK stays";
     return NULL;
 }
 
-/* Do the lines agree? */
-static int check_lines(const struct config *c) {
-    const char *wrong = config_disagreement(c);
-    if (wrong != NULL)
-        message("%s: %s", c->path, wrong);
-    return wrong == NULL ? 0 : ENDS_WRONG;
+void config_take_end(struct config *c, const macsec_config *end) {
+    c->max_frame = end->max_frame;
+    limits_take_suite(&c->limits, end->suite);
 }
 
-void config_take_end(struct config *c) {
-    const char *line = (const char *)c->text;
-    unsigned max;
-    line += strspn(line, " \t\r\n");
-    while (*line == '#') {
-        line += strcspn(line, "\n");
-        line += strspn(line, " \t\r\n");
-    }
-    limits_take_end(&c->limits, line, strcspn(line, "\n"));
-    c->max_frame = sscanf(line, "end A %*20s %*20s %9u", &max) == 1 ? max : MACSEC_FRAME_MAX;
+/* Reads the `end` line, if there is one. What is wrong with it is reported when the endpoint is created. */
+static int read_end(struct config *c) {
+    struct commands it = { .text = (const char *)c->text, .left = c->length };
+    macsec_config end;
+    uint32_t status = commands_end(&it, &end);
+    c->max_frame = MACSEC_FRAME_MAX;
+    if (status == MACSEC_OK)
+        config_take_end(c, &end);
+    return status == MACSEC_E_MEMORY ? message_of_memory() : 0;
 }
 
 int config_read(struct config *c, const char *name) {
@@ -289,17 +287,15 @@ int config_read(struct config *c, const char *name) {
     memset(c, 0, sizeof *c);
     memcpy(c->tap, name, strlen(name));
     result = read_file(c, name, false, &fault);
-    if (result == 0 && fault != NULL) {
-        message("%s: %s", c->path, fault);
-        result = ENDS_WRONG;
-    }
-    if (result == 0)
+    if (result == 0 && fault == NULL) {
         result = take_lines(c);
+        fault = config_disagreement(c);
+    }
+    if (result == 0 && fault != NULL)
+        result = message_wrong("%s: %s", c->path, fault);
     if (result == 0)
-        result = check_lines(c);
-    if (result == 0)
-        config_take_end(c);
-    else
+        result = read_end(c);
+    if (result != 0)
         config_wipe(c);
     return result;
 }

@@ -1,7 +1,6 @@
 /* What macsecd gives up. libseccomp is not used: the lists of system calls are short, for one processor, and never
  * change while macsecd runs. Without it the program needs the C library alone. */
-#define _GNU_SOURCE
-#include "device.h"
+#include "system.h"
 #include <errno.h>
 #include <grp.h>
 #include <linux/audit.h>
@@ -23,8 +22,7 @@ int confine_memory(void) {
     const struct rlimit none = { 0, 0 };
     if (setrlimit(RLIMIT_CORE, &none) == 0 && prctl(PR_SET_DUMPABLE, 0, 0, 0, 0) == 0)
         return 0;
-    message_of_errno("core files can't be forbidden");
-    return ENDS_FAILED;
+    return message_of_errno("core files can't be forbidden");
 }
 
 /* ---- Capabilities ---- */
@@ -40,8 +38,7 @@ int confine_namespace(void) {
         if (syscall(SYS_capset, &header, sets) == 0)
             return 0;
     }
-    message_of_errno("CAP_SYS_ADMIN can't be given up");
-    return ENDS_FAILED;
+    return message_of_errno("CAP_SYS_ADMIN can't be given up");
 }
 
 /* Without CAP_SETPCAP the bounding set stays. Even so, no new privileges can be gained. */
@@ -62,18 +59,15 @@ static int leave_root(int state) {
          (setgroups(0, NULL) == 0 && setresgid(folder.st_gid, folder.st_gid, folder.st_gid) == 0 &&
           setresuid(folder.st_uid, folder.st_uid, folder.st_uid) == 0 && prctl(PR_SET_DUMPABLE, 0, 0, 0, 0) == 0)))
         return 0;
-    message_of_errno("macsecd can't become the user of the journal's folder");
-    return ENDS_FAILED;
+    return message_of_errno("macsecd can't become the user of the journal's folder");
 }
 
 static int drop_capabilities(void) {
     struct __user_cap_header_struct header = { _LINUX_CAPABILITY_VERSION_3, 0 };
     const struct __user_cap_data_struct none[2] = { { 0, 0, 0 }, { 0, 0, 0 } };
     if (prctl(PR_CAP_AMBIENT, PR_CAP_AMBIENT_CLEAR_ALL, 0, 0, 0) != 0 || syscall(SYS_capset, &header, none) != 0 ||
-        prctl(PR_SET_NO_NEW_PRIVS, 1, 0, 0, 0) != 0) {
-        message_of_errno("capabilities can't be given up");
-        return ENDS_FAILED;
-    }
+        prctl(PR_SET_NO_NEW_PRIVS, 1, 0, 0, 0) != 0)
+        return message_of_errno("capabilities can't be given up");
     return 0;
 }
 
@@ -100,8 +94,7 @@ static int restrict_files(int state, bool unconfined) {
     }
     if (set >= 0 && allow(set, state, journal) == 0 && syscall(SYS_landlock_restrict_self, set, 0) == 0)
         return close(set);
-    message_of_errno("files can't be restricted");
-    return ENDS_FAILED;
+    return message_of_errno("files can't be restricted");
 }
 
 /* ---- System calls ---- */
@@ -196,29 +189,25 @@ static unsigned short make_filter(struct sock_filter *program, const unsigned *c
     return (unsigned short)(next - program);
 }
 
-/* Filters the calls of this thread. */
-static int filter_calls(const unsigned *calls, unsigned count) {
+/* The list of each thread. */
+static const struct {
+    const unsigned *calls;
+    unsigned count;
+} lists[] = {
+    [ENDPOINT_THREAD] = { of_frames, sizeof of_frames / sizeof *of_frames },
+    [JOURNAL_THREAD] = { of_journal, sizeof of_journal / sizeof *of_journal },
+    [WORKER_THREAD] = { of_workers, sizeof of_workers / sizeof *of_workers },
+};
+
+_Static_assert(sizeof of_frames / sizeof *of_frames <= CALLS_MAX, "the list of calls is too long");
+_Static_assert(sizeof of_journal / sizeof *of_journal <= CALLS_MAX, "the list of calls is too long");
+
+int confine_calls(enum thread thread) {
     struct sock_filter program[BEFORE + CALLS_MAX + AFTER];
-    struct sock_fprog filter = { make_filter(program, calls, count), program };
-    if (prctl(PR_SET_SECCOMP, SECCOMP_MODE_FILTER, &filter, 0, 0) == 0)
-        return 0;
-    message_of_errno("the list of system calls");
-    return ENDS_FAILED;
-}
-
-_Static_assert(sizeof of_frames / sizeof of_frames[0] <= CALLS_MAX, "the list of calls is too long");
-_Static_assert(sizeof of_journal / sizeof of_journal[0] <= CALLS_MAX, "the list of calls is too long");
-
-int confine_calls(void) {
-    return filter_calls(of_frames, sizeof of_frames / sizeof of_frames[0]);
-}
-
-int confine_saver(void) {
-    return filter_calls(of_journal, sizeof of_journal / sizeof of_journal[0]);
-}
-
-int confine_worker(void) {
-    return filter_calls(of_workers, sizeof of_workers / sizeof of_workers[0]);
+    struct sock_fprog filter = { make_filter(program, lists[thread].calls, lists[thread].count), program };
+    return prctl(PR_SET_SECCOMP, SECCOMP_MODE_FILTER, &filter, 0, 0) == 0
+               ? 0
+               : message_of_errno("the list of system calls");
 }
 
 #else
@@ -229,16 +218,9 @@ static int restrict_files(int state, bool unconfined) {
     return 0;
 }
 
-int confine_calls(void) {
-    message("this build restricts neither its files nor its system calls");
-    return 0;
-}
-
-int confine_saver(void) {
-    return 0;
-}
-
-int confine_worker(void) {
+int confine_calls(enum thread thread) {
+    if (thread == ENDPOINT_THREAD)
+        message("this build restricts neither its files nor its system calls");
     return 0;
 }
 

@@ -1,5 +1,4 @@
 /* The control socket: a packet is a request, and its answer is a packet. */
-#define _GNU_SOURCE
 #include "device.h"
 #include <errno.h>
 #include <fcntl.h>
@@ -9,11 +8,6 @@
 #include <sys/stat.h>
 #include <sys/un.h>
 #include <unistd.h>
-
-/* A request is at most one octet longer than what `load` may have, so that a longer one is seen. */
-enum { REQUEST = REQUEST_MAX + 1, ANSWER = 256 * 1024 };
-
-static char request[REQUEST + 1], answer[ANSWER];
 
 /* ---- Opening ---- */
 
@@ -25,14 +19,10 @@ struct place {
 
 /* The permissions are set before anybody can connect: listen comes after it. */
 static int set_owner(const struct place *p, const struct config *c) {
-    if (c->has_group && fchownat(p->folder, p->file, (uid_t)-1, c->group, AT_SYMLINK_NOFOLLOW) != 0) {
-        message_of_errno("the group of the control socket");
-        return ENDS_FAILED;
-    }
-    if (fchmodat(p->folder, p->file, c->has_group ? 0660 : 0600, 0) != 0) {
-        message_of_errno("the mode of the control socket");
-        return ENDS_FAILED;
-    }
+    if (c->has_group && fchownat(p->folder, p->file, (uid_t)-1, c->group, AT_SYMLINK_NOFOLLOW) != 0)
+        return message_of_errno("the group of the control socket");
+    if (fchmodat(p->folder, p->file, c->has_group ? 0660 : 0600, 0) != 0)
+        return message_of_errno("the mode of the control socket");
     return 0;
 }
 
@@ -41,16 +31,12 @@ static int set_owner(const struct place *p, const struct config *c) {
 static int bind_socket(const struct control *k, const struct place *p, const struct sockaddr_un *address) {
     mode_t before;
     int result;
-    if (unlinkat(p->folder, p->file, 0) != 0 && errno != ENOENT) {
-        message_of_errno("%s", address->sun_path);
-        return ENDS_FAILED;
-    }
+    if (unlinkat(p->folder, p->file, 0) != 0 && errno != ENOENT)
+        return message_of_errno("%s", address->sun_path);
     before = umask(0177);
     result = bind(k->listener, (const struct sockaddr *)address, sizeof *address);
     (void)umask(before);
-    if (result != 0)
-        message_of_errno("%s", address->sun_path);
-    return result == 0 ? 0 : ENDS_FAILED;
+    return result == 0 ? 0 : message_of_errno("%s", address->sun_path);
 }
 
 /* Opens the folder, which is made if it is not there. */
@@ -59,14 +45,10 @@ static int open_folder(struct place *p, const char *path) {
     size_t length = (size_t)(strrchr(path, '/') - path);
     memcpy(folder, path, length);
     folder[length] = '\0';
-    if (mkdir(folder, 0755) != 0 && errno != EEXIST) {
-        message_of_errno("%s", folder);
-        return ENDS_FAILED;
-    }
+    if (mkdir(folder, 0755) != 0 && errno != EEXIST)
+        return message_of_errno("%s", folder);
     p->folder = open(folder, O_RDONLY | O_DIRECTORY | O_CLOEXEC);
-    if (p->folder < 0)
-        message_of_errno("%s", folder);
-    return p->folder < 0 ? ENDS_FAILED : 0;
+    return p->folder < 0 ? message_of_errno("%s", folder) : 0;
 }
 
 /* Opens the socket in its folder. */
@@ -74,18 +56,12 @@ static int open_socket(struct control *k, const struct place *p, const struct so
                        const struct config *c) {
     int result;
     k->listener = socket(AF_UNIX, SOCK_SEQPACKET | SOCK_NONBLOCK | SOCK_CLOEXEC, 0);
-    if (k->listener < 0) {
-        message_of_errno("control socket");
-        return ENDS_FAILED;
-    }
+    if (k->listener < 0)
+        return message_of_errno("control socket");
     result = bind_socket(k, p, address);
     if (result == 0)
         result = set_owner(p, c);
-    if (result == 0 && listen(k->listener, CLIENTS) != 0) {
-        message_of_errno("control socket");
-        result = ENDS_FAILED;
-    }
-    return result;
+    return result == 0 && listen(k->listener, CLIENTS) != 0 ? message_of_errno("control socket") : result;
 }
 
 int control_open(struct control *k, const char *name, const struct config *c) {
@@ -95,10 +71,8 @@ int control_open(struct control *k, const char *name, const struct config *c) {
     for (int i = 0; i < CLIENTS; i++)
         k->clients[i] = -1;
     k->listener = -1;
-    if (!config_path(address.sun_path, sizeof address.sun_path, "RUNTIME_DIRECTORY", "/run/macsec", name, ".sock")) {
-        message("the path of the control socket is too long");
-        return ENDS_WRONG;
-    }
+    if (!config_path(address.sun_path, sizeof address.sun_path, "RUNTIME_DIRECTORY", "/run/macsec", name, ".sock"))
+        return message_wrong("the path of the control socket is too long");
     snprintf(place.file, sizeof place.file, "%s.sock", name);
     result = open_folder(&place, address.sun_path);
     if (result != 0)
@@ -149,7 +123,7 @@ static int make_place(struct device *d, bool for_root) {
 
 int control_accept(struct device *d) {
     struct control *k = &d->control;
-    int octets = ANSWER, at, client = accept4(k->listener, NULL, NULL, SOCK_NONBLOCK | SOCK_CLOEXEC);
+    int octets = sizeof k->answer, at, client = accept4(k->listener, NULL, NULL, SOCK_NONBLOCK | SOCK_CLOEXEC);
     bool root = client >= 0 && is_root(client), was_held_up = k->held_up;
     k->held_up = client < 0 && errno != EAGAIN && errno != ECONNABORTED && errno != EINTR;
     if (k->held_up && !was_held_up)
@@ -171,31 +145,27 @@ int control_accept(struct device *d) {
 /* ---- Requests ---- */
 
 bool control_send(struct device *d, int index, const char *octets, size_t length) {
-    ssize_t sent;
-    do
-        sent = send(d->control.clients[index], octets, length, MSG_DONTWAIT | MSG_NOSIGNAL);
-    while (sent < 0 && errno == EINTR);
+    ssize_t sent = TEMP_FAILURE_RETRY(send(d->control.clients[index], octets, length, MSG_DONTWAIT | MSG_NOSIGNAL));
     if (sent < 0)
         close_client(d, index); /* it does not read its answers, or has gone */
     return sent >= 0;
 }
 
 bool control_answer(struct device *d, int index) {
-    struct text t = { answer, 0, sizeof answer, false };
-    int client = d->control.clients[index];
+    struct control *k = &d->control;
+    struct text t = { k->answer, 0, sizeof k->answer, false };
     bool waits;
-    ssize_t count, length = recv(client, request, REQUEST, MSG_DONTWAIT);
+    ssize_t length = recv(k->clients[index], k->request, REQUEST_MAX + 1, MSG_DONTWAIT);
     if (length < 0 && (errno == EAGAIN || errno == EINTR))
         return true;
     if (length <= 0) {
         close_client(d, index);
         return false;
     }
-    count = length;
-    request[length] = '\0';
+    k->request[length] = '\0';
     d->counts.requests++;
-    d->control.used[index] = ++d->control.uses;
-    waits = requests_answer(d, &t, index, request, (size_t)length);
-    explicit_bzero(request, (size_t)count); /* it may be a key */
-    return (waits && waits_keep(d, index, answer, t.length)) || control_send(d, index, answer, t.length);
+    k->used[index] = ++k->uses;
+    waits = requests_answer(d, &t, index, k->request, (size_t)length);
+    explicit_bzero(k->request, (size_t)length); /* it may be a key */
+    return (waits && waits_keep(d, index, k->answer, t.length)) || control_send(d, index, k->answer, t.length);
 }

@@ -5,27 +5,25 @@
 #include <stdlib.h>
 #include <string.h>
 
-/* The most octets of a line, as the library has it. */
-enum { LINE_LONGEST = 20000 };
-
-/* What a line that was carried out means for the device. `passes`: a key agreement owns the device, so the key of the
- * line does not come again once it is retired. */
-static void note(struct device *d, const struct words *w, bool passes) {
-    uint64_t key;
+/* What a command that was carried out means for the device. `passes`: a key agreement owns the device, so the key of
+ * the command does not come again once it is retired. */
+static void note(struct device *d, const macsec_command *c, bool passes) {
     workers_forget(d->workers);
     floods_end(d);
-    keys_note(w);
-    totals_note(w);
-    if (words_is(w, 0, "A") && words_number(w, 2, &key)) {
-        if (words_is(w, 1, "key"))
-            numbers_note_key(d->numbers, key, passes);
-        if (words_is(w, 1, "retire"))
-            numbers_note_retired(d->numbers, key, passes);
-    }
-    if (words_is(w, 0, "A") && words_is(w, 1, "txsa"))
+    keys_note(d->keys, c);
+    totals_note(&d->totals, c);
+    if (c->kind == MACSEC_COMMAND_KEY)
+        numbers_note_key(d->numbers, c->key, passes);
+    if (c->kind == MACSEC_COMMAND_RETIRE)
+        numbers_note_retired(d->numbers, c->key, passes);
+    if (c->kind == MACSEC_COMMAND_TX_SA)
         numbers_reserve(d->numbers, d->endpoint);
-    if (words_is(w, 0, "A") && words_is(w, 1, "rxsa"))
+    if (c->kind == MACSEC_COMMAND_RX_SA)
         numbers_accept(d->numbers, d->endpoint);
+}
+
+struct result result_of(uint32_t status) {
+    return (struct result){ NULL, status, 0, MACSEC_COMMAND_NONE };
 }
 
 /* ---- Creation and end ---- */
@@ -39,191 +37,154 @@ void endpoint_close(struct device *d) {
     port_set(d, false);
     floods_end(d);
     workers_forget(d->workers);
-    numbers_save(d->numbers, d->endpoint, NULL);
+    numbers_note_accepted(d->numbers, d->endpoint, NULL);
     numbers_forget(d->numbers);
     macsec_free(d->endpoint);
-    keys_wipe();
-    totals_clear();
+    keys_wipe(d->keys);
+    memset(&d->totals, 0, sizeof d->totals);
 }
 
-/* Creates an endpoint of an `end` line, which replaces the one that there is. If it fails, nothing has changed. */
-static uint32_t create(struct device *d, const char *line, size_t length) {
+/* Creates an endpoint, which replaces the one that there is. If it fails, nothing has changed. */
+static uint32_t create(struct device *d, const macsec_config *end) {
     macsec_endpoint *e = &d->handles[d->endpoint == &d->handles[0]];
-    char copy[END_LINE];
-    struct text end = { copy, 0, sizeof copy, false };
-    struct words w;
     uint32_t status;
-    numbers_save(d->numbers, d->endpoint, NULL); /* its associations may come again at the new one */
-    status = numbers_configure(d->numbers, e, line, length, NULL, 0);
+    numbers_note_accepted(d->numbers, d->endpoint, NULL); /* its associations may come again at the new one */
+    status = numbers_configure(d->numbers, e, end, NULL, 0);
     if (status != MACSEC_OK)
         return status;
-    words_split(&w, line, length);
-    for (unsigned i = 0; i < w.count; i++) /* six words: SUITE, SCI and FORM are short, MAX has at most 20 digits */
-        text_add(&end, "%.*s ", (int)w.length[i], w.at[i]);
-    if (end.full) {
-        macsec_free(e);
-        return MACSEC_E_LINE_LONG;
-    }
     endpoint_close(d);
     d->endpoint = e;
-    memcpy(d->end_line, copy, sizeof copy);
+    d->end = *end;
     return status;
 }
 
 struct result endpoint_open(struct device *d, const struct words *w) {
-    struct result r = { NULL, MACSEC_OK, 0 };
     char line[4 * WORD], suite[WORD], sci[WORD], form[WORD] = "sci";
-    uint32_t max = d->link.mtu + 14 < MACSEC_FRAME_MAX ? d->link.mtu + 14 : MACSEC_FRAME_MAX;
+    macsec_config end;
+    uint32_t status, max = d->link.mtu + 14 < MACSEC_FRAME_MAX ? d->link.mtu + 14 : MACSEC_FRAME_MAX;
     if (!words_copy(w, 1, sci, sizeof sci) || !words_copy(w, 2, suite, sizeof suite) || w->count > 4 ||
-        (w->count == 4 && !words_copy(w, 3, form, sizeof form))) {
-        r.status = MACSEC_E_LINE_COUNT;
-        return r;
-    }
+        (w->count == 4 && !words_copy(w, 3, form, sizeof form)))
+        return result_of(MACSEC_E_LINE_COUNT);
     snprintf(line, sizeof line, "end A %s %s %u %s", suite, sci, (unsigned)max, form);
-    r.status = strchr(line, '\n') != NULL ? MACSEC_E_LINE_WORD : create(d, line, strlen(line));
-    return r;
+    status = macsec_parse_end((const uint8_t *)line, strlen(line), &end);
+    return result_of(status == MACSEC_OK ? create(d, &end) : status);
 }
 
 /* ---- The configuration ---- */
 
-/* Carries out the lines after the `end` line. */
-static uint32_t configure_lines(struct device *d, const char *text, size_t left, uint32_t *number) {
-    const char *line;
-    size_t length;
-    while ((line = words_line(&text, &left, &length)) != NULL) {
-        struct words w;
-        uint64_t raised;
-        uint32_t status = lines_carry_out(d->numbers, d->endpoint, line, length, &raised);
-        ++*number;
-        if (status != MACSEC_OK)
-            return status;
-        words_split(&w, line, length);
-        note(d, &w, false);
-        if (raised != 0)
-            message("line %u: the association begins at packet number %llx, since lower ones may have been %s",
-                    (unsigned)*number, (unsigned long long)raised,
-                    words_is(&w, 1, "rxsa") ? "delivered: frames of the peer with those are dropped" : "used");
-    }
-    return MACSEC_OK;
-}
-
-/* Does the library skip this line? */
-static bool is_skipped(const char *line, size_t length) {
-    struct words w;
-    words_split(&w, line, length);
-    return w.count == 0 || w.at[0][0] == '#';
+/* Carries out a line after the `end` line. */
+static uint32_t configure_line(struct device *d, const struct commands *it) {
+    uint64_t raised = 0;
+    uint32_t status = it->status;
+    if (status == MACSEC_OK)
+        status = lines_carry_out(d->numbers, d->endpoint, &it->command, &raised);
+    if (status == MACSEC_OK)
+        note(d, &it->command, false);
+    if (raised != 0)
+        message("line %u: the association begins at packet number %llx, since lower ones may have been %s", it->number,
+                (unsigned long long)raised,
+                it->command.kind == MACSEC_COMMAND_RX_SA ? "delivered: frames of the peer with those are dropped"
+                                                         : "used");
+    return status;
 }
 
 uint32_t endpoint_configure(struct device *d, const char *text, size_t length, uint32_t *line) {
-    const char *first;
-    size_t end;
-    *line = 0;
-    while ((first = words_line(&text, &length, &end)) != NULL) {
-        uint32_t status;
-        ++*line;
-        if (is_skipped(first, end))
-            continue;
-        status = create(d, first, end);
-        return status == MACSEC_OK ? configure_lines(d, text, length, line) : status;
-    }
-    return MACSEC_OK;
+    struct commands it = { .text = text, .left = length };
+    macsec_config end;
+    uint32_t status = commands_end(&it, &end);
+    if (status == MACSEC_OK)
+        status = create(d, &end);
+    while (status == MACSEC_OK && commands_next(&it))
+        status = configure_line(d, &it);
+    macsec_clear_command(&it.command);
+    *line = it.number;
+    return status == MACSEC_E_EMPTY ? MACSEC_OK : status; /* without a line there is no endpoint */
 }
 
 /* ---- Requests ---- */
 
-/* Has the endpoint taken all the keys that it can take, and is the number of this line's key retired? */
-static bool is_at_end(const struct device *d, const struct words *w) {
+/* What lines mean for the device, now that a second endpoint has carried them out. */
+static void note_lines(struct device *d, const char *lines, size_t left) {
+    struct commands it = { .text = lines, .left = left };
+    while (commands_next(&it)) {
+        note(d, &it.command, d->port.owner >= 0);
+        if (it.status == MACSEC_E_MEMORY)
+            message("out of memory: no further endpoint can take over the key of line %u of `load`", it.number);
+    }
+}
+
+/* Has the endpoint taken all the keys that it can take, and is the number of this key retired? */
+static bool is_at_end(const struct device *d, const macsec_command *c) {
     uint32_t left;
-    uint64_t number;
-    return words_is(w, 1, "key") && words_number(w, 2, &number) && !keys_has(number) &&
+    return c->kind == MACSEC_COMMAND_KEY && !keys_has(d->keys, c->key) &&
            macsec_keys_left(d->endpoint, &left) == MACSEC_OK && left == 0;
 }
 
-/* Carries out the line of a key at a second endpoint. */
-static struct result command_of_next(struct device *d, const char *line, size_t length) {
-    struct result r = { NULL, MACSEC_E_MEMORY, 0 };
-    macsec_endpoint *e = handover_begin(d);
-    if (e == NULL)
-        return r;
-    r.status = lines_carry_out(d->numbers, e, line, length, &r.raised);
-    if (r.status != MACSEC_OK)
-        macsec_free(e);
-    else if (!handover_finish(d, e))
-        r.fault = "Journal";
+/* Carries out a command at the endpoint, or tries it at a copy. `status` is the library's for its line. */
+static struct result carry_out(struct device *d, macsec_endpoint *e, uint32_t status, const macsec_command *c) {
+    struct result r = { NULL, status, 0, c->kind };
+    if (status != MACSEC_OK)
+        r.status = endpoint_is_open(d) ? status : MACSEC_E_EMPTY;
+    else if (!limits_allow(&d->config.limits, c))
+        r.fault = "NotAllowed";
     else
-        message("the endpoint had taken %u keys: a second one goes on", MACSEC_KEY_COUNT);
+        r.status = lines_carry_out(d->numbers, e, c, &r.raised);
+    if (r.fault == NULL && r.status == MACSEC_OK && e == d->endpoint)
+        note(d, c, d->port.owner >= 0);
     return r;
 }
 
-struct result endpoint_command(struct device *d, const char *line, size_t length) {
-    struct result r = { NULL, MACSEC_OK, 0 };
-    struct words w;
-    words_split(&w, line, length);
-    if (!limits_allow(&d->config.limits, &w)) {
-        r.fault = "NotAllowed";
-        return r;
+/* Carries out the command for a key at a second endpoint. */
+static struct result command_of_next(struct device *d, const macsec_command *c) {
+    macsec_endpoint *e = handover_begin(d);
+    struct result r;
+    if (e == NULL)
+        return result_of(MACSEC_E_MEMORY);
+    r = carry_out(d, e, MACSEC_OK, c);
+    if (r.status != MACSEC_OK) {
+        macsec_free(e);
+    } else if (!handover_finish(d, e)) {
+        r.fault = "Journal";
+    } else {
+        message("the endpoint had taken %u keys: a second one goes on", MACSEC_KEY_COUNT);
+        note(d, c, d->port.owner >= 0);
     }
-    r.status = lines_carry_out(d->numbers, d->endpoint, line, length, &r.raised);
-    if (r.status == MACSEC_E_KEY_NUMBER_USED && is_at_end(d, &w))
-        r = command_of_next(d, line, length);
-    if (r.fault == NULL && r.status == MACSEC_OK)
-        note(d, &w, port_has_owner(d));
+    return r;
+}
+
+/* Carries out a command at the endpoint, or at a second one if the first can take no more keys. */
+static struct result command(struct device *d, uint32_t status, const macsec_command *c) {
+    struct result r = carry_out(d, d->endpoint, status, c);
+    return r.status == MACSEC_E_KEY_NUMBER_USED && is_at_end(d, c) ? command_of_next(d, c) : r;
+}
+
+struct result endpoint_command(struct device *d, const char *line, size_t length) {
+    macsec_command c;
+    uint32_t status = macsec_parse_line((const uint8_t *)line, length, &c);
+    struct result r = command(d, status, &c);
+    macsec_clear_command(&c);
     return r;
 }
 
 /* ---- All lines or none ---- */
 
-/* What `load` does with a line. */
-typedef struct result (*line_action)(struct device *d, macsec_endpoint *copy, const char *line, size_t length);
-
-/* Carries it out at a copy of the endpoint. */
-static struct result try_line(struct device *d, macsec_endpoint *copy, const char *line, size_t length) {
-    struct result r = { NULL, MACSEC_OK, 0 };
-    struct words w;
-    words_split(&w, line, length);
-    if (!limits_allow(&d->config.limits, &w))
-        r.fault = "NotAllowed";
-    else
-        r.status = lines_carry_out(d->numbers, copy, line, length, &r.raised);
-    return r;
-}
-
-/* Carries it out at the endpoint, after a copy has taken it. */
-static struct result do_line(struct device *d, macsec_endpoint *copy, const char *line, size_t length) {
-    struct result r = { NULL, MACSEC_OK, 0 };
-    struct words w;
-    (void)copy;
-    words_split(&w, line, length);
-    r.status = lines_carry_out(d->numbers, d->endpoint, line, length, &r.raised);
-    if (r.status == MACSEC_OK)
-        note(d, &w, port_has_owner(d));
-    return r;
-}
-
-/* Carries it out alone. */
-static struct result do_only_line(struct device *d, macsec_endpoint *copy, const char *line, size_t length) {
-    (void)copy;
-    return endpoint_command(d, line, length);
-}
-
-/* Does this with each line, and adds the answers. Returns false if one was refused: then the answer is for this line
- * alone. */
-static bool load_lines(struct device *d, macsec_endpoint *copy, line_action action, struct text *t, const char *lines,
-                       size_t left) {
-    const char *line;
-    size_t length;
+/* Carries out each line at the endpoint or at a copy, or alone if `e` is NULL, and adds the answers. Returns false if
+ * one was refused: then the answer is for this line alone. */
+static bool load_lines(struct device *d, macsec_endpoint *e, struct text *t, const char *lines, size_t left) {
+    struct commands it = { .text = lines, .left = left };
     bool fails = false;
     t->length = 0;
-    for (unsigned number = 1; !fails && (line = words_line(&lines, &left, &length)) != NULL; number++) {
-        struct result r = action(d, copy, line, length);
+    while (!fails && commands_next(&it)) {
+        struct result r = e == NULL ? command(d, it.status, &it.command) : carry_out(d, e, it.status, &it.command);
         fails = r.fault != NULL || r.status != MACSEC_OK;
-        if (is_skipped(line, length) && !fails)
+        if (commands_skips(&it) && !fails)
             continue;
         if (fails)
             t->length = 0;
-        text_add(t, "%u ", number);
-        answer_result(t, &r);
+        text_add(t, "%u ", it.number);
+        answer_result(t, r);
     }
+    macsec_clear_command(&it.command);
     if (t->length == 0)
         text_add(t, "ok\n");
     return !fails && !t->full;
@@ -231,23 +192,12 @@ static bool load_lines(struct device *d, macsec_endpoint *copy, line_action acti
 
 /* How many lines can be refused? 2 means two or more. */
 static unsigned lines_to_do(const char *lines, size_t left) {
-    const char *line;
-    size_t length;
+    struct commands it = { .text = lines, .left = left };
     unsigned count = 0;
-    while (count < 2 && (line = words_line(&lines, &left, &length)) != NULL)
-        count += !is_skipped(line, length) || length > LINE_LONGEST;
+    while (count < 2 && commands_next(&it))
+        count += !commands_skips(&it);
+    macsec_clear_command(&it.command);
     return count;
-}
-
-/* What the lines mean for the device, now that a second endpoint has carried them out. */
-static void note_lines(struct device *d, const char *lines, size_t left) {
-    const char *line;
-    size_t length;
-    while ((line = words_line(&lines, &left, &length)) != NULL) {
-        struct words w;
-        words_split(&w, line, length);
-        note(d, &w, port_has_owner(d));
-    }
 }
 
 /* Carries out lines that a copy has taken, at the endpoint itself: so no packet number is skipped. The endpoint can
@@ -255,15 +205,14 @@ static void note_lines(struct device *d, const char *lines, size_t left) {
  * lines, and its answers are those. */
 static void do_lines(struct device *d, macsec_endpoint *copy, struct text *t, const char *lines, size_t length) {
     struct text tried = { malloc(t->length), t->length, t->length, false };
-    struct result r = { NULL, MACSEC_E_MEMORY, 0 };
     if (tried.octets == NULL) {
         macsec_free(copy);
         t->length = 0;
-        answer_result(t, &r);
+        answer_result(t, result_of(MACSEC_E_MEMORY));
         return;
     }
     memcpy(tried.octets, t->octets, tried.length);
-    if (load_lines(d, copy, do_line, t, lines, length)) {
+    if (load_lines(d, d->endpoint, t, lines, length)) {
         macsec_free(copy);
         (void)numbers_reserve_soon(d->numbers, d->endpoint, HANDOVER_WAITS); /* a failure is reported */
     } else {
@@ -278,16 +227,14 @@ static void do_lines(struct device *d, macsec_endpoint *copy, struct text *t, co
 }
 
 void endpoint_load(struct device *d, struct text *t, const char *lines, size_t length) {
-    struct result r = { NULL, MACSEC_E_MEMORY, 0 };
     macsec_endpoint *copy;
     if (!endpoint_is_open(d)) {
-        r.status = MACSEC_E_EMPTY;
-        answer_result(t, &r);
+        answer_result(t, result_of(MACSEC_E_EMPTY));
     } else if (lines_to_do(lines, length) < 2) {
-        (void)load_lines(d, NULL, do_only_line, t, lines, length); /* the answer says what became of it */
+        (void)load_lines(d, NULL, t, lines, length); /* the answer says what became of it */
     } else if ((copy = handover_begin(d)) == NULL) {
-        answer_result(t, &r);
-    } else if (load_lines(d, copy, try_line, t, lines, length)) {
+        answer_result(t, result_of(MACSEC_E_MEMORY));
+    } else if (load_lines(d, copy, t, lines, length)) {
         do_lines(d, copy, t, lines, length);
     } else {
         macsec_free(copy);

@@ -1,7 +1,6 @@
 /* Floods of LINK: frames that the endpoint drops unopened, many in a second. The system then drops the next ones before
  * it copies them, so that the other frames get through. No counter of the endpoint has them. So this is done only while
  * the endpoint is strict, and ends after a second, and when a line may have changed the endpoint. */
-#define _GNU_SOURCE
 #include "device.h"
 #include <linux/filter.h>
 #include <sys/socket.h>

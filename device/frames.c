@@ -15,7 +15,7 @@ void frames_sent(struct device *d, const macsec_sent *sent) {
         d->counts.no_reservation++;
     history_sent(&d->history, sent);
     if (sent->length > 0)
-        link_append(sent->frame, sent->length, &d->counts);
+        link_append(&d->link, sent->frame, sent->length, &d->counts);
 }
 
 uint32_t frames_send(struct device *d, const struct frame *frame) {
@@ -48,7 +48,7 @@ enum outcome frames_from_client(struct device *d) {
     enum outcome outcome = DONE, left;
     if (d->workers != NULL)
         return parallel_from_client(d);
-    for (unsigned i = link_waiting(); outcome == DONE && i < BATCH; i++) {
+    for (unsigned i = link_waiting(&d->link); outcome == DONE && i < BATCH; i++) {
         struct frame frame;
         outcome = tap_read(&d->tap, &frame);
         if (outcome == DONE)
@@ -69,14 +69,14 @@ static enum outcome received(struct device *d, const macsec_received *got) {
     d->counts.link_earlier_run += got->verdict == MACSEC_VERDICT_EARLIER_RUN;
     history_received(&d->history, got);
     floods_note(d, got->verdict);
-    numbers_received(d->numbers, d->endpoint, got, held_count(d));
+    numbers_received(d->numbers, d->endpoint, got, held_frames_count(d));
     return outcome;
 }
 
 enum outcome frames_judged(struct device *d, const macsec_received *got, const struct frame *frame) {
-    if (got->verdict != MACSEC_VERDICT_NO_RESERVATION || !held_keep(d, frame->octets, frame->length))
+    if (got->verdict != MACSEC_VERDICT_NO_RESERVATION || !held_frames_keep(d, frame->octets, frame->length))
         return received(d, got);
-    numbers_received(d->numbers, d->endpoint, got, held_count(d));
+    numbers_received(d->numbers, d->endpoint, got, held_frames_count(d));
     return DONE;
 }
 
@@ -87,25 +87,29 @@ enum outcome frames_present(struct device *d, const struct frame *frame) {
 }
 
 enum outcome frames_receive(struct device *d, const struct frame *frame) {
-    enum outcome outcome = held_give(d);
+    enum outcome outcome = held_frames_give(d);
     return outcome == GONE ? outcome : frames_present(d, frame);
 }
 
+/* With workers, one frame alone takes the path without them too. */
 enum outcome frames_from_link(struct device *d) {
     struct unfinished frames[BATCH];
     unsigned count;
-    enum outcome outcome;
-    if (d->workers != NULL)
-        return parallel_from_link(d);
-    outcome = link_read(&d->link, frames, &count);
+    enum outcome outcome = parallel_deliver(d);
+    bool alone;
+    if (outcome == DONE)
+        outcome = link_read(&d->link, frames, &count);
+    if (outcome != DONE)
+        return outcome;
+    alone = d->workers == NULL || (count == 1 && workers_under_way(d->workers, RECEIVING) == 0);
     for (unsigned i = 0; i < count; i++) {
         struct segments s;
         struct frame frame;
         segments_begin(&s, &frames[i]);
         while (segments_next(&s, &frame))
-            if (frames_receive(d, &frame) == GONE)
+            if ((alone ? frames_receive(d, &frame) : parallel_receive(d, &frame, i, s.header == 0)) == GONE)
                 return GONE;
     }
     floods_stop(d);
-    return outcome;
+    return parallel_deliver(d);
 }

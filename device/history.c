@@ -1,10 +1,6 @@
 /* When frames last went each way, and why the last one was dropped: for people who look at a running device. */
-#include "device.h"
+#include "frames.h"
 #include <string.h>
-
-void history_tick(struct history *h, uint64_t seconds) {
-    h->seconds += seconds;
-}
 
 /* The time by which a frame is noted. */
 static uint64_t now(const struct history *h) {

@@ -1,7 +1,6 @@
 /* The process that has TAP: /proc says of each file of /dev/net/tun which TAP it is attached to. Root sees the files of
  * all processes, and macsecd as another user at most its own. */
-#define _GNU_SOURCE
-#include "device.h"
+#include "frames.h"
 #include <ctype.h>
 #include <dirent.h>
 #include <fcntl.h>

@@ -310,9 +310,8 @@ static int read_records(struct journal *journal, off_t length, size_t limit, str
     if ((uintmax_t)length > JOURNAL_MAX)
         return failed(fault, JOURNAL_LENGTH, EFBIG);
     journal->length = (size_t)length / MACSEC_RECORD_LENGTH * MACSEC_RECORD_LENGTH;
-    journal->own = journal->length;
     /* What an earlier process failed to make durable, a name too, a later synchronization does not make up for. So the
-     * first call writes the whole journal into a new file. */
+     * whole journal has to be written into a new file first. */
     journal->in_doubt = true;
     journal->room = journal->length < limit ? limit : journal->length;
     journal->octets = malloc(journal->room);
@@ -352,29 +351,25 @@ void journal_close(struct journal *journal) {
 
 /* ---- Rewriting ---- */
 
-static int grow(struct journal *journal, size_t length, struct journal_fault *fault) {
+int journal_make_room(struct journal *journal, size_t length, struct journal_fault *fault) {
+    size_t room = 2 * (length + JOURNAL_FILL);
     uint8_t *grown;
-    if (length <= journal->room)
-        return 0;
-    if (length > JOURNAL_MAX)
+    if (2 * length > JOURNAL_MAX)
         return failed(fault, JOURNAL_LENGTH, EFBIG);
-    grown = realloc(journal->octets, length);
+    if (room > JOURNAL_MAX)
+        room = JOURNAL_MAX;
+    if (room <= journal->room)
+        return 0;
+    grown = realloc(journal->octets, room);
     if (grown == NULL)
         return failed(fault, JOURNAL_MEMORY, ENOMEM);
     journal->octets = grown;
-    grown = realloc(journal->spare, length);
+    grown = realloc(journal->spare, room);
     if (grown == NULL)
         return failed(fault, JOURNAL_MEMORY, ENOMEM);
     journal->spare = grown;
-    journal->room = length;
+    journal->room = room;
     return 0;
-}
-
-int journal_make_room(struct journal *journal, size_t length, struct journal_fault *fault) {
-    size_t room = 2 * (length + JOURNAL_FILL);
-    if (2 * length > JOURNAL_MAX)
-        return failed(fault, JOURNAL_LENGTH, EFBIG);
-    return grow(journal, room < JOURNAL_MAX ? room : JOURNAL_MAX, fault);
 }
 
 /* Goes on with the file that has taken the place of the old one. */
@@ -384,7 +379,6 @@ static int take_new_file(struct journal *journal, int file, size_t length, struc
     journal->spare = journal->octets;
     journal->octets = octets;
     journal->length = length;
-    journal->own = MACSEC_RECORD_LENGTH;
     close_file(journal->file);
     journal->file = file;
     return note_file(journal, &written, fault);
@@ -415,15 +409,6 @@ static int put_spare(struct journal *journal, size_t length, struct journal_faul
     return 0;
 }
 
-int journal_rewrite(struct journal *journal, struct journal_fault *fault) {
-    size_t length = 0;
-    uint32_t status = macsec_journal_compacted(journal->octets, journal->length, journal->spare, &length);
-    journal->in_doubt = true;
-    if (status != MACSEC_OK)
-        return failed_in_library(fault, status);
-    return journal_make_room(journal, length, fault) != 0 ? -1 : put_spare(journal, length, fault);
-}
-
 int journal_replace(struct journal *journal, const uint8_t *octets, size_t length, struct journal_fault *fault) {
     journal->in_doubt = true;
     if (length + JOURNAL_FILL > journal->room)
@@ -432,49 +417,7 @@ int journal_replace(struct journal *journal, const uint8_t *octets, size_t lengt
     return put_spare(journal, length, fault);
 }
 
-/* ---- The endpoint ---- */
-
-static int check_endpoint(const struct journal *journal, const macsec_endpoint *e, struct journal_fault *fault) {
-    return journal->endpoint == e ? 0 : failed(fault, JOURNAL_ENDPOINT, EBUSY);
-}
-
-/* Gives the journal to an endpoint that was made beside it. */
-static int give(struct journal *journal, const macsec_endpoint *e, uint32_t status, struct journal_fault *fault) {
-    if (status != MACSEC_OK)
-        return failed_in_library(fault, status);
-    journal->endpoint = e;
-    return 0;
-}
-
-int journal_make_endpoint(struct journal *journal, macsec_endpoint *e, const macsec_config *config, bool ahead,
-                          struct journal_fault *fault) {
-    if (check_endpoint(journal, NULL, fault) != 0)
-        return -1;
-    return give(journal, e, macsec_reserve_open(e, config, journal->octets, journal->length, ahead), fault);
-}
-
-int journal_configure(struct journal *journal, macsec_endpoint *e, const char *text, size_t length, bool ahead,
-                      uint32_t *line, struct journal_fault *fault) {
-    uint32_t status;
-    if (check_endpoint(journal, NULL, fault) != 0)
-        return -1;
-    status = macsec_reserve_configure(e, (const uint8_t *)text, length, journal->octets, journal->length, ahead, line);
-    return give(journal, e, status, fault);
-}
-
-void journal_hand_over(struct journal *journal, const macsec_endpoint *next) {
-    journal->endpoint = next;
-}
-
 /* ---- Records ---- */
-
-/* Has this process made the record durable? One that was read may be in the page cache only. */
-static bool has_record(const struct journal *journal, const macsec_record *record) {
-    for (size_t at = journal->length; at > journal->own; at -= MACSEC_RECORD_LENGTH)
-        if (memcmp(journal->octets + at - MACSEC_RECORD_LENGTH, record->octets, MACSEC_RECORD_LENGTH) == 0)
-            return true;
-    return false;
-}
 
 /* Writes records with all others into a new file. */
 static int append_in_new_file(struct journal *journal, const uint8_t *records, size_t length,
@@ -505,121 +448,22 @@ static int append_sector(struct journal *journal, const uint8_t *records, size_t
 }
 
 int journal_append_all(struct journal *journal, const uint8_t *records, size_t length, struct journal_fault *fault) {
-    size_t more = length <= SECTOR ? SECTOR : length + JOURNAL_FILL;
-    if ((journal->in_doubt || journal->length + more > journal->room) && journal_rewrite(journal, fault) != 0)
-        return -1;
-    if (journal->length % SECTOR != 0) /* a header alone */
-        more = length + JOURNAL_FILL;
-    if (grow(journal, journal->length + more, fault) != 0)
-        return -1;
-    return more == SECTOR ? append_sector(journal, records, length, fault)
-                          : append_in_new_file(journal, records, length, fault);
-}
-
-int journal_append(struct journal *journal, const macsec_record *record, struct journal_fault *fault) {
-    struct journal_fault cut;
-    if (!journal->in_doubt && check_length(journal, journal->length, &cut) != 0)
-        journal->in_doubt = true; /* so it is written again */
-    if (!journal->in_doubt && has_record(journal, record))
-        return 0;
-    return journal_append_all(journal, record->octets, MACSEC_RECORD_LENGTH, fault);
-}
-
-/* Makes a record durable, and then reports it to the endpoint. */
-static int append_and_report(struct journal *journal, macsec_endpoint *e, const macsec_record *record,
-                             struct journal_fault *fault) {
-    uint32_t status;
-    if (journal_append(journal, record, fault) != 0)
-        return -1;
-    status = macsec_reserve_granted(e, record);
-    return status != MACSEC_OK ? failed_in_library(fault, status) : 0;
-}
-
-int journal_reserve(struct journal *journal, macsec_endpoint *e, uint8_t an, uint64_t amount,
-                    struct journal_fault *fault) {
-    macsec_record record;
-    uint32_t status;
-    if (check_endpoint(journal, e, fault) != 0)
-        return -1;
-    status = macsec_reserve_wanted(e, an, amount, &record);
-    if (status == MACSEC_E_NOT_FOUND)
-        return 0;
-    return status != MACSEC_OK ? failed_in_library(fault, status) : append_and_report(journal, e, &record, fault);
-}
-
-int journal_accept(struct journal *journal, macsec_endpoint *e, const uint8_t sci[8], uint8_t an, uint64_t amount,
-                   uint64_t pn, struct journal_fault *fault) {
-    macsec_record record;
-    uint32_t status;
-    if (check_endpoint(journal, e, fault) != 0)
-        return -1;
-    status = macsec_reserve_to_accept(e, sci, an, amount, pn, &record);
-    if (status == MACSEC_E_NOT_FOUND)
-        return 0;
-    return status != MACSEC_OK ? failed_in_library(fault, status) : append_and_report(journal, e, &record, fault);
-}
-
-int journal_save(struct journal *journal, macsec_endpoint *e, const uint8_t sci[8], uint8_t an,
-                 struct journal_fault *fault) {
-    macsec_record record;
-    uint32_t status;
-    if (check_endpoint(journal, e, fault) != 0)
-        return -1;
-    status = macsec_reserve_to_save(e, sci, an, &record);
-    if (status == MACSEC_E_NOT_FOUND)
-        return 0;
-    return status != MACSEC_OK ? failed_in_library(fault, status) : append_and_report(journal, e, &record, fault);
-}
-
-uint64_t journal_amount(uint64_t frames_per_second) {
-    if (frames_per_second > UINT64_MAX / 2)
-        return UINT64_MAX;
-    return frames_per_second < JOURNAL_AMOUNT_MIN / 2 ? JOURNAL_AMOUNT_MIN : 2 * frames_per_second;
+    if (journal->in_doubt || journal->length + length + JOURNAL_FILL > journal->room)
+        return failed(fault, JOURNAL_LENGTH, journal->in_doubt ? ESTALE : EFBIG);
+    return length <= SECTOR && journal->length % SECTOR == 0 /* no header alone */
+               ? append_sector(journal, records, length, fault)
+               : append_in_new_file(journal, records, length, fault);
 }
 
 const char *journal_step_name(enum journal_step step) {
-    switch (step) {
-    case JOURNAL_PATH:
-        return "path";
-    case JOURNAL_FOLDER:
-        return "folder";
-    case JOURNAL_SYNC_FOLDER:
-        return "sync folder";
-    case JOURNAL_RANDOM:
-        return "random";
-    case JOURNAL_NEW_FILE:
-        return "new file";
-    case JOURNAL_RENAME:
-        return "rename";
-    case JOURNAL_OPEN:
-        return "open";
-    case JOURNAL_LOCK:
-        return "lock";
-    case JOURNAL_STATUS:
-        return "status";
-    case JOURNAL_KIND:
-        return "kind";
-    case JOURNAL_OWNER:
-        return "owner";
-    case JOURNAL_NAMED:
-        return "named";
-    case JOURNAL_LENGTH:
-        return "length";
-    case JOURNAL_MEMORY:
-        return "memory";
-    case JOURNAL_READ:
-        return "read";
-    case JOURNAL_RECORD:
-        return "record";
-    case JOURNAL_WRITE:
-        return "write";
-    case JOURNAL_SYNC:
-        return "sync";
-    case JOURNAL_ENDPOINT:
-        return "endpoint";
-    case JOURNAL_LIBRARY:
-        return "library";
-    default:
-        return "unknown";
-    }
+    static const char *const names[] = {
+        [JOURNAL_PATH] = "path",      [JOURNAL_FOLDER] = "folder",     [JOURNAL_SYNC_FOLDER] = "sync folder",
+        [JOURNAL_RANDOM] = "random",  [JOURNAL_NEW_FILE] = "new file", [JOURNAL_RENAME] = "rename",
+        [JOURNAL_OPEN] = "open",      [JOURNAL_LOCK] = "lock",         [JOURNAL_STATUS] = "status",
+        [JOURNAL_KIND] = "kind",      [JOURNAL_OWNER] = "owner",       [JOURNAL_NAMED] = "named",
+        [JOURNAL_LENGTH] = "length",  [JOURNAL_MEMORY] = "memory",     [JOURNAL_READ] = "read",
+        [JOURNAL_RECORD] = "record",  [JOURNAL_WRITE] = "write",       [JOURNAL_SYNC] = "sync",
+        [JOURNAL_LIBRARY] = "library"
+    };
+    return (size_t)step < sizeof names / sizeof names[0] && names[step] != NULL ? names[step] : "unknown";
 }

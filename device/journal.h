@@ -4,21 +4,7 @@
  * An endpoint that has a journal sends a frame only if a durable record reserves its packet number, so that no later
  * run repeats the number. The library of macsec.h decides what is reserved and what the records are; it opens no file.
  * These calls keep its records in a file. They are not proved: the promises of macsec_reserve_open rest on them and on
- * the disk.
- *
- *     struct journal journal;
- *     struct journal_fault fault;
- *     if (journal_open(&journal, path, JOURNAL_LIMIT, &fault) != 0) ...
- *     if (journal_make_endpoint(&journal, &e, &config, true, &fault) != 0) ...
- *     macsec_install_key(&e, &sak); macsec_add_tx_sa(&e, an, sak.number, next, true);
- *     if (journal_reserve(&journal, &e, an, journal_amount(rate), &fault) != 0) ...
- *     macsec_enable_tx_sa(&e, an);
- *     macsec_add_rx_sc(&e, sci); macsec_add_rx_sa(&e, sci, an, peer.number, lowest, 0);
- *     if (journal_accept(&journal, &e, sci, an, amount, 0, &fault) != 0) ...
- *     macsec_enable_rx_sa(&e, sci, an);
- *     ... frames; journal_reserve and journal_accept at least twice a second ...
- *     macsec_free(&e);
- *     journal_close(&journal);
+ * the disk. examples/c/journal.c is a program with a journal; numbers.c is the part of macsecd that has one.
  *
  * CREATION   Create a journal when the operator asks for one, and never because journal_open failed: without its
  *            records all packet numbers can be used again. If a journal is lost, install new keys. journal_create does
@@ -28,20 +14,20 @@
  *            F_SETLK would end when any code of the process closes another descriptor of the file. A child made by fork
  *            shares the lock, and a program started by exec does not. After a fork, only one process may use the
  *            journal and its endpoint. Use a local file system.
- * ENDPOINT   One endpoint at a time sends with a journal: two that are made of the same octets would use the same
- *            packet numbers under a key, even in one process. So journal_make_endpoint and journal_configure make no
- *            second one, and journal_reserve, journal_accept and journal_save do nothing for another one
- *            (JOURNAL_ENDPOINT), until journal_hand_over says that the first one sends and receives nothing more. An
- *            endpoint of macsec_reserve_open is another one.
- * DURABLE    A call that returns 0 after it wrote a record has written all of it, fdatasync returned 0, and the name of
- *            the file still leads to it. Only then is the record reported to the endpoint (macsec_reserve_granted).
+ * ENDPOINT   One endpoint at a time sends with a journal, and with `ahead` receives. Two that are made of the same
+ *            octets would use the same packet numbers under a key, even in one process. So make the next one of the
+ *            octets after the last reservation of the one before, which has to be freed or to stay without
+ *            associations.
+ * DURABLE    A call that returns 0 after it wrote records has written all of them, fdatasync or fsync returned 0, and
+ *            the name of the file still leads to it. Only then report them to the endpoint (macsec_reserve_granted).
  * FAILURES   After a failed fdatasync, Linux marks the pages as clean, and the next one can return 0 although nothing
- *            was written. So after a failed write or synchronization the file is in doubt: nothing is appended to it or
- *            read from it again. The next call writes the whole journal from memory into a new file, which takes its
- *            place. A full disk is handled in the same way. Until this succeeds, the endpoint sends with the numbers
- *            that it has reserved, and then drops its frames (MACSEC_FATE_NO_RESERVATION). With `ahead` it also
- *            receives with those that it has reserved, and then drops frames (MACSEC_VERDICT_NO_RESERVATION). After a
- *            failure, wait a second before the next call.
+ *            was written. So after a failed write or synchronization the file is in doubt: nothing is appended to it
+ *            or read from it again until journal_replace has put a new file with the whole journal in its place. A
+ *            full disk is handled in the same way. journal_open leaves the file in doubt too, since an earlier
+ *            process may have failed. Until the file is replaced, the endpoint sends with the numbers that it has
+ *            reserved, and then drops its frames (MACSEC_FATE_NO_RESERVATION). With `ahead` it also receives with
+ *            those that it has reserved, and then drops frames (MACSEC_VERDICT_NO_RESERVATION). After a failure, wait
+ *            a second before the next call.
  * DAMAGE     Records are at multiples of 64 octets. What is appended together begins at a multiple of 512 octets and
  *            has 512: up to eight records, with copies of the last one where there are fewer. More are written into a
  *            new file with all others. A new file ends with 512 octets of copies. So a crash can damage only the last
@@ -53,11 +39,11 @@
  * NOT SHOWN  Damage of what was appended last, records that are missing at the end, and the journal of another host
  *            are not noticed.
  * CUT        The length of the file is compared with what was written, before and after each append. If another
- *            program has changed it, the file is written again from memory.
- * LENGTH     Before a journal is longer than its limit, it is written again with one record for each name, into a new
- *            file that takes its place. The limit grows to twice the length of that file, if it was lower. Names of old
- *            keys stay in the journal. If they fill half of JOURNAL_MAX, nothing more can be written (EFBIG): create
- *            another journal, and install new keys.
+ *            program has changed it (JOURNAL_LENGTH, ESTALE), the file is in doubt.
+ * LENGTH     Before a journal is longer than its limit, replace it by one with one record for each name
+ *            (macsec_journal_compacted, or names.c). journal_make_room raises the limit to twice the length of that
+ *            one, if it was lower. Names of old keys stay in the journal. If they fill half of JOURNAL_MAX, nothing
+ *            more can be written (EFBIG): create another journal, and install new keys.
  * RECORDS    A record is a name of 32 octets, a packet number of 8 with the most significant octet first, and a check
  *            of 24. The last record of a name need not be the greatest. A mark is a name, 8 octets of 0, and a text of
  *            24: macsecd marks names that it gives up. The library skips marks.
@@ -86,16 +72,10 @@
 #include <sys/stat.h>
 #include <sys/types.h>
 
-/* The limit for a device: 1,024 records. */
-#define JOURNAL_LIMIT ((size_t)1 << 16)
 /* The most octets of a journal. */
 #define JOURNAL_MAX ((size_t)1 << 22)
 /* How many octets of copies a new file has at most. */
 #define JOURNAL_FILL ((size_t)1 << 10)
-/* The fewest packet numbers of a reservation. Tests have fewer. */
-#ifndef JOURNAL_AMOUNT_MIN
-#define JOURNAL_AMOUNT_MIN 65536
-#endif
 
 /* What a call was doing when it failed. */
 enum journal_step {
@@ -111,13 +91,12 @@ enum journal_step {
     JOURNAL_KIND,        /* EINVAL: it is no regular file; EMLINK: it has other names too */
     JOURNAL_OWNER,       /* EACCES: others may read or write it; EPERM: it is another user's */
     JOURNAL_NAMED,       /* ESTALE: the name leads to another file, or to none */
-    JOURNAL_LENGTH,      /* ENODATA: too short for a header; EFBIG: too long; ESTALE: another program has changed it */
+    JOURNAL_LENGTH,      /* ENODATA: too short for a header; EFBIG: too long; ESTALE: it was changed, or is in doubt */
     JOURNAL_MEMORY,      /* allocating memory */
     JOURNAL_READ,        /* reading */
     JOURNAL_RECORD,      /* EBADMSG: the record of this number is damaged */
     JOURNAL_WRITE,       /* writing */
     JOURNAL_SYNC,        /* making what was written durable */
-    JOURNAL_ENDPOINT,    /* EBUSY: another endpoint has the journal */
     JOURNAL_LIBRARY      /* EINVAL: the library's call returned `status` */
 };
 
@@ -132,15 +111,13 @@ struct journal_fault {
 struct journal {
     uint8_t *octets; /* what the journal has, for macsec_reserve_open: its header and the durable records */
     size_t length;   /* their number: a multiple of 64 */
+    size_t room;     /* how many octets there is memory for */
+    bool in_doubt;   /* is the journal to be replaced before anything is appended? */
     uint8_t *spare;  /* as large as `octets` */
-    size_t room;     /* of both */
-    size_t own;      /* from here on this process has made the records durable */
-    const macsec_endpoint *endpoint; /* that has the journal, or NULL */
-    int file;                        /* locked */
+    int file;        /* locked */
     int folder;
     dev_t device; /* which file it is */
     ino_t inode;
-    bool in_doubt; /* is the journal to be written again before anything is appended? */
     char name[NAME_MAX + 1];
     char new_name[NAME_MAX + 1];
 };
@@ -152,51 +129,12 @@ int journal_create(const char *path, struct journal_fault *fault);
  * the octets (MACSEC_E_NOT_JOURNAL). */
 int journal_open(struct journal *journal, const char *path, size_t limit, struct journal_fault *fault);
 
-/* Makes an endpoint with the journal, as macsec_reserve_open and macsec_reserve_configure do, unless another one has
- * it. If the library refuses it, none has. With `ahead` it accepts a packet number only if a durable record reserves
- * it. */
-int journal_make_endpoint(struct journal *journal, macsec_endpoint *e, const macsec_config *config, bool ahead,
-                          struct journal_fault *fault);
-int journal_configure(struct journal *journal, macsec_endpoint *e, const char *text, size_t length, bool ahead,
-                      uint32_t *line, struct journal_fault *fault);
-
-/* Says that the endpoint which has the journal sends nothing more, and with `ahead` also receives nothing more. `next`
- * goes on, or NULL: then one can be made. Make `next` of `octets` after the last reservation of the one before, which
- * has to be freed or to stay without associations. */
-void journal_hand_over(struct journal *journal, const macsec_endpoint *next);
-
-/* Makes a record durable. One that this process has made durable is not written again. */
-int journal_append(struct journal *journal, const macsec_record *record, struct journal_fault *fault);
-
-/* Makes several records durable together. More than eight are written into a new file. */
+/* Makes records durable together. More than eight are written into a new file. It fails if the file is in doubt, or if
+ * `room` has not JOURNAL_FILL octets more than they need. */
 int journal_append_all(struct journal *journal, const uint8_t *records, size_t length, struct journal_fault *fault);
 
-/* Reserves `amount` packet numbers for a transmit association if the endpoint has fewer than half of them left; else it
- * does nothing, as for an association that does not exist. Call it after the association was added and before it is
- * enabled, and then at least twice as often as `amount` frames are sent. */
-int journal_reserve(struct journal *journal, macsec_endpoint *e, uint8_t an, uint64_t amount,
-                    struct journal_fault *fault);
-
-/* Reserves `amount` packet numbers for a receive association of an endpoint with `ahead`, if fewer than half of them
- * are left; else it does nothing, as for an association that does not exist. `pn` is 0, or the packet number of a frame
- * that was dropped without a reservation (MACSEC_VERDICT_NO_RESERVATION), which can be given again after that. Call it
- * after the association was added and before it is enabled, at least twice as often as `amount` frames arrive, and for
- * such a frame. A crash loses up to `amount` frames of the peer: the next run drops them. */
-int journal_accept(struct journal *journal, macsec_endpoint *e, const uint8_t sci[8], uint8_t an, uint64_t amount,
-                   uint64_t pn, struct journal_fault *fault);
-
-/* Without `ahead`: saves the lowest acceptable packet number of a receive association, if it exists. If the replay
- * window is 0, no later run that drops late frames delivers a frame that was received before this call. Frames that
- * were received after the last call can be delivered again. So call it from time to time, before the association is
- * deleted, and before the endpoint ends. */
-int journal_save(struct journal *journal, macsec_endpoint *e, const uint8_t sci[8], uint8_t an,
-                 struct journal_fault *fault);
-
-/* Writes the journal again, with one record for each name. The calls above do this when it is needed. */
-int journal_rewrite(struct journal *journal, struct journal_fault *fault);
-
-/* For a program that keeps the records itself: puts the octets of a whole journal in the place of the file, and makes
- * room for so many first, and for what is appended. The second call alone allocates memory. */
+/* Puts the octets of a whole journal in the place of the file, and makes room for so many first, and for what is
+ * appended. The second call alone allocates memory. */
 int journal_replace(struct journal *journal, const uint8_t *octets, size_t length, struct journal_fault *fault);
 int journal_make_room(struct journal *journal, size_t length, struct journal_fault *fault);
 
@@ -213,10 +151,6 @@ void journal_make_mark(const uint8_t *name, uint8_t *octets);
 
 /* Unlocks and closes an open journal. Nothing is lost: each record was made durable when it was written. */
 void journal_close(struct journal *journal);
-
-/* How many packet numbers to reserve for so many frames a second: two seconds' worth, as the next reservation is made
- * when half of one is left, and at least JOURNAL_AMOUNT_MIN. A restart loses at most twice as many. */
-uint64_t journal_amount(uint64_t frames_per_second);
 
 /* The name of a step, for messages; "unknown" for a number without a meaning. */
 const char *journal_step_name(enum journal_step step);

@@ -2,8 +2,8 @@
  * packet numbers of a key under which this NAME sends. No two devices compare at one time: the folders of the journals
  * are locked until the own records are on the disk. Whoever can open a folder can lock it. */
 #define _GNU_SOURCE
-#include "device.h"
-#include "journal.h"
+#include "numbers.h"
+#include "text.h"
 #include <dirent.h>
 #include <errno.h>
 #include <fcntl.h>
@@ -80,39 +80,28 @@ struct keys {
     const char *name;
 };
 
-/* Takes the next line that the library does not skip. */
-static bool next_line(const char **text, size_t *left, const char **line, size_t *length, struct words *w) {
-    while ((*line = words_line(text, left, length)) != NULL) {
-        words_split(w, *line, *length);
-        if (w->count > 0 && w->at[0][0] != '#')
-            return true;
-    }
-    return false;
-}
-
-static void find_sending(struct keys *k) {
-    const char *text = (const char *)k->config->text, *line;
-    size_t left = k->config->length, length;
-    struct words w;
-    uint64_t number;
-    while (next_line(&text, &left, &line, &length, &w))
-        if (words_is(&w, 0, "A") && words_is(&w, 1, "txsa") && words_number(&w, 3, &number) &&
-            number < MACSEC_KEY_COUNT)
-            k->sends[number] = true;
+/* Returns false if memory runs out. */
+static bool find_sending(struct keys *k) {
+    struct commands it = { .text = (const char *)k->config->text, .left = k->config->length };
+    while (it.status != MACSEC_E_MEMORY && commands_next(&it))
+        if (it.command.kind == MACSEC_COMMAND_TX_SA)
+            k->sends[it.command.key] = true;
+    return it.status != MACSEC_E_MEMORY;
 }
 
 /* Makes an endpoint with the keys of the configuration beside another journal. A wrong line is reported later. */
 static uint32_t show_journal(const struct keys *k, macsec_endpoint *e, const uint8_t *octets, size_t length) {
-    const char *text = (const char *)k->config->text, *line;
-    size_t left = k->config->length, end;
-    uint32_t number, status;
-    struct words w;
-    if (!next_line(&text, &left, &line, &end, &w))
-        return MACSEC_E_EMPTY;
-    status = macsec_reserve_configure(e, (const uint8_t *)line, end, octets, length, false, &number);
-    while (status == MACSEC_OK && next_line(&text, &left, &line, &end, &w))
-        if (words_is(&w, 0, "A") && words_is(&w, 1, "key"))
-            (void)macsec_command_line(e, (const uint8_t *)line, end);
+    struct commands it = { .text = (const char *)k->config->text, .left = k->config->length };
+    macsec_config end;
+    uint32_t status = commands_end(&it, &end);
+    if (status == MACSEC_OK)
+        status = macsec_reserve_open(e, &end, octets, length, false);
+    while (status == MACSEC_OK && commands_next(&it)) {
+        if (it.command.kind == MACSEC_COMMAND_KEY)
+            (void)macsec_carry_out(e, &it.command);
+        if (it.status == MACSEC_E_MEMORY)
+            status = it.status;
+    }
     return status;
 }
 
@@ -263,20 +252,30 @@ static int compare_folder(const struct keys *k, const char *folder) {
     return result;
 }
 
-/* Compares with the journals in the folders beside the own one, which has the name of the device. */
-static int compare_beside(const struct keys *k, const char *parent) {
-    DIR *entries = opendir(parent);
-    const struct dirent *entry;
-    int result = 0;
-    if (entries == NULL)
+static int compare_other(const char *folder, const void *keys) {
+    const struct keys *k = keys;
+    return strcmp(folder, k->own) == 0 ? 0 : compare_folder(k, folder);
+}
+
+static int is_visible(const struct dirent *entry) {
+    return entry->d_name[0] != '.';
+}
+
+/* Visits the folders beside the own one, which has the name of the device. All devices do so in one order, and until a
+ * visit returns another status than 0. */
+static int visit_beside(const char *parent, int (*visit)(const char *folder, const void *context),
+                        const void *context) {
+    struct dirent **entries;
+    int result = 0, count = scandir(parent, &entries, is_visible, alphasort);
+    if (count < 0)
         return 0;
-    while (result == 0 && (entry = readdir(entries)) != NULL) {
+    for (int i = 0; i < count; i++) {
         char folder[PATH_MAX];
-        if (entry->d_name[0] != '.' && snprintf(folder, sizeof folder, "%s/%s", parent, entry->d_name) < PATH_MAX &&
-            strcmp(folder, k->own) != 0)
-            result = compare_folder(k, folder);
+        if (result == 0 && snprintf(folder, sizeof folder, "%s/%s", parent, entries[i]->d_name) < PATH_MAX)
+            result = visit(folder, context);
+        free(entries[i]);
     }
-    (void)closedir(entries);
+    free(entries);
     return result;
 }
 
@@ -297,16 +296,15 @@ static const char *find_folders(char own[PATH_MAX], char parent[PATH_MAX], const
 }
 
 int journals_check_keys(const struct config *c, const char *name) {
-    static struct keys k; /* some KB */
     char own[PATH_MAX], parent[PATH_MAX];
-    const char *file = find_folders(own, parent, name);
+    struct keys k = { .config = c, .own = own, .name = find_folders(own, parent, name) };
     int result;
-    if (file == NULL)
+    if (k.name == NULL)
         return ENDS_WRONG;
-    k = (struct keys){ .config = c, .own = own, .name = file };
-    find_sending(&k);
+    if (!find_sending(&k))
+        return message_of_memory();
     result = compare_folder(&k, own);
-    return result == 0 && parent[0] != '\0' ? compare_beside(&k, parent) : result;
+    return result == 0 && parent[0] != '\0' ? visit_beside(parent, compare_other, &k) : result;
 }
 
 /* ---- One start at a time ---- */
@@ -315,7 +313,7 @@ int journals_check_keys(const struct config *c, const char *name) {
  * milliseconds. */
 enum { WAITS = 30000, WAITS_FOR_ANYONE = 5000, LOOKS = 20 };
 
-/* The locked folders. */
+/* The locked folders. Static, since numbers.c unlocks them, which has no device. */
 static struct {
     int *files;
     size_t count;
@@ -354,56 +352,30 @@ static int lock_file(int file, const char *path, bool is_private) {
 }
 
 /* Locks a folder. One that this user can't open has no journal of this user's. */
-static int lock_folder(const char *path) {
+static int lock_folder(const char *path, const void *context) {
     struct stat about;
-    int file = open(path, O_RDONLY | O_DIRECTORY | O_CLOEXEC);
+    int *grown, file = open(path, O_RDONLY | O_DIRECTORY | O_CLOEXEC);
+    (void)context;
     if (file < 0 && errno != EMFILE && errno != ENFILE && errno != ENOMEM)
         return 0;
-    if (file < 0 || fstat(file, &about) != 0) {
-        message_of_errno("%s", path);
-        return ENDS_FAILED;
-    }
+    if (file < 0 || fstat(file, &about) != 0)
+        return message_of_errno("%s", path);
     if (is_locked(&about))
         return close(file);
+    grown = realloc(locks.files, (locks.count + 1) * sizeof *grown);
+    if (grown == NULL)
+        return message_of_memory();
+    locks.files = grown;
     locks.files[locks.count++] = file;
     return lock_file(file, path, (about.st_mode & (S_IRGRP | S_IROTH)) == 0);
 }
 
-static bool make_room(size_t folders) {
-    locks.files = calloc(folders, sizeof *locks.files);
-    if (locks.files == NULL)
-        message("out of memory");
-    return locks.files != NULL;
-}
-
-static int is_visible(const struct dirent *entry) {
-    return entry->d_name[0] != '.';
-}
-
 /* All lock in one order, so that no two wait for each other. Whoever makes a folder later locks these folders too. */
-static int lock_beside(const char *parent) {
-    struct dirent **entries;
-    int result, count = scandir(parent, &entries, is_visible, alphasort);
-    if (count < 0)
-        return 0;
-    result = make_room((size_t)count + 1) ? 0 : ENDS_FAILED;
-    for (int i = 0; i < count; i++) {
-        char path[PATH_MAX];
-        if (result == 0 && snprintf(path, sizeof path, "%s/%s", parent, entries[i]->d_name) < PATH_MAX)
-            result = lock_folder(path);
-        free(entries[i]);
-    }
-    free(entries);
-    return result;
-}
-
 int journals_lock(const char *name) {
     char own[PATH_MAX], parent[PATH_MAX];
     if (find_folders(own, parent, name) == NULL)
         return ENDS_WRONG;
-    if (parent[0] != '\0')
-        return lock_beside(parent);
-    return make_room(1) ? lock_folder(own) : ENDS_FAILED;
+    return parent[0] != '\0' ? visit_beside(parent, lock_folder, NULL) : lock_folder(own, NULL);
 }
 
 void journals_unlock(void) {

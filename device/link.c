@@ -1,6 +1,5 @@
 /* LINK: the network device below, by a packet socket. */
-#define _GNU_SOURCE
-#include "device.h"
+#include "frames.h"
 #include <arpa/inet.h>
 #include <errno.h>
 #include <linux/if_packet.h>
@@ -19,29 +18,12 @@ enum { TAG = 4, TAG_AT = 12 };
 enum { BUFFER = 4 << 20 };
 
 /* The longest frame that the system makes of segments, and VIRTIO_NET_HDR_GSO_UDP_L4, which older headers lack. */
-enum { WHOLE = 65550, UDP_SEGMENTS = 5 };
-
-/* A received frame, with space before it for a VLAN tag. The buffer is one octet longer than the longest frame, so that
- * a longer one is seen. The system gives a page of it once a frame is there. */
-struct received {
-    struct virtio_net_hdr about;
-    uint8_t octets[TAG + WHOLE + 1];
-    _Alignas(struct cmsghdr) uint8_t control[CMSG_SPACE(sizeof(struct tpacket_auxdata))];
-};
-
-static struct received received[BATCH];
-/* The frames that wait, in a ring: `waiting_count` from `waiting_first` on. */
-static uint8_t waiting[BATCH][MACSEC_FRAME_MAX];
-static size_t waiting_length[BATCH];
-static unsigned waiting_first, waiting_count;
+enum { WHOLE = LINK_BUFFER - TAG - 1, UDP_SEGMENTS = 5 };
 
 /* ---- Opening ---- */
 
 static int set(int socket, int level, int option, const void *value, socklen_t length, const char *what) {
-    if (setsockopt(socket, level, option, value, length) == 0)
-        return 0;
-    message_of_errno("LINK: %s", what);
-    return ENDS_FAILED;
+    return setsockopt(socket, level, option, value, length) == 0 ? 0 : message_of_errno("LINK: %s", what);
 }
 
 static int join(const struct link *l, unsigned short type, const char *what) {
@@ -63,19 +45,14 @@ static int read_properties(struct link *l) {
     struct ifreq request;
     memset(&request, 0, sizeof request);
     memcpy(request.ifr_name, l->name, IF_NAMESIZE);
-    if (ioctl(l->socket, SIOCGIFHWADDR, &request) != 0) {
-        message_of_errno("LINK %s: its address", l->name);
-        return ENDS_FAILED;
-    }
+    if (ioctl(l->socket, SIOCGIFHWADDR, &request) != 0)
+        return message_of_errno("LINK %s: its address", l->name);
     if (request.ifr_hwaddr.sa_family != 1) { /* ARPHRD_ETHER */
-        message("LINK %s is not an Ethernet device", l->name);
-        return ENDS_WRONG;
+        return message_wrong("LINK %s is not an Ethernet device", l->name);
     }
     memcpy(l->address, request.ifr_hwaddr.sa_data, sizeof l->address);
-    if (ioctl(l->socket, SIOCGIFMTU, &request) != 0) {
-        message_of_errno("LINK %s: its MTU", l->name);
-        return ENDS_FAILED;
-    }
+    if (ioctl(l->socket, SIOCGIFMTU, &request) != 0)
+        return message_of_errno("LINK %s: its MTU", l->name);
     l->mtu = (uint32_t)request.ifr_mtu;
     return 0;
 }
@@ -85,35 +62,26 @@ static int bind_socket(const struct link *l) {
     struct sockaddr_ll address = { .sll_family = AF_PACKET, .sll_protocol = htons(ETH_P_ALL), .sll_ifindex = l->index };
     if (bind(l->socket, (const struct sockaddr *)&address, sizeof address) == 0)
         return 0;
-    message_of_errno("LINK %s: bind", l->name);
-    return ENDS_FAILED;
+    return message_of_errno("LINK %s: bind", l->name);
 }
 
 int link_open(struct link *l, const char *name) {
     int one = 1, result;
-    memset(l, 0, sizeof *l);
     memcpy(l->name, name, IF_NAMESIZE);
     l->socket = socket(AF_PACKET, SOCK_RAW | SOCK_NONBLOCK | SOCK_CLOEXEC, 0);
-    if (l->socket < 0) {
-        message_of_errno("LINK %s: packet socket", name);
-        return ENDS_FAILED;
-    }
+    if (l->socket < 0)
+        return message_of_errno("LINK %s: packet socket", name);
     l->index = (int)if_nametoindex(name); /* 0 would mean all devices */
-    if (l->index == 0) {
-        message_of_errno("LINK %s", name);
-        return ENDS_FAILED;
-    }
+    if (l->index == 0)
+        return message_of_errno("LINK %s", name);
     set_buffer(l->socket);
-    result = read_properties(l);
-    if (result == 0)
-        result = set(l->socket, SOL_PACKET, PACKET_AUXDATA, &one, sizeof one, "auxiliary data");
-    if (result == 0)
-        result = set(l->socket, SOL_PACKET, PACKET_VNET_HDR, &one, sizeof one, "what frames lack");
-    if (result == 0)
-        result = set(l->socket, SOL_PACKET, PACKET_IGNORE_OUTGOING, &one, sizeof one, "ignoring sent frames");
-    if (result == 0)
-        result = join(l, PACKET_MR_ALLMULTI, "all multicast frames");
-    return result == 0 ? bind_socket(l) : result;
+    if ((result = read_properties(l)) != 0 ||
+        (result = set(l->socket, SOL_PACKET, PACKET_AUXDATA, &one, sizeof one, "auxiliary data")) != 0 ||
+        (result = set(l->socket, SOL_PACKET, PACKET_VNET_HDR, &one, sizeof one, "what frames lack")) != 0 ||
+        (result = set(l->socket, SOL_PACKET, PACKET_IGNORE_OUTGOING, &one, sizeof one, "ignoring sent frames")) != 0 ||
+        (result = join(l, PACKET_MR_ALLMULTI, "all multicast frames")) != 0)
+        return result;
+    return bind_socket(l);
 }
 
 void link_make_promiscuous(struct link *l) {
@@ -180,36 +148,40 @@ static bool is_gone(int error) {
     return error == ENODEV || error == ENXIO || error == EBADF;
 }
 
-/* Prepares so many headers for a call that reads frames. */
-static void prepare(struct mmsghdr headers[BATCH], unsigned count) {
-    static struct iovec parts[BATCH][2];
-    for (unsigned i = 0; i < count; i++) {
-        parts[i][0] = (struct iovec){ &received[i].about, sizeof received[i].about };
-        parts[i][1] = (struct iovec){ received[i].octets + TAG, sizeof received[i].octets - TAG };
-        headers[i] = (struct mmsghdr){ .msg_hdr = { .msg_iov = parts[i], .msg_iovlen = 2 } };
-        headers[i].msg_hdr.msg_control = received[i].control;
-        headers[i].msg_hdr.msg_controllen = sizeof received[i].control;
+/* Prepares the headers that the last call may have changed. */
+static void prepare(struct link *l) {
+    for (unsigned i = 0; i < BATCH - l->prepared; i++) {
+        struct received *r = l->buffers[i] != NULL ? l->buffers[i] : &l->received[l->used++];
+        l->buffers[i] = r;
+        l->parts[i][0] = (struct iovec){ &r->about, sizeof r->about };
+        l->parts[i][1] = (struct iovec){ r->octets + TAG, sizeof r->octets - TAG };
+        l->headers[i] = (struct mmsghdr){ .msg_hdr = { .msg_iov = l->parts[i], .msg_iovlen = 2 } };
+        l->headers[i].msg_hdr.msg_control = r->control;
+        l->headers[i].msg_hdr.msg_controllen = sizeof r->control;
     }
 }
 
 enum outcome link_read(struct link *l, struct unfinished frames[BATCH], unsigned *count) {
-    static struct mmsghdr headers[BATCH];
-    static unsigned used = BATCH; /* how many the last call may have changed */
     int got;
-    prepare(headers, used);
+    prepare(l);
     *count = 0;
-    do
-        got = recvmmsg(l->socket, headers, BATCH, MSG_DONTWAIT, NULL);
-    while (got < 0 && errno == EINTR);
-    used = got < 0 ? 1 : got < BATCH ? (unsigned)got + 1 : BATCH;
+    got = TEMP_FAILURE_RETRY(recvmmsg(l->socket, l->headers, BATCH, MSG_DONTWAIT, NULL));
+    l->prepared = got < 0 ? BATCH - 1 : got < BATCH ? BATCH - 1 - (unsigned)got : 0;
     if (got < 0) {
         l->unreadable += errno == EINVAL; /* segments of another protocol, or that a card has joined (LRO) */
         return is_gone(errno) ? GONE : BUSY;
     }
     for (int i = 0; i < got; i++)
-        frames[i] = frame_of(&received[i], headers[i].msg_len - sizeof received[i].about, &headers[i].msg_hdr);
+        frames[i] =
+            frame_of(l->buffers[i], l->headers[i].msg_len - sizeof l->buffers[i]->about, &l->headers[i].msg_hdr);
     *count = (unsigned)got;
     return DONE;
+}
+
+void link_keep(struct link *l, unsigned index, struct received **spare) {
+    struct received *read = l->buffers[index];
+    l->buffers[index] = *spare;
+    *spare = read;
 }
 
 void link_count_lost(struct link *l, struct counts *c) {
@@ -223,54 +195,54 @@ void link_count_lost(struct link *l, struct counts *c) {
 
 /* ---- Sending ---- */
 
-unsigned link_waiting(void) {
-    return waiting_count;
+unsigned link_waiting(const struct link *l) {
+    return l->waiting;
 }
 
-void link_append(const uint8_t *octets, size_t length, struct counts *c) {
-    unsigned at = (waiting_first + waiting_count) % BATCH;
-    if (waiting_count == BATCH) {
+void link_append(struct link *l, const uint8_t *octets, size_t length, struct counts *c) {
+    unsigned at = (l->first + l->waiting) % BATCH;
+    if (l->waiting == BATCH) {
         c->link_refused++;
         return;
     }
-    memcpy(waiting[at], octets, length);
-    waiting_length[at] = length;
-    waiting_count++;
+    memcpy(l->frames[at], octets, length);
+    l->lengths[at] = length;
+    l->waiting++;
 }
 
 /* Removes the first frames that wait. */
-static void remove_waiting(unsigned count) {
-    waiting_first = (waiting_first + count) % BATCH;
-    waiting_count -= count;
+static void remove_waiting(struct link *l, unsigned count) {
+    l->first = (l->first + count) % BATCH;
+    l->waiting -= count;
 }
 
 /* Sends what waits, as far as the system takes it. Nothing is left to a network card. Returns what sendmmsg does. */
-static int send_waiting(const struct link *l) {
-    static struct virtio_net_hdr complete;
+static int send_waiting(struct link *l) {
+    struct virtio_net_hdr complete = { .flags = 0 };
     struct mmsghdr headers[BATCH]; /* only those that are used are written */
     struct iovec parts[BATCH][2];
-    for (unsigned i = 0; i < waiting_count; i++) {
-        unsigned at = (waiting_first + i) % BATCH;
+    for (unsigned i = 0; i < l->waiting; i++) {
+        unsigned at = (l->first + i) % BATCH;
         parts[i][0] = (struct iovec){ &complete, sizeof complete };
-        parts[i][1] = (struct iovec){ waiting[at], waiting_length[at] };
+        parts[i][1] = (struct iovec){ l->frames[at], l->lengths[at] };
         headers[i] = (struct mmsghdr){ .msg_hdr = { .msg_iov = parts[i], .msg_iovlen = 2 } };
     }
-    return sendmmsg(l->socket, headers, waiting_count, MSG_DONTWAIT);
+    return sendmmsg(l->socket, headers, l->waiting, MSG_DONTWAIT);
 }
 
 enum outcome link_flush(struct link *l, struct counts *c) {
-    while (waiting_count > 0) {
+    while (l->waiting > 0) {
         int sent = send_waiting(l);
         if (sent > 0) {
             c->link_out += (unsigned)sent;
-            remove_waiting((unsigned)sent);
+            remove_waiting(l, (unsigned)sent);
         } else if (errno == EAGAIN) {
             return BUSY;
         } else if (is_gone(errno)) {
             return GONE;
         } else if (errno != EINTR) {
             c->link_refused++; /* this frame alone: too long for LINK, LINK is down, or its queue is full */
-            remove_waiting(1);
+            remove_waiting(l, 1);
         }
     }
     return DONE;

@@ -1,5 +1,4 @@
 /* Waiting: for frames, requests, reports, signals and the clock. */
-#define _GNU_SOURCE
 #include "device.h"
 #include "workers.h"
 #include <errno.h>
@@ -11,7 +10,7 @@
 #include <unistd.h>
 
 /* What an event is about. Clients are numbered from CLIENT on. */
-enum { TAP, LINK, SIGNALS, CLOCK, LIFE, LISTENER, JOURNAL, WORKERS, CLIENT };
+enum { TAP, LINK, SIGNALS, CLOCK, RTNETLINK, LISTENER, JOURNAL, WORKERS, CLIENT };
 
 /* The most events of a wait. */
 enum { EVENTS = CLIENT + CLIENTS };
@@ -31,61 +30,59 @@ int loop_block_signals(struct device *d) {
     sigaddset(&set, SIGUSR1);
     sigaddset(&set, SIGUSR2);
     sigaddset(&set, SIGXFSZ); /* else a journal above a limit ends macsecd, where a write can fail */
-    if (sigprocmask(SIG_BLOCK, &set, NULL) == 0)
-        d->signals = signalfd(-1, &set, SFD_NONBLOCK | SFD_CLOEXEC);
-    else
-        d->signals = -1;
-    if (d->signals < 0)
-        message_of_errno("signals");
-    return d->signals < 0 ? ENDS_FAILED : 0;
+    if (sigprocmask(SIG_BLOCK, &set, NULL) != 0)
+        return message_of_errno("signals");
+    d->signals = signalfd(-1, &set, SFD_NONBLOCK | SFD_CLOEXEC);
+    return d->signals < 0 ? message_of_errno("signals") : 0;
 }
 
+/* Has the loop wait for events of a file. Returns GOES_ON, or the exit status after a message. */
 static int watch(const struct device *d, int operation, int file, uint32_t events, uint32_t about) {
     struct epoll_event event = { .events = events, .data.u32 = about };
-    if (epoll_ctl(d->events, operation, file, &event) == 0)
-        return 0;
-    message_of_errno("epoll");
-    return ENDS_FAILED;
+    return epoll_ctl(d->events, operation, file, &event) == 0 ? GOES_ON : message_of_errno("epoll");
 }
 
 static int open_clock(struct device *d) {
     const struct itimerspec second = { { 1, 0 }, { 1, 0 } };
     d->clock = timerfd_create(CLOCK_MONOTONIC, TFD_NONBLOCK | TFD_CLOEXEC);
-    if (d->clock >= 0 && timerfd_settime(d->clock, 0, &second, NULL) == 0)
-        return 0;
-    message_of_errno("timer");
-    return ENDS_FAILED;
+    return d->clock >= 0 && timerfd_settime(d->clock, 0, &second, NULL) == 0 ? 0 : message_of_errno("timer");
 }
 
 int loop_open(struct device *d) {
-    const int files[WORKERS] = { d->tap.file,         d->link.socket,          d->signals, -1, d->life.socket,
+    const int files[WORKERS] = { d->tap.file,         d->link.socket,          d->signals, -1, d->rtnetlink.socket,
                                  d->control.listener, numbers_file(d->numbers) };
     int result = open_clock(d);
     d->events = epoll_create1(EPOLL_CLOEXEC);
-    if (d->events < 0) {
-        message_of_errno("epoll");
-        return ENDS_FAILED;
-    }
-    for (uint32_t i = 0; i < WORKERS && result == 0; i++)
+    if (d->events < 0)
+        return message_of_errno("epoll");
+    if (result != 0)
+        return result;
+    result = GOES_ON;
+    for (uint32_t i = 0; i < WORKERS && result == GOES_ON; i++)
         result = watch(d, EPOLL_CTL_ADD, i == CLOCK ? d->clock : files[i], EPOLLIN, i);
-    if (result == 0 && d->workers != NULL)
+    if (result == GOES_ON && d->workers != NULL)
         result = watch(d, EPOLL_CTL_ADD, workers_file(d->workers), EPOLLIN, WORKERS);
-    return result;
+    return result == GOES_ON ? 0 : result;
 }
 
 /* ---- Events ---- */
 
 /* While frames wait for LINK, none is read from TAP, so that its queue fills and the client slows down. */
 static int watch_ports(struct device *d, bool *blocked) {
-    bool waits = link_waiting() > 0;
+    bool waits = link_waiting(&d->link) > 0;
     int result;
     if (waits == *blocked)
         return GOES_ON;
     *blocked = waits;
     result = watch(d, EPOLL_CTL_MOD, d->tap.file, waits ? 0 : EPOLLIN, TAP);
-    if (result == 0)
+    if (result == GOES_ON)
         result = watch(d, EPOLL_CTL_MOD, d->link.socket, waits ? EPOLLIN | EPOLLOUT : EPOLLIN, LINK);
-    return result == 0 ? GOES_ON : result;
+    return result;
+}
+
+/* GONE can mean LINK or TAP. rtnetlink or the next event says which. */
+static int end_of(struct device *d, enum outcome outcome) {
+    return outcome == GONE && !rtnetlink_read(d) ? ENDS_FAILED : GOES_ON;
 }
 
 /* Nothing is printed here: rtnetlink reports what happened to LINK. The client's answer to a frame, as to an echo
@@ -95,19 +92,19 @@ static int on_link(struct device *d, uint32_t events) {
     enum outcome outcome = (events & EPOLLOUT) != 0 ? link_flush(&d->link, &d->counts) : DONE;
     if (outcome != GONE && (events & ~(uint32_t)EPOLLOUT) != 0)
         outcome = frames_from_link(d);
-    if (outcome == DONE && d->counts.tap_out != delivered && link_waiting() == 0)
+    if (outcome == DONE && d->counts.tap_out != delivered && link_waiting(&d->link) == 0)
         outcome = frames_from_client(d);
-    return outcome == GONE && !life_read(d) ? ENDS_FAILED : GOES_ON;
+    return end_of(d, outcome);
 }
 
-/* A TAP that is deleted has an error. GONE can also mean LINK here: rtnetlink says so, else the loop goes on. */
+/* A TAP that is deleted has an error. */
 static int on_tap(struct device *d, uint32_t events) {
     bool failed = (events & (EPOLLERR | EPOLLHUP)) != 0;
     if (failed) {
         message("TAP %s was deleted", d->tap.name);
         return ENDS_FAILED;
     }
-    return frames_from_client(d) == GONE && !life_read(d) ? ENDS_FAILED : GOES_ON;
+    return end_of(d, frames_from_client(d));
 }
 
 static int on_signal(struct device *d) {
@@ -124,22 +121,22 @@ static int on_signal(struct device *d) {
 static int watch_listener(struct device *d, uint32_t events) {
     if (!d->control.held_up)
         return GOES_ON;
-    return watch(d, EPOLL_CTL_MOD, d->control.listener, events, LISTENER) == 0 ? GOES_ON : ENDS_FAILED;
+    return watch(d, EPOLL_CTL_MOD, d->control.listener, events, LISTENER);
 }
 
 static int on_clock(struct device *d) {
     uint64_t times;
     if (read(d->clock, &times, sizeof times) != (ssize_t)sizeof times)
         return GOES_ON;
-    history_tick(&d->history, times);
+    d->history.seconds += times;
     numbers_tick(d->numbers, d->endpoint);
-    held_tick(d);
-    drops_tick(d);
+    held_frames_tick(d);
+    drop_messages_tick(d);
     link_count_lost(&d->link, &d->counts);
     floods_end(d);
     port_tick(d);
-    service_notify("WATCHDOG=1");
-    return life_tick(d) ? watch_listener(d, EPOLLIN) : ENDS_FAILED;
+    service_notify(&d->service, "WATCHDOG=1");
+    return rtnetlink_tick(d) ? watch_listener(d, EPOLLIN) : ENDS_FAILED;
 }
 
 /* While a client's answer waits, its next request is not read. */
@@ -148,9 +145,7 @@ static int watch_client(struct device *d, int index) {
     if (waits == d->waits.clients[index].unwatched || d->control.clients[index] < 0)
         return GOES_ON;
     d->waits.clients[index].unwatched = waits;
-    return watch(d, EPOLL_CTL_MOD, d->control.clients[index], waits ? 0 : EPOLLIN, CLIENT + (uint32_t)index) == 0
-               ? GOES_ON
-               : ENDS_FAILED;
+    return watch(d, EPOLL_CTL_MOD, d->control.clients[index], waits ? 0 : EPOLLIN, CLIENT + (uint32_t)index);
 }
 
 /* A connection that has ended needs no answer. */
@@ -162,11 +157,6 @@ static int on_client(struct device *d, int index, uint32_t events) {
     waits_client_gone(d, index);
     (void)control_answer(d, index);
     return watch_client(d, index);
-}
-
-static int on_journal(struct device *d) {
-    numbers_go_on(d->numbers, d->endpoint);
-    return GOES_ON;
 }
 
 /* Sends answers whose time has come. */
@@ -185,13 +175,7 @@ static int on_listener(struct device *d) {
     if (index < 0)
         return watch_listener(d, 0);
     d->waits.clients[index].unwatched = false;
-    return watch(d, EPOLL_CTL_ADD, d->control.clients[index], EPOLLIN, CLIENT + (uint32_t)index) == 0 ? GOES_ON
-                                                                                                      : ENDS_FAILED;
-}
-
-/* GONE can mean LINK or TAP. rtnetlink or the next event says which. */
-static int end_of(struct device *d, enum outcome outcome) {
-    return outcome == GONE && !life_read(d) ? ENDS_FAILED : GOES_ON;
+    return watch(d, EPOLL_CTL_ADD, d->control.clients[index], EPOLLIN, CLIENT + (uint32_t)index);
 }
 
 /* What is no frame finds no job under way. */
@@ -208,12 +192,13 @@ static int on_event(struct device *d, const struct epoll_event *event) {
         return on_signal(d);
     case CLOCK:
         return on_clock(d);
-    case LIFE:
-        return life_read(d) ? GOES_ON : ENDS_FAILED;
+    case RTNETLINK:
+        return rtnetlink_read(d) ? GOES_ON : ENDS_FAILED;
     case LISTENER:
         return on_listener(d);
     case JOURNAL:
-        return on_journal(d);
+        numbers_go_on(d->numbers, d->endpoint);
+        return GOES_ON;
     case WORKERS:
         workers_read_event(d->workers);
         return GOES_ON; /* loop_run goes on with the frames after each event */
@@ -225,12 +210,12 @@ static int on_event(struct device *d, const struct epoll_event *event) {
 /* Waits for events. While frames are in rings, it does jobs if there are none, and finished frames end the wait. */
 static int wait_for_events(struct device *d, struct epoll_event events[EVENTS]) {
     int count, left = waits_left(d);
-    if (d->under_way[SENDING] + d->under_way[RECEIVING] == 0)
+    if (workers_under_way(d->workers, SENDING) + workers_under_way(d->workers, RECEIVING) == 0)
         return epoll_wait(d->events, events, EVENTS, left);
     count = epoll_wait(d->events, events, EVENTS, 0);
     if (count != 0 || workers_help(d->workers))
         return count;
-    count = epoll_wait(d->events, events, EVENTS, workers_sleep(d->workers, link_waiting() == 0) ? left : 0);
+    count = epoll_wait(d->events, events, EVENTS, workers_sleep(d->workers, link_waiting(&d->link) == 0) ? left : 0);
     workers_woke(d->workers);
     return count;
 }
@@ -241,14 +226,12 @@ int loop_run(struct device *d) {
     while (result == GOES_ON) {
         struct epoll_event events[EVENTS];
         int count = wait_for_events(d, events);
-        if (count < 0 && errno != EINTR) {
-            message_of_errno("epoll");
-            return ENDS_FAILED;
-        }
+        if (count < 0 && errno != EINTR)
+            return message_of_errno("epoll");
         for (int i = 0; i < count && result == GOES_ON; i++)
             result = on_event(d, &events[i]);
         if (result == GOES_ON)
-            result = end_of(d, held_give(d));
+            result = end_of(d, held_frames_give(d));
         if (result == GOES_ON)
             result = end_of(d, parallel_go_on(d));
         if (result == GOES_ON)

@@ -61,18 +61,13 @@ static void make_printable(char *octets, size_t length) {
 
 /* Sends the request and reads the answer. The request is wiped: it may be a key. */
 static bool ask(int file, size_t length) {
-    ssize_t count;
-    do
-        count = send(file, request, length, MSG_NOSIGNAL);
-    while (count < 0 && errno == EINTR);
+    ssize_t count = TEMP_FAILURE_RETRY(send(file, request, length, MSG_NOSIGNAL));
     explicit_bzero(request, sizeof request);
     if (count < 0) {
         (void)fail("macsecd");
         return false;
     }
-    do
-        count = recv(file, answer, sizeof answer - 1, 0);
-    while (count < 0 && errno == EINTR);
+    count = TEMP_FAILURE_RETRY(recv(file, answer, sizeof answer - 1, 0));
     if (count <= 0) {
         fprintf(stderr, "macsecctl: macsecd has closed the connection\n");
         return false;
@@ -110,8 +105,10 @@ static void explain(void) {
             fprintf(stderr, "macsecctl: %s: %s\n", faults[i].name, faults[i].means);
 }
 
-/* Prints the answer. Returns the exit status. */
-static int print_answer(void) {
+/* Sends the request and prints the answer. Returns the exit status. */
+static int ask_and_print(int file, size_t length) {
+    if (!ask(file, length))
+        return 1;
     fputs(answer, stdout);
     if (!is_refused())
         return 0;
@@ -131,9 +128,7 @@ static int ask_words(int file, int count, char **words) {
             return 2;
         }
     }
-    if (!ask(file, length))
-        return 1;
-    return print_answer();
+    return ask_and_print(file, length);
 }
 
 /* ---- All lines or none ---- */
@@ -164,9 +159,7 @@ static int load(int file, int lines) {
         explicit_bzero(request, sizeof request);
         return 2;
     }
-    if (!ask(file, length))
-        return 1;
-    return print_answer();
+    return ask_and_print(file, length);
 }
 
 static int load_file(int file, const char *path) {

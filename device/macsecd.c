@@ -7,7 +7,6 @@
  *     macsecd --check NAME
  *
  * man/macsecd.8 has the manual. The library of macsec.h judges every frame; this program moves octets. */
-#define _GNU_SOURCE
 #include "device.h"
 #include "workers.h"
 #include <limits.h>
@@ -24,17 +23,11 @@ static int configure(struct device *d) {
     status = endpoint_configure(d, (const char *)d->config.text, d->config.length, &line);
     config_wipe(&d->config);
     port_open(d);
-    if (status == MACSEC_OK)
-        return 0;
-    if (status == MACSEC_E_NOT_JOURNAL)
-        message("the journal is none, one of another version, or its header is damaged");
-    else if (status == MACSEC_E_MEMORY)
-        message("out of memory");
-    else
-        message("%s: line %u: %s%s", d->config.path, (unsigned)line, macsec_status_name(status),
-                status == MACSEC_E_PN_FLOOR ? ": the key has no packet number left: install a new one at both ends"
-                                            : "");
-    return status == MACSEC_E_MEMORY ? ENDS_FAILED : ENDS_WRONG;
+    if (status == MACSEC_OK || status == MACSEC_E_NOT_JOURNAL || status == MACSEC_E_MEMORY)
+        return numbers_explain(status);
+    return message_wrong(
+        "%s: line %u: %s%s", d->config.path, (unsigned)line, macsec_status_name(status),
+        status == MACSEC_E_PN_FLOOR ? ": the key has no packet number left: install a new one at both ends" : "");
 }
 
 /* Opens everything, and then gives up the rights to open more. The endpoint is last: it reserves packet numbers, which
@@ -43,7 +36,7 @@ static int start(struct device *d) {
     int result = confine_memory();
     memory_lock();
     if (result == 0)
-        result = service_open();
+        result = service_open(&d->service);
     if (result == 0)
         result = config_read(&d->config, d->name);
     if (result == 0)
@@ -51,7 +44,7 @@ static int start(struct device *d) {
     if (result == 0)
         result = journals_check_disk(d->name, false);
     if (result == 0)
-        result = numbers_open(&d->numbers, d->name, !d->config.behind, &d->counts);
+        result = numbers_open(&d->numbers, d->name, &d->counts);
     if (result == 0)
         result = journals_lock(d->name);
     if (result == 0)
@@ -61,11 +54,11 @@ static int start(struct device *d) {
     if (result == 0)
         result = tap_open(&d->tap, &d->config, &d->link);
     if (result == 0)
-        result = keys_open();
+        result = keys_open(&d->keys);
     if (result == 0)
         result = control_open(&d->control, d->name, &d->config);
     if (result == 0)
-        result = life_open(d);
+        result = rtnetlink_open(d);
     if (result == 0)
         result = workers_open(&d->workers, d->config.has_workers ? d->config.workers : workers_fitting());
     if (result == 0)
@@ -79,8 +72,8 @@ static int start(struct device *d) {
     if (result == 0)
         result = workers_start(d->workers);
     if (result == 0)
-        result = life_begin(d);
-    return result == 0 ? confine_calls() : result;
+        result = rtnetlink_begin(d);
+    return result == 0 ? confine_calls(ENDPOINT_THREAD) : result;
 }
 
 /* Says which frames pass beside MACsec, which no line of the configuration can close. */
@@ -95,31 +88,32 @@ static void say_what_is_open(const struct device *d) {
                 d->link.name);
 }
 
+static int serve(struct device *d) {
+    int result;
+    message("protects %s on %s%s", d->tap.name, d->link.name,
+            endpoint_is_open(d) ? "" : "; it has no endpoint until a client opens one");
+    say_what_is_open(d);
+    service_notify(&d->service, "READY=1");
+    result = loop_run(d);
+    service_notify(&d->service, "STOPPING=1");
+    workers_close(d->workers);
+    d->workers = NULL;
+    numbers_close(d->numbers, d->endpoint);
+    return result;
+}
+
 static int run(struct device *d) {
     int result;
     messages_open();
     result = loop_block_signals(d);
     if (result == 0)
         result = start(d);
-    if (result != 0) {
-        config_wipe(&d->config);
-        workers_close(d->workers);
-        macsec_free(d->endpoint);
-        keys_wipe();
-        return result;
-    }
-    message("protects %s on %s%s", d->tap.name, d->link.name,
-            endpoint_is_open(d) ? "" : "; it has no endpoint until a client opens one");
-    say_what_is_open(d);
-    service_notify("READY=1");
-    result = loop_run(d);
-    service_notify("STOPPING=1");
+    if (result == 0)
+        result = serve(d);
+    config_wipe(&d->config);
     workers_close(d->workers);
-    d->workers = NULL;
-    if (!numbers_close(d->numbers, d->endpoint) && result == 0)
-        result = ENDS_FAILED;
     macsec_free(d->endpoint);
-    keys_wipe();
+    keys_wipe(d->keys);
     return result;
 }
 
@@ -147,11 +141,8 @@ static int print_settings(const char *name) {
     int result = read_device(&c, name);
     if (result != 0)
         return result;
-    if (printf("%s %s %u %s %u\n", c.link, c.tap, (unsigned)c.max_frame, way_of(&c), (unsigned)c.user) > 0 &&
-        fflush(stdout) == 0)
-        return 0;
-    message_of_errno("standard output");
-    return ENDS_FAILED;
+    printf("%s %s %u %s %u\n", c.link, c.tap, (unsigned)c.max_frame, way_of(&c), (unsigned)c.user);
+    return messages_flush_output();
 }
 
 /* The journal belongs to the user of macsecd. */
@@ -176,15 +167,15 @@ int main(int count, char **words) {
     bool creates = count == 3 && strcmp(words[1], "--create-journal") == 0;
     bool prints = count == 3 && strcmp(words[1], "--settings") == 0;
     bool owns = count == 3 && strcmp(words[1], "--own-tap") == 0;
-    if (count == 2 && strcmp(words[1], "--version") == 0)
-        return printf("macsecd %s\n", MACSEC_VERSION) < 0 || fflush(stdout) != 0 ? ENDS_FAILED : 0;
+    if (count == 2 && strcmp(words[1], "--version") == 0) {
+        printf("macsecd %s\n", MACSEC_VERSION);
+        return messages_flush_output();
+    }
     if (count == 3 && strcmp(words[1], "--check") == 0)
         return check_configuration(words[2]);
-    if ((count != 2 && !creates && !prints && !owns) || !config_is_name(words[count - 1])) {
-        message("usage: macsecd NAME, macsecd --check NAME or FILE, macsecd --create-journal NAME, "
-                "macsecd --settings NAME, macsecd --own-tap NAME, or macsecd --version");
-        return ENDS_WRONG;
-    }
+    if ((count != 2 && !creates && !prints && !owns) || !config_is_name(words[count - 1]))
+        return message_wrong("usage: macsecd NAME, macsecd --check NAME or FILE, macsecd --create-journal NAME, "
+                             "macsecd --settings NAME, macsecd --own-tap NAME, or macsecd --version");
     device.name = words[count - 1];
     messages_name(device.name);
     if (prints)

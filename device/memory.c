@@ -4,8 +4,7 @@
  * locked stack can't grow above the limit of locked memory.
  *
  * Pages that are never used need no memory. Core files are in confine.c, and macsecd starts no process. */
-#define _GNU_SOURCE
-#include "device.h"
+#include "system.h"
 #include <limits.h>
 #include <malloc.h>
 #include <stdlib.h>

@@ -1,7 +1,6 @@
 /* What macsecd says, on standard error: a line for what starts, changes, fails and ends, and none for a frame. A client
  * that makes one message again and again must not fill the log, and nobody who does not read it may stop frames. */
-#define _GNU_SOURCE
-#include "device.h"
+#include "system.h"
 #include <errno.h>
 #include <fcntl.h>
 #include <poll.h>
@@ -25,6 +24,7 @@ struct said {
     unsigned left_out; /* messages that were not printed, before this one */
 };
 
+/* Static, here and below: a process has one standard error, which all files use, also before there is a device. */
 static const char *device_name = "";
 
 /* Where lines go, and what keeps a call from waiting: the descriptor itself, a flag of the call, or a call before it.
@@ -67,9 +67,8 @@ static bool write_line(const char *line, size_t length) {
     ssize_t count;
     if (way == BY_POLL && poll(&it, 1, 0) != 1)
         return false;
-    do
-        count = way == BY_FLAG ? send(lines, line, length, MSG_DONTWAIT | MSG_NOSIGNAL) : write(lines, line, length);
-    while (count < 0 && errno == EINTR);
+    count = TEMP_FAILURE_RETRY(way == BY_FLAG ? send(lines, line, length, MSG_DONTWAIT | MSG_NOSIGNAL)
+                                              : write(lines, line, length));
     return count == (ssize_t)length;
 }
 
@@ -141,10 +140,28 @@ void message(const char *form, ...) {
     va_end(arguments);
 }
 
-void message_of_errno(const char *form, ...) {
+int message_wrong(const char *form, ...) {
+    va_list arguments;
+    va_start(arguments, form);
+    print(form, arguments, 0);
+    va_end(arguments);
+    return ENDS_WRONG;
+}
+
+int message_of_errno(const char *form, ...) {
     int error = errno;
     va_list arguments;
     va_start(arguments, form);
     print(form, arguments, error);
     va_end(arguments);
+    return ENDS_FAILED;
+}
+
+int message_of_memory(void) {
+    message("out of memory");
+    return ENDS_FAILED;
+}
+
+int messages_flush_output(void) {
+    return fflush(stdout) == 0 && !ferror(stdout) ? 0 : message_of_errno("standard output");
 }

@@ -6,8 +6,7 @@
  * keys that were given up last stay, so that a key which comes again soon goes on above its packet numbers. Older names
  * leave the journal when it is written again. */
 #define _GNU_SOURCE
-#include "device.h"
-#include "journal.h"
+#include "numbers.h"
 #include <stdlib.h>
 #include <string.h>
 
@@ -148,14 +147,13 @@ bool names_cover(const struct name *name, const macsec_record *record) {
     return name->is_durable && name->durable_last >= number_of(record->octets);
 }
 
-struct name *names_note(struct names *n, const macsec_record *record, uint32_t key, bool reserves) {
+struct name *names_note(struct names *n, const macsec_record *record, uint32_t key) {
     bool existed = names_find(n, record->octets) != NULL;
     struct name *name = name_of(n, record->octets);
     if (name == NULL)
         return NULL;
     if (name->key != key) {
         name->key = key;
-        name->reserves = reserves;
         name->came_again = name->came_again || existed;
         name->again = name->again || name->given_up != 0; /* a record has to follow the mark */
         name->given_up = 0;
@@ -330,7 +328,7 @@ void names_written(struct names *n, const uint8_t *records, size_t length,
             continue;
         name->durable_last = number_of(records + at);
         memcpy(name->durable.octets, records + at, MACSEC_RECORD_LENGTH);
-        if (report != NULL && name->reserves && name->key != NO_KEY)
+        if (report != NULL && name->key != NO_KEY)
             report(context, &name->durable);
     }
 }

@@ -1,7 +1,7 @@
 /* The host's network namespace, which has TAP, and LINK's own. The host has no addresses in LINK's namespace, so its
  * programs get frames of LINK only through MACsec. The program `macsec-link` makes the namespace. */
-#define _GNU_SOURCE
-#include "device.h"
+#include "frames.h"
+#include "text.h"
 #include <errno.h>
 #include <fcntl.h>
 #include <linux/nsfs.h>
@@ -48,8 +48,7 @@ static int check_tun(int tun, const char *path, const struct stat *wanted) {
         return ENDS_FAILED;
     if (!is_same(&status, wanted))
         return 0;
-    message("%s is the network namespace of /dev/net/tun too: start macsecd in that of the host", path);
-    return ENDS_WRONG;
+    return message_wrong("%s is the network namespace of /dev/net/tun too: start macsecd in that of the host", path);
 }
 
 /* Enters LINK's namespace, unless the process is there. */
@@ -62,8 +61,7 @@ static int enter(int file, const char *path, const char *name, struct stat *want
     if (fstat(file, wanted) == 0 && stat("/proc/self/ns/net", &own) == 0 &&
         (is_same(wanted, &own) || setns(file, CLONE_NEWNET) == 0))
         return 0;
-    message_of_errno("LINK's network namespace %s can't be entered", path);
-    return ENDS_FAILED;
+    return message_of_errno("LINK's network namespace %s can't be entered", path);
 }
 
 /* Opens LINK's namespace, enters it, and sees that TAP is in another one. */
@@ -73,10 +71,8 @@ static int isolate(int tun, const char *name) {
     int file, result;
     namespace_path(path, name);
     file = open(path, O_RDONLY | O_CLOEXEC | O_NONBLOCK);
-    if (file < 0) {
-        message_of_errno("LINK's network namespace %s, which `macsec-link isolate %s` makes", path, name);
-        return ENDS_FAILED;
-    }
+    if (file < 0)
+        return message_of_errno("LINK's network namespace %s, which `macsec-link isolate %s` makes", path, name);
     result = enter(file, path, name, &wanted);
     (void)close(file); /* it was only read */
     return result == 0 ? check_tun(tun, path, &wanted) : result;
@@ -85,10 +81,8 @@ static int isolate(int tun, const char *name) {
 int namespace_enter(struct tap *t, const struct config *c, const char *name) {
     int result = 0;
     t->file = open_tun();
-    if (t->file < 0) {
-        message_of_errno("/dev/net/tun");
-        return ENDS_FAILED;
-    }
+    if (t->file < 0)
+        return message_of_errno("/dev/net/tun");
     if (!c->shared)
         result = isolate(t->file, name);
     return result == 0 ? confine_namespace() : result;

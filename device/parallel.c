@@ -4,20 +4,10 @@
  * The endpoint's thread waits for the jobs under way before each request, each report and each tick of the clock. So
  * these find what they would find without workers: a frame that was read before is counted, and was judged by what the
  * endpoint was then. */
+#include "device.h"
 #include "workers.h"
 #include <stddef.h>
 #include <string.h>
-
-/* Puts the frame of a free place into a ring. */
-static void put(struct device *d, enum direction direction, struct copies *copies) {
-    workers_put(d->workers, direction, copies);
-    d->under_way[direction]++;
-}
-
-static void remove_first(struct device *d, enum direction direction) {
-    workers_remove(d->workers, direction);
-    d->under_way[direction]--;
-}
 
 /* ---- Sending ---- */
 
@@ -25,15 +15,13 @@ static void remove_first(struct device *d, enum direction direction) {
 static enum outcome send_finished(struct device *d) {
     struct ring *r = workers_ring(d->workers, SENDING);
     enum outcome outcome = DONE;
-    if (d->under_way[SENDING] == 0)
-        return link_flush(&d->link, &d->counts);
     while (outcome == DONE) {
         struct ring_place *p;
-        while (link_waiting() < BATCH && (p = ring_first(r)) != NULL) {
+        while (link_waiting(&d->link) < BATCH && (p = ring_first(r)) != NULL) {
             macsec_sent sent = { p->out, p->length, MACSEC_OK, p->fate, 0, { 0 } };
             d->counts.link_refused += p->length == 0; /* its packet number is used */
             frames_sent(d, &sent);
-            remove_first(d, SENDING);
+            workers_remove(d->workers, SENDING);
         }
         outcome = link_flush(&d->link, &d->counts);
         if (ring_first(r) == NULL)
@@ -66,7 +54,7 @@ static uint32_t plan_client_frame(struct device *d, const struct frame *frame) {
         frames_sent(d, &dropped);
         return planned.fate;
     }
-    put(d, SENDING, copies);
+    workers_put(d->workers, SENDING, copies);
     return planned.fate;
 }
 
@@ -83,7 +71,7 @@ static bool can_plan(const struct device *d) {
 /* Waits until all places of the sending ring but so many are finished and their frames given to LINK. */
 static enum outcome leave_at_most(struct device *d, unsigned count) {
     enum outcome outcome = send_finished(d);
-    while (outcome == DONE && d->under_way[SENDING] > count) {
+    while (outcome == DONE && workers_under_way(d->workers, SENDING) > count) {
         (void)workers_await(d->workers, SENDING, 0);
         outcome = send_finished(d);
     }
@@ -93,7 +81,7 @@ static enum outcome leave_at_most(struct device *d, unsigned count) {
 /* Reads a batch. The first frame is sealed at once if none is under way, and all are if a key can't be copied. A frame
  * alone needs no copies, so they are looked for when the second frame is there. */
 static enum outcome read_client_frames(struct device *d, struct client_batch *b) {
-    bool alone = d->under_way[SENDING] == 0, plans = !alone && can_plan(d);
+    bool alone = workers_under_way(d->workers, SENDING) == 0, plans = !alone && can_plan(d);
     enum outcome outcome = alone || plans ? DONE : leave_at_most(d, 0);
     for (unsigned i = 0; outcome == DONE && i < BATCH; i++) {
         struct frame frame;
@@ -127,25 +115,23 @@ _Static_assert(sizeof(macsec_received) == offsetof(macsec_received, length) + si
 
 /* Judges the frame of the first place, which is finished, and delivers it, or lets it wait for a reservation. */
 static enum outcome receive_first(struct device *d, struct ring_place *p) {
-    static uint8_t out[MACSEC_FRAME_MAX];
+    uint8_t out[MACSEC_FRAME_MAX];
     macsec_received got = { .frame = out };
     macsec_finished finished;
-    struct frame frame = { p->out, p->length };
-    enum outcome outcome = held_give(d);
+    enum outcome outcome = held_frames_give(d);
     if (outcome == GONE)
         return GONE;
     (void)macsec_finish_receive(d->endpoint, &p->slot, out, sizeof out, &finished); /* as in macsec_receive */
     memcpy((uint8_t *)&got + offsetof(macsec_received, length), &finished, sizeof finished);
-    outcome = frames_judged(d, &got, &frame);
-    remove_first(d, RECEIVING);
+    outcome = frames_judged(d, &got, &p->frame);
+    workers_remove(d->workers, RECEIVING);
     return outcome;
 }
 
-/* Delivers the finished frames that are first. */
-static enum outcome receive_finished(struct device *d) {
+enum outcome parallel_deliver(struct device *d) {
     enum outcome outcome = DONE;
     struct ring_place *p;
-    while (outcome == DONE && d->under_way[RECEIVING] > 0 &&
+    while (outcome == DONE && workers_under_way(d->workers, RECEIVING) > 0 &&
            (p = ring_first(workers_ring(d->workers, RECEIVING))) != NULL)
         outcome = receive_first(d, p);
     return outcome;
@@ -153,16 +139,16 @@ static enum outcome receive_finished(struct device *d) {
 
 /* Waits until there is a free place. */
 static enum outcome make_room(struct device *d) {
-    enum outcome outcome = receive_finished(d);
+    enum outcome outcome = parallel_deliver(d);
     if (outcome == DONE && ring_free(workers_ring(d->workers, RECEIVING)) == NULL) {
         (void)workers_await(d->workers, RECEIVING, 0);
-        outcome = receive_finished(d);
+        outcome = parallel_deliver(d);
     }
     return outcome;
 }
 
-/* Plans a frame of LINK. If it needs no job or its key can't be copied, macsec_finish_receive does all. */
-static enum outcome plan_link_frame(struct device *d, const struct frame *frame) {
+/* If it needs no job or its key can't be copied, macsec_finish_receive does all. */
+enum outcome parallel_receive(struct device *d, const struct frame *frame, unsigned index, bool whole) {
     enum outcome outcome = make_room(d);
     struct ring_place *p = ring_free(workers_ring(d->workers, RECEIVING));
     macsec_planned planned;
@@ -170,33 +156,13 @@ static enum outcome plan_link_frame(struct device *d, const struct frame *frame)
         return outcome;
     if (macsec_plan_receive(d->endpoint, &p->slot, frame->octets, frame->length, &planned) != MACSEC_OK)
         return frames_receive(d, frame); /* it counts and judges nothing, and says why */
-    p->length = numbers_are_ahead(d->numbers) ? frame->length : 0;
-    memcpy(p->out, frame->octets, p->length);
-    put(d, RECEIVING, planned.job ? workers_copies(d->workers, d->endpoint, planned.key) : NULL);
+    p->frame = *frame;
+    if (whole)
+        link_keep(&d->link, index, &p->buffer);
+    else
+        p->frame.octets = memcpy(p->out, frame->octets, frame->length);
+    workers_put(d->workers, RECEIVING, planned.job ? workers_copies(d->workers, d->endpoint, planned.key) : NULL);
     return DONE;
-}
-
-enum outcome parallel_from_link(struct device *d) {
-    struct unfinished frames[BATCH];
-    unsigned count = 0;
-    enum outcome outcome = receive_finished(d);
-    bool alone;
-    if (outcome == DONE)
-        outcome = link_read(&d->link, frames, &count);
-    if (outcome == GONE)
-        return outcome;
-    alone = count == 1 && d->under_way[RECEIVING] == 0;
-    for (unsigned i = 0; i < count; i++) {
-        struct segments s;
-        struct frame frame;
-        segments_begin(&s, &frames[i]);
-        while (segments_next(&s, &frame))
-            if ((alone ? frames_receive(d, &frame) : plan_link_frame(d, &frame)) == GONE)
-                return GONE;
-    }
-    outcome = receive_finished(d);
-    floods_stop(d);
-    return outcome;
 }
 
 /* ---- Both ---- */
@@ -205,7 +171,7 @@ enum outcome parallel_go_on(struct device *d) {
     enum outcome outcome;
     if (d->workers == NULL)
         return DONE;
-    outcome = receive_finished(d);
+    outcome = parallel_deliver(d);
     return outcome == GONE || send_finished(d) == GONE ? GONE : DONE;
 }
 
@@ -213,11 +179,11 @@ enum outcome parallel_drain(struct device *d) {
     bool gone = false;
     if (d->workers == NULL)
         return DONE;
-    while (d->under_way[RECEIVING] > 0) { /* also if TAP is gone: then they are refused */
+    while (workers_under_way(d->workers, RECEIVING) > 0) { /* also if TAP is gone: then they are refused */
         (void)workers_await(d->workers, RECEIVING, 0);
-        gone = receive_finished(d) == GONE || gone;
+        gone = parallel_deliver(d) == GONE || gone;
     }
-    for (unsigned i = 0; i < d->under_way[SENDING]; i++)
+    for (unsigned i = 0; i < workers_under_way(d->workers, SENDING); i++)
         (void)workers_await(d->workers, SENDING, i);
     return send_finished(d) == GONE || gone ? GONE : DONE;
 }

@@ -14,7 +14,7 @@ void port_open(struct device *d) {
 }
 
 void port_set_carrier(struct device *d) {
-    tap_set_carrier(&d->tap, d->life.up && d->port.ticks < TICKS);
+    tap_set_carrier(&d->tap, d->link.up && d->port.ticks < TICKS);
 }
 
 void port_set(struct device *d, bool on) {
@@ -36,10 +36,6 @@ void port_tick(struct device *d) {
 
 bool port_may_change(const struct device *d, int client) {
     return d->port.owner < 0 || d->port.owner == client;
-}
-
-bool port_has_owner(const struct device *d) {
-    return d->port.owner >= 0;
 }
 
 bool port_may_own(const struct device *d, int client) {

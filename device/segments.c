@@ -3,7 +3,7 @@
  * also joins segments that a card has received. The endpoint and TAP want frames as they are on a link.
  *
  * Protected frames are complete: this is for frames that pass unprotected. */
-#include "device.h"
+#include "frames.h"
 #include <string.h>
 
 /* EtherTypes, and where a frame's first one is. */

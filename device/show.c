@@ -2,7 +2,6 @@
 #include "device.h"
 #include <inttypes.h>
 #include <stdio.h>
-#include <string.h>
 
 /* The octets of an age, and of a packet number. */
 enum { AGE = 40, NUMBER = 24 };
@@ -30,16 +29,14 @@ static void number_text(uint64_t number, uint64_t high, char text[NUMBER]) {
         snprintf(text, NUMBER, "%" PRIu64, number);
 }
 
-/* Has this key's suite extended packet numbers? The line of a key may name its suite; else it is the endpoint's. */
+/* Has this key's suite extended packet numbers? A key that names no suite has the endpoint's. */
 static bool is_extended(const struct device *d, uint16_t key) {
-    struct words w;
-    size_t length = 0;
-    const char *line = keys_line(key, &length);
-    words_split(&w, line != NULL ? line : "", length);
-    if (w.count == 6 || w.count == 8)
-        return w.length[5] > 3 && memcmp(w.at[5], "xpn", 3) == 0;
-    words_split(&w, d->end_line, strlen(d->end_line));
-    return w.count > 2 && w.length[2] > 3 && memcmp(w.at[2], "xpn", 3) == 0;
+    uint32_t suite = d->keys[key].suite;
+    if (suite == MACSEC_SUITE_DEFAULT)
+        suite = d->end.suite;
+    /* made: is-extended of tools/families.json */
+    return suite == MACSEC_SUITE_GCM_AES_XPN_128 || suite == MACSEC_SUITE_GCM_AES_XPN_256;
+    /* end */
 }
 
 /* How many packet numbers a key has from this one on. */
@@ -61,18 +58,15 @@ static void add_link(struct text *t, const struct device *d) {
     if (!d->config.shared)
         namespace_path(path, d->name);
     text_add(t, "  link %s: %s, MTU %u, %02x:%02x:%02x:%02x:%02x:%02x, %s%s\n", d->link.name,
-             d->life.up ? "up" : "down", (unsigned)d->link.mtu, a[0], a[1], a[2], a[3], a[4], a[5],
+             d->link.up ? "up" : "down", (unsigned)d->link.mtu, a[0], a[1], a[2], a[3], a[4], a[5],
              d->config.shared ? "in the host's network namespace" : "in ", path);
     text_add(t, "  tap %s: port %s\n", d->tap.name, d->port.off ? "off" : "on");
 }
 
 static void add_journal(struct text *t, const struct device *d) {
     text_add(t, "  journal: %zu of %zu names\n", numbers_names(d->numbers), numbers_names_max());
-    if (numbers_are_ahead(d->numbers))
-        text_add(t, "  receive ahead: dropped %" PRIu64 " without a reservation, %" PRIu64 " of an earlier run\n",
-                 d->counts.link_no_reservation, d->counts.link_earlier_run);
-    else
-        text_add(t, "  receive behind: what was received is saved each second\n");
+    text_add(t, "  receive ahead: dropped %" PRIu64 " without a reservation, %" PRIu64 " of an earlier run\n",
+             d->counts.link_no_reservation, d->counts.link_earlier_run);
 }
 
 static void add_last(struct text *t, const struct history *h) {
@@ -91,16 +85,14 @@ static void add_last(struct text *t, const struct history *h) {
 }
 
 static void add_endpoint(struct text *t, const struct device *d) {
-    struct words w;
+    char name[SCI_TEXT];
     uint32_t left = 0;
     if (macsec_keys_left(d->endpoint, &left) != MACSEC_OK) {
         text_add(t, "  no endpoint: a client opens one\n");
         return;
     }
-    words_split(&w, d->end_line, strlen(d->end_line));
-    if (w.count > 3)
-        text_add(t, "  suite %.*s, SCI %.*s, %u keys left\n", (int)w.length[2], w.at[2], (int)w.length[3], w.at[3],
-                 (unsigned)left);
+    sci_text(d->end.sci, name);
+    text_add(t, "  suite %s, SCI %s, %u keys left\n", macsec_suite_name(d->end.suite), name, (unsigned)left);
 }
 
 static void add_transmit(struct text *t, const struct device *d) {
@@ -126,8 +118,7 @@ static void add_associations(struct text *t, const struct device *d, const uint8
         macsec_rx_sa sa;
         uint64_t values[RX_COUNTERS];
         char next[NUMBER], lowest[NUMBER];
-        if (macsec_get_rx_sa(d->endpoint, sci, an, &sa) != MACSEC_OK ||
-            totals_rx(d->endpoint, sci, an, values) != MACSEC_OK)
+        if (macsec_get_rx_sa(d->endpoint, sci, an, &sa) != MACSEC_OK || totals_rx(d, sci, an, values) != MACSEC_OK)
             continue;
         if (!any)
             text_add(t, "  AN   key  state          next PN       lowest PN          OK        late   not valid\n");

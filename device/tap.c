@@ -1,6 +1,6 @@
 /* TAP: the network device of the client, this host's network stack. */
-#define _GNU_SOURCE
-#include "device.h"
+#include "frames.h"
+#include "text.h"
 #include <errno.h>
 #include <fcntl.h>
 #include <limits.h>
@@ -22,12 +22,17 @@ uint32_t tap_mtu(uint32_t link_mtu, uint32_t max_frame) {
     return frame < HEADER + MACSEC_OVERHEAD_MAX ? 0 : frame - HEADER - MACSEC_OVERHEAD_MAX;
 }
 
+/* A request of the system about TAP, without what is asked. */
+static struct ifreq request_of(const struct tap *t) {
+    struct ifreq request;
+    memset(&request, 0, sizeof request);
+    memcpy(request.ifr_name, t->name, IF_NAMESIZE);
+    return request;
+}
+
 /* Carries out a request at a socket or at TAP's file. */
 static int ask(int file, unsigned long call, struct ifreq *request, const char *name, const char *what) {
-    if (ioctl(file, call, request) == 0)
-        return 0;
-    message_of_errno("TAP %s: %s", name, what);
-    return ENDS_FAILED;
+    return ioctl(file, call, request) == 0 ? 0 : message_of_errno("TAP %s: %s", name, what);
 }
 
 /* ---- Whose it is ---- */
@@ -37,20 +42,18 @@ static int ask(int file, unsigned long call, struct ifreq *request, const char *
 static int attach(struct tap *t, const struct config *c, uid_t user) {
     struct ifreq request;
     memcpy(t->name, c->tap, IF_NAMESIZE);
-    memset(&request, 0, sizeof request);
-    memcpy(request.ifr_name, t->name, IF_NAMESIZE);
+    request = request_of(t);
     request.ifr_flags = IFF_TAP | IFF_NO_PI;
     if (ioctl(t->file, TUNSETIFF, &request) == 0) {
-        tap_set_carrier(t, false); /* until LINK is up, which life_read finds out */
+        tap_set_carrier(t, false); /* until LINK is up, which rtnetlink_read finds out */
         return 0;
     }
     if (errno == EBUSY)
         return holder_say(t, user) ? ENDS_FAILED : ENDS_TAKEN;
-    if (errno == EINVAL)
-        message("TAP %s: the device of this name is no TAP with one queue: delete it, or name another by `device tap`",
-                t->name);
-    else
-        message_of_errno("TAP %s can't be made or attached to", t->name);
+    if (errno != EINVAL)
+        return message_of_errno("TAP %s can't be made or attached to", t->name);
+    message("TAP %s: the device of this name is no TAP with one queue: delete it, or name another by `device tap`",
+            t->name);
     return ENDS_FAILED;
 }
 
@@ -82,10 +85,9 @@ static int undo(const struct tap *t) {
         { TUNSETSTEERINGEBPF, &no_program },
         { TUNSETFILTEREBPF, &no_program },
     };
-    struct ifreq request;
+    struct ifreq request = request_of(t);
     for (size_t i = 0; i < sizeof settings / sizeof *settings; i++)
         (void)ioctl(t->file, settings[i].call, settings[i].value);
-    memset(&request, 0, sizeof request);
     if (ioctl(t->file, SIOCGIFHWADDR, &request) == 0 &&
         (request.ifr_hwaddr.sa_family == ARPHRD_ETHER || ioctl(t->file, TUNSETLINK, (unsigned long)ARPHRD_ETHER) == 0))
         return 0;
@@ -99,17 +101,14 @@ static int set_owner(const struct tap *t, const struct config *c) {
     if (ioctl(t->file, TUNSETOWNER, (unsigned long)c->user) == 0 &&
         (!has_group(t->name) || ioctl(t->file, TUNSETGROUP, (unsigned long)c->user_group) == 0))
         return undo(t);
-    message_of_errno("TAP %s: its owner", t->name);
-    return ENDS_FAILED;
+    return message_of_errno("TAP %s: its owner", t->name);
 }
 
 int tap_own(const struct config *c, uid_t user) {
     struct tap t = { .file = open("/dev/net/tun", O_RDWR | O_CLOEXEC) };
     int result;
-    if (t.file < 0) {
-        message_of_errno("/dev/net/tun");
-        return ENDS_FAILED;
-    }
+    if (t.file < 0)
+        return message_of_errno("/dev/net/tun");
     result = attach(&t, c, user);
     if (result == 0)
         result = set_owner(&t, c);
@@ -122,19 +121,15 @@ int tap_own(const struct config *c, uid_t user) {
 /* Gives TAP LINK's address, as the system's own MACsec devices have it: a LINK that filters by address then passes the
  * frames for TAP. The MTU leaves space for what the endpoint adds. */
 static int set_properties(const struct tap *t, const struct config *c, const struct link *l) {
-    struct ifreq request;
-    uint32_t mtu = tap_mtu(l->mtu, c->max_frame);
+    struct ifreq request = request_of(t);
     int result;
-    memset(&request, 0, sizeof request);
-    memcpy(request.ifr_name, t->name, IF_NAMESIZE);
     request.ifr_hwaddr.sa_family = ARPHRD_ETHER;
     memcpy(request.ifr_hwaddr.sa_data, l->address, sizeof l->address);
     result = ask(t->file, SIOCSIFHWADDR, &request, t->name, "its address");
     if (result != 0 || !c->shared)
         return result;
-    memset(&request, 0, sizeof request);
-    memcpy(request.ifr_name, t->name, IF_NAMESIZE);
-    request.ifr_mtu = (int)mtu;
+    request = request_of(t);
+    request.ifr_mtu = (int)tap_mtu(l->mtu, c->max_frame);
     return ask(l->socket, SIOCSIFMTU, &request, t->name, "its MTU");
 }
 
@@ -145,22 +140,17 @@ static int persist(const struct tap *t, const struct config *c) {
         message("TAP %s is not there: `macsec-link isolate` makes it", t->name);
         return ENDS_FAILED;
     }
-    if (c->transient || ioctl(t->file, TUNSETPERSIST, 1UL) == 0)
-        return 0;
-    message_of_errno("TAP %s", t->name);
-    return ENDS_FAILED;
+    return c->transient || ioctl(t->file, TUNSETPERSIST, 1UL) == 0 ? 0 : message_of_errno("TAP %s", t->name);
 }
 
 int tap_open(struct tap *t, const struct config *c, const struct link *l) {
     struct ifreq request;
     if (attach(t, c, geteuid()) != 0 || set_owner(t, c) != 0)
         return ENDS_FAILED;
-    memset(&request, 0, sizeof request);
+    request = request_of(t);
     /* No frame from the client lacks its checksum or is longer than the MTU. */
-    if (ioctl(t->file, TUNSETOFFLOAD, 0UL) != 0 || ioctl(t->file, TUNGETIFF, &request) != 0) {
-        message_of_errno("TAP %s", t->name);
-        return ENDS_FAILED;
-    }
+    if (ioctl(t->file, TUNSETOFFLOAD, 0UL) != 0 || ioctl(t->file, TUNGETIFF, &request) != 0)
+        return message_of_errno("TAP %s", t->name);
     if ((request.ifr_flags & IFF_PERSIST) == 0 && persist(t, c) != 0)
         return ENDS_FAILED;
     return set_properties(t, c, l);
@@ -172,24 +162,16 @@ static bool is_gone(int error) {
 }
 
 enum outcome tap_read(struct tap *t, struct frame *frame) {
-    static uint8_t buffer[MACSEC_FRAME_MAX + 1];
-    ssize_t length;
-    do
-        length = read(t->file, buffer, sizeof buffer);
-    while (length < 0 && errno == EINTR);
+    ssize_t length = TEMP_FAILURE_RETRY(read(t->file, t->buffer, sizeof t->buffer));
     if (length < 0)
         return is_gone(errno) ? GONE : BUSY;
-    frame->octets = buffer;
+    frame->octets = t->buffer;
     frame->length = (size_t)length;
     return DONE;
 }
 
 enum outcome tap_write(struct tap *t, const uint8_t *octets, size_t length, struct counts *c) {
-    ssize_t written;
-    do
-        written = write(t->file, octets, length);
-    while (written < 0 && errno == EINTR);
-    if (written >= 0) {
+    if (TEMP_FAILURE_RETRY(write(t->file, octets, length)) >= 0) {
         c->tap_out++;
         return DONE;
     }
@@ -198,8 +180,7 @@ enum outcome tap_write(struct tap *t, const uint8_t *octets, size_t length, stru
 }
 
 bool tap_address(const struct tap *t, uint8_t address[6]) {
-    struct ifreq request;
-    memset(&request, 0, sizeof request);
+    struct ifreq request = request_of(t);
     if (ioctl(t->file, SIOCGIFHWADDR, &request) != 0)
         return false;
     memcpy(address, request.ifr_hwaddr.sa_data, 6);

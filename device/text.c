@@ -1,5 +1,5 @@
 /* Texts that are composed piece by piece, in a buffer that the caller gives. */
-#include "device.h"
+#include "text.h"
 #include <stdarg.h>
 #include <stdio.h>
 

@@ -1,7 +1,6 @@
 /* Answers that wait for the journal. A request that begins or ends an association is carried out at once, and answered
- * when its records are on the disk: so a client that enables the new association then loses no frame, and knows that
- * what the old one had accepted is saved. It does not wait for ever: a disk can be slow or fail. */
-#define _GNU_SOURCE
+ * when its records are on the disk: so a client that enables the new association then loses no frame. It does not wait
+ * for ever: a disk can be slow or fail. */
 #include "device.h"
 #include <errno.h>
 #include <string.h>
@@ -20,9 +19,7 @@ static int64_t now(void) {
 
 bool waits_keep(struct device *d, int client, const char *answer, size_t length) {
     struct waiting *w = &d->waits.clients[client];
-    uint64_t ticket;
-    numbers_go_on(d->numbers, d->endpoint); /* else the mark of a key that was given up waits for the clock */
-    ticket = numbers_ticket(d->numbers);
+    uint64_t ticket = numbers_ticket(d->numbers);
     if (numbers_is_written(d->numbers, ticket) || length > sizeof w->answer)
         return false;
     memcpy(w->answer, answer, length);

@@ -1,6 +1,6 @@
 /* The words of a line, separated as the library separates them: by spaces and tabs. One carriage return at the end of a
  * line belongs to no word. */
-#include "device.h"
+#include "text.h"
 #include <stdlib.h>
 #include <string.h>
 
@@ -34,8 +34,15 @@ bool words_is(const struct words *w, unsigned index, const char *text) {
            memcmp(w->at[index], text, w->length[index]) == 0;
 }
 
-bool words_are(const struct words *w, unsigned count, const char *first, const char *second) {
-    return w->count == count && words_is(w, 0, first) && words_is(w, 1, second);
+bool words_are(const struct words *w, unsigned index, const char *text) {
+    struct words those;
+    words_split(&those, text, strlen(text));
+    if (w->count > WORDS || w->count != index + those.count)
+        return false;
+    for (unsigned i = 0; i < those.count; i++)
+        if (w->length[index + i] != those.length[i] || memcmp(w->at[index + i], those.at[i], those.length[i]) != 0)
+            return false;
+    return true;
 }
 
 bool words_copy(const struct words *w, unsigned index, char *to, size_t room) {

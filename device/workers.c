@@ -5,7 +5,6 @@
  * no thread has taken, so a few frames wake none. The endpoint's thread does jobs too, when it has nothing else to do
  * and when a ring is too full. It leaves no job undone when it waits, so each job is done although no worker may have
  * been woken for it. While it waits in its loop, an eventfd reports that the first frame is finished. */
-#define _GNU_SOURCE
 #include "workers.h"
 #include <errno.h>
 #include <limits.h>
@@ -139,7 +138,7 @@ static void *work(void *argument) {
     struct worker *it = argument;
     struct workers *w = it->all;
     unsigned looks = 0;
-    if (confine_worker() != 0)
+    if (confine_calls(WORKER_THREAD) != 0)
         atomic_store(&w->unconfined, 1);
     atomic_fetch_add(&w->begun, 1);
     wake(&w->begun, 1);
@@ -181,8 +180,7 @@ unsigned workers_fitting(void) {
 
 static int failed(int error) {
     errno = error;
-    message_of_errno("workers");
-    return ENDS_FAILED;
+    return message_of_errno("workers");
 }
 
 /* Their stacks are locked in memory, as the heap is. Below each one is a page that can't be used. */
@@ -271,6 +269,10 @@ struct ring *workers_ring(struct workers *w, enum direction direction) {
     return &w->rings[direction];
 }
 
+unsigned workers_under_way(const struct workers *w, enum direction direction) {
+    return w == NULL ? 0 : ring_count(&w->rings[direction]);
+}
+
 /* ---- Keys ---- */
 
 static void free_copies(struct copies *c) {
@@ -343,7 +345,7 @@ void workers_forget(struct workers *w) {
 void workers_put(struct workers *w, enum direction direction, struct copies *copies) {
     struct ring *r = &w->rings[direction];
     struct ring_place *p = ring_free(r);
-    if (!workers_have_frames(w))
+    if (workers_under_way(w, SENDING) + workers_under_way(w, RECEIVING) == 0)
         w->jobs = 0;
     p->copies = copies;
     p->seals = direction == SENDING;
@@ -358,10 +360,6 @@ void workers_put(struct workers *w, enum direction direction, struct copies *cop
 void workers_remove(struct workers *w, enum direction direction) {
     release(ring_first(&w->rings[direction]));
     ring_remove(&w->rings[direction]);
-}
-
-bool workers_have_frames(const struct workers *w) {
-    return ring_count(&w->rings[SENDING]) + ring_count(&w->rings[RECEIVING]) > 0;
 }
 
 bool workers_help(struct workers *w) {

@@ -1,14 +1,17 @@
-/* Frames on several cores, in macsecd. Each section is the interface of one file, as in device.h. */
+/* Frames on several cores, in macsecd. Each section is the interface of one file. */
 #ifndef WORKERS_H
 #define WORKERS_H
 
-#include "device.h"
+#include "frames.h"
 #include <stdatomic.h>
 
 /* ---- ring.c: frames that are under way, in their order ---- */
 
-/* How many frames are under way in a direction, and the most workers. */
-enum { RING = 128, WORKERS_MAX = 8 };
+/* The most workers. */
+enum { WORKERS_MAX = 8 };
+
+struct device;
+struct workers;
 
 enum place_state { FREE, PLANNED, TAKEN, FINISHED };
 
@@ -22,7 +25,9 @@ struct ring_place {
     macsec_slot slot;              /* the frame with its job */
     size_t length;                 /* of what is sent; 0: it could not be sealed */
     uint32_t fate;                 /* of a client frame */
-    uint8_t out[MACSEC_FRAME_MAX]; /* what is sent; or a copy of a frame of LINK, since it may have to wait */
+    struct frame frame;            /* of LINK, since it may have to wait */
+    struct received *buffer;       /* of a frame of LINK: the one that has this frame, or a spare one */
+    uint8_t out[MACSEC_FRAME_MAX]; /* what is sent; or a segment, of those that have a buffer together */
 };
 
 /* Frames are numbered from 0 on: those from `first` to before `end` are in it. */
@@ -52,7 +57,7 @@ void ring_remove(struct ring *r);
 /* In any thread: takes any job, or a place's job, so that no other thread has it. NULL and false: there is none. */
 struct ring_place *ring_take(struct ring *r);
 bool ring_take_place(struct ring_place *p);
-/* The job is done. */
+/* Says that the job of a place is done. */
 void ring_finish(struct ring_place *p);
 /* Is this the first place, as the endpoint's thread has it when it waits? */
 bool ring_is_first(struct ring *r, const struct ring_place *p);
@@ -75,6 +80,8 @@ void workers_close(struct workers *w);
 int workers_file(const struct workers *w);
 void workers_read_event(struct workers *w);
 struct ring *workers_ring(struct workers *w, enum direction direction);
+/* How many frames are in a ring; 0 if there are no workers. */
+unsigned workers_under_way(const struct workers *w, enum direction direction);
 /* Copies of the endpoint's key of this number, which the jobs of this key need. NULL: it can't be taken. */
 struct copies *workers_copies(struct workers *w, const macsec_endpoint *e, uint16_t number);
 /* Waits for the jobs that are under way and frees all copies: to be called when a line was carried out, or the endpoint
@@ -84,8 +91,6 @@ void workers_forget(struct workers *w);
 void workers_put(struct workers *w, enum direction direction, struct copies *copies);
 /* Removes the first frame, which is finished. */
 void workers_remove(struct workers *w, enum direction direction);
-/* Is a frame in a ring? */
-bool workers_have_frames(const struct workers *w);
 /* Does a job that no thread has taken. Returns false if there is none: none may be left when the loop waits, since no
  * worker may have been woken for it. */
 bool workers_help(struct workers *w);
@@ -98,9 +103,12 @@ void workers_woke(struct workers *w);
 
 /* ---- parallel.c: the path of frames with workers ---- */
 
-/* As frames_from_client and frames_from_link. */
+/* What frames_from_client does with workers. */
 enum outcome parallel_from_client(struct device *d);
-enum outcome parallel_from_link(struct device *d);
+/* Plans a frame of LINK, which is the `whole` content of the buffer of this index, or a segment. */
+enum outcome parallel_receive(struct device *d, const struct frame *frame, unsigned index, bool whole);
+/* Delivers the finished frames that are first. Does nothing without workers. Returns GONE if TAP is. */
+enum outcome parallel_deliver(struct device *d);
 /* Sends and delivers the finished frames that are first. Does nothing without workers. */
 enum outcome parallel_go_on(struct device *d);
 /* Waits until no job is under way. Then all frames that were read are counted by the endpoint. Those that LINK does not

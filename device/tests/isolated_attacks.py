@@ -278,8 +278,8 @@ def build_taken(options: Options) -> pathlib.Path:
     shutil.copytree(options.source, source, ignore=shutil.ignore_patterns("built", "tests"))
     shutil.copy(ROOT / "device/tests/isolated_taken.c", source)
     for name, place, call in (
-        ("macsecd.c", '    service_notify("READY=1");\n', "extern void taken(struct device *); taken(d);"),
-        ("saver.c", "    double began = now();\n", "extern void taken_files(void); taken_files();"),
+        ("macsecd.c", '    service_notify(&d->service, "READY=1");\n', "extern void taken(struct device *); taken(d);"),
+        ("journal_writer.c", "    double began = now();\n", "extern void taken_files(void); taken_files();"),
     ):
         text = (source / name).read_text()
         if text.count(place) != 1:

@@ -132,7 +132,7 @@ CONTROLS: dict[str, list[Control]] = {
         ),
         Control(
             "TAP's address is not read",
-            ("loop.c", "return life_tick(d) ?", "return true ?"),
+            ("loop.c", "return rtnetlink_tick(d) ?", "return true ?"),
             (),
             ("TAP's new address",),
         ),

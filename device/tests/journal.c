@@ -6,8 +6,6 @@
  *     journal receive JOURNAL LIMIT SUITE CAPTURE IN..
  *     journal accept JOURNAL LIMIT SUITE AMOUNT CAPTURE PREFIX COUNT
  *     journal floors JOURNAL PREFIX STEP SEED NUMBER..
- *     journal endpoints JOURNAL
- *     journal amounts
  *
  * send protects frames under two keys, one after another, and writes each to CAPTURE before it protects the next
  * one. It ends after FRAMES of them, or never if FRAMES is 0. keys makes four reservations for each of COUNT keys.
@@ -17,11 +15,11 @@
  * CAPTURE at once. It ends after COUNT captures. If COUNT is 0 it never ends: it waits for more frames of the last
  * capture, and for the next one. floors writes each prefix of JOURNAL to PREFIX, alone and followed by random octets,
  * and opens it. It prints how many of the NUMBERs, from the first on, are refused as the first of each key. With a STEP
- * of 5 it does so for every fifth prefix, and for those around the end of a record. endpoints makes several endpoints
- * beside one journal, and prints what becomes of each. amounts prints reservations. The status is 3 if the journal
+ * of 5 it does so for every fifth prefix, and for those around the end of a record. The status is 3 if the journal
  * can't be created or opened. */
 #define _GNU_SOURCE
 #include "journal.h"
+#include "../../tests/library/suites.h"
 #include <errno.h>
 #include <fcntl.h>
 #include <inttypes.h>
@@ -30,7 +28,7 @@
 #include <string.h>
 #include <unistd.h>
 
-enum { FRAME_LENGTH = 64, KEYS = 2, TURN = 16, HELD = 16, LINK_MAX = 256, SECTOR = 512 };
+enum { FRAME_LENGTH = 64, KEYS = 2, TURN = 16, HELD = 16, LINK_MAX = 256, SECTOR = 512, LIMIT = 1 << 16 };
 
 static const uint8_t sender[8] = { 2, 0, 0, 0, 0, 1, 0, 1 }, receiver[8] = { 2, 0, 0, 0, 0, 2, 0, 1 };
 
@@ -126,20 +124,14 @@ static void open_journal(struct journal *journal, const char *name, size_t limit
 }
 
 /* Creates an endpoint with its keys and a journal. Key and association have the same number. */
-static uint32_t make_endpoint(macsec_endpoint *e, const uint8_t *sci, uint32_t suite, struct journal *journal,
+static uint32_t make_endpoint(macsec_endpoint *e, const uint8_t *sci, uint32_t suite, const struct journal *journal,
                               bool ahead) {
-    struct journal_fault fault = { JOURNAL_LIBRARY, 0, MACSEC_OK, 0 };
     macsec_config config = { { 0 }, suite, MACSEC_FORM_SCI, 1600 };
-    bool wide = suite == MACSEC_SUITE_GCM_AES_256 || suite == MACSEC_SUITE_GCM_AES_XPN_256;
     uint32_t status;
     memcpy(config.sci, sci, sizeof config.sci);
-    if (journal_make_endpoint(journal, e, &config, ahead, &fault) != 0 && fault.step != JOURNAL_LIBRARY) {
-        print_fault("make_endpoint", &fault);
-        exit(1);
-    }
-    status = fault.status;
+    status = macsec_reserve_open(e, &config, journal->octets, journal->length, ahead);
     for (uint16_t it = 0; status == MACSEC_OK && it < KEYS; it++) {
-        macsec_sak key = { { 0 }, { 0 }, sci[5], MACSEC_SUITE_DEFAULT, it, wide ? 32 : 16, 0 };
+        macsec_sak key = { { 0 }, { 0 }, sci[5], MACSEC_SUITE_DEFAULT, it, suite_key_octets(suite), 0 };
         memset(key.bytes, 0xa0 + it, sizeof key.bytes); /* only for this test */
         memset(key.salt, 0xb0 + it, sizeof key.salt);
         must("install_key", macsec_install_key(e, &key));
@@ -177,16 +169,48 @@ static void add_lowest(macsec_endpoint *e, uint8_t an, uint64_t floor,
     must("add", add(e, an, floor + 1));
 }
 
-/* ---- send ---- */
+/* ---- Records ---- */
 
 struct counts {
     uint64_t sent, dropped, failures;
 };
 
-static void reserve(struct journal *journal, macsec_endpoint *e, uint8_t an, uint64_t amount, struct counts *counts) {
+/* Writes the journal again, with one record for each name, if its file is in doubt or full. */
+static int write_again(struct journal *journal, struct journal_fault *fault) {
+    static uint8_t octets[JOURNAL_MAX];
+    size_t length = 0;
+    uint32_t status;
+    if (!journal->in_doubt && journal->length + MACSEC_RECORD_LENGTH + JOURNAL_FILL <= journal->room)
+        return 0;
+    status = macsec_journal_compacted(journal->octets, journal->length, octets, &length);
+    *fault = (struct journal_fault){ JOURNAL_LIBRARY, EINVAL, status, 0 };
+    if (status != MACSEC_OK || journal_make_room(journal, length, fault) != 0)
+        return -1;
+    return journal_replace(journal, octets, length, fault);
+}
+
+/* Makes a record durable, and then reports it, if the library's call of this status has made one. */
+static bool keep(struct journal *journal, macsec_endpoint *e, uint32_t status, const macsec_record *record,
+                 struct counts *counts) {
     struct journal_fault fault;
-    if (journal_reserve(journal, e, an, amount, &fault) != 0 && counts->failures++ == 0)
-        print_fault("reserve", &fault);
+    if (status == MACSEC_E_NOT_FOUND)
+        return true;
+    must("record", status);
+    if (write_again(journal, &fault) != 0 ||
+        journal_append_all(journal, record->octets, sizeof record->octets, &fault) != 0) {
+        if (counts->failures++ == 0)
+            print_fault("append", &fault);
+        return false;
+    }
+    must("granted", macsec_reserve_granted(e, record));
+    return true;
+}
+
+/* ---- send ---- */
+
+static void reserve(struct journal *journal, macsec_endpoint *e, uint8_t an, uint64_t amount, struct counts *counts) {
+    macsec_record record;
+    (void)keep(journal, e, macsec_reserve_wanted(e, an, amount, &record), &record, counts);
 }
 
 static void send_frame(macsec_endpoint *e, int file, struct counts *counts) {
@@ -263,13 +287,12 @@ struct held {
 
 /* Delivers the frames that are held, once their packet numbers are saved: so none of them is delivered again. */
 static void deliver(struct journal *journal, macsec_endpoint *e, struct held *held, int file, struct counts *counts) {
-    struct journal_fault fault;
-    for (uint8_t an = 0; an < KEYS; an++)
-        if (journal_save(journal, e, sender, an, &fault) != 0) {
-            if (counts->failures++ == 0)
-                print_fault("save", &fault);
+    macsec_record record;
+    for (uint8_t an = 0; an < KEYS; an++) {
+        uint32_t status = macsec_reserve_to_save(e, sender, an, &record);
+        if (!keep(journal, e, status, &record, counts))
             held->count = 0;
-        }
+    }
     for (size_t at = 0; at < held->count; at++)
         capture(file, held->frames[at], held->lengths[at]);
     counts->sent += held->count;
@@ -337,9 +360,9 @@ struct accepting {
 };
 
 static void reserve_to_accept(struct accepting *a, uint8_t an, uint64_t pn) {
-    struct journal_fault fault;
-    if (journal_accept(&a->journal, &a->e, sender, an, a->amount, pn, &fault) != 0 && a->counts.failures++ == 0)
-        print_fault("accept", &fault);
+    macsec_record record;
+    uint32_t status = macsec_reserve_to_accept(&a->e, sender, an, a->amount, pn, &record);
+    (void)keep(&a->journal, &a->e, status, &record, &a->counts);
 }
 
 /* Gives a frame to the endpoint, and once more if it lacked a reservation. */
@@ -458,7 +481,7 @@ static void print_floors(const char *name, const uint8_t *octets, size_t length,
     macsec_endpoint e = MACSEC_ENDPOINT_INIT;
     uint32_t status;
     write_file(name, octets, length);
-    if (journal_open(&journal, name, JOURNAL_LIMIT, &fault) != 0) {
+    if (journal_open(&journal, name, LIMIT, &fault) != 0) {
         printf(" %s", journal_step_name(fault.step));
         return;
     }
@@ -496,60 +519,6 @@ static int run_floors(int count, char **words) {
     return 0;
 }
 
-/* ---- endpoints ---- */
-
-/* Reserves and sends one frame under the first key. Prints its packet number, or why there is none. */
-static void send_one(struct journal *journal, macsec_endpoint *e) {
-    static const uint8_t frame[FRAME_LENGTH] = { 2, 0, 0, 0, 0, 9, 2, 0, 0, 0, 0, 8, 0x88, 0xb5 };
-    struct journal_fault fault;
-    macsec_sent sent;
-    if (journal_reserve(journal, e, 0, 1000, &fault) != 0)
-        printf("%s %d ", journal_step_name(fault.step), fault.error == EBUSY);
-    must("send", macsec_send(e, frame, sizeof frame, &sent));
-    if (sent.fate == MACSEC_FATE_PROTECTED)
-        printf("%u\n", (unsigned)(sent.frame[18] << 8 | sent.frame[19]));
-    else
-        printf("%s\n", macsec_fate_name(sent.fate));
-}
-
-static void make_sender(macsec_endpoint *e, struct journal *journal) {
-    must("make", make_endpoint(e, sender, MACSEC_SUITE_GCM_AES_128, journal, true));
-    must("add", add_sending(e, 0, sending_floor(e, 0) + 1));
-    must("enable", macsec_enable_tx_sa(e, 0));
-}
-
-static int run_endpoints(const char *name) {
-    static const char line[] = "end A gcm128 0200000000010001 1514 sci\n";
-    static const char key[] = "A key 0 a0a0a0a0a0a0a0a0a0a0a0a0a0a0a0a0 0";
-    struct journal journal;
-    struct journal_fault fault;
-    macsec_endpoint first = MACSEC_ENDPOINT_INIT, second = MACSEC_ENDPOINT_INIT, third = MACSEC_ENDPOINT_INIT;
-    macsec_config config = { { 2, 0, 0, 0, 0, 1, 0, 1 }, MACSEC_SUITE_GCM_AES_128, MACSEC_FORM_SCI, 1600 };
-    uint32_t number;
-    open_journal(&journal, name, JOURNAL_LIMIT);
-    make_sender(&first, &journal);
-    if (journal_make_endpoint(&journal, &second, &config, true, &fault) == 0 ||
-        journal_configure(&journal, &second, line, sizeof line - 1, true, &number, &fault) == 0)
-        printf("made ");
-    printf("%s %d\n", journal_step_name(fault.step), fault.error == EBUSY);
-    /* Another one, made of the same octets by the library's call: it sends nothing. */
-    must("reserve_open", macsec_reserve_open(&second, &config, journal.octets, journal.length, true));
-    must("key", macsec_command_line(&second, (const uint8_t *)key, sizeof key - 1));
-    must("add", macsec_add_tx_sa(&second, 0, 0, 1, true));
-    must("enable", macsec_enable_tx_sa(&second, 0));
-    send_one(&journal, &first);
-    send_one(&journal, &second);
-    send_one(&journal, &first);
-    macsec_free(&first);
-    journal_hand_over(&journal, NULL);
-    make_sender(&third, &journal);
-    send_one(&journal, &third);
-    macsec_free(&second);
-    macsec_free(&third);
-    journal_close(&journal);
-    return 0;
-}
-
 /* ---- */
 
 static int run_create(const char *name) {
@@ -558,14 +527,6 @@ static int run_create(const char *name) {
         return 0;
     print_fault("create", &fault);
     return 3;
-}
-
-static int run_amounts(void) {
-    const uint64_t half = UINT64_MAX / 2;
-    const uint64_t rates[] = { 0, 1, 32767, 32768, 40000, 14880952, half, half + 1, UINT64_MAX };
-    for (size_t at = 0; at < sizeof rates / sizeof rates[0]; at++)
-        printf("%" PRIu64 " %" PRIu64 "\n", rates[at], journal_amount(rates[at]));
-    return 0;
 }
 
 int main(int count, char **words) {
@@ -581,11 +542,6 @@ int main(int count, char **words) {
         return run_accept(words + 2);
     if (count >= 6 && strcmp(words[1], "floors") == 0)
         return run_floors(count - 2, words + 2);
-    if (count == 3 && strcmp(words[1], "endpoints") == 0)
-        return run_endpoints(words[2]);
-    if (count == 2 && strcmp(words[1], "amounts") == 0)
-        return run_amounts();
-    fprintf(stderr,
-            "usage: journal create|send|keys|receive|accept|floors|endpoints|amounts ..: see device/tests/journal.c\n");
+    fprintf(stderr, "usage: journal create|send|keys|receive|accept|floors ..: see device/tests/journal.c\n");
     return 2;
 }

@@ -1,5 +1,5 @@
-/* Frames that wait for a reservation (device/held.c), for the test journal. In place of the endpoint and of the journal
- * there is a counter: how many packet numbers are reserved. It rises at random moments.
+/* Frames that wait for a reservation (device/held_frames.c), for the test journal. In place of the endpoint and of the
+ * journal there is a counter: how many packet numbers are reserved. It rises at random moments.
  *
  *     journal_held SEED
  *
@@ -64,7 +64,7 @@ enum outcome frames_present(struct device *d, const struct frame *frame) {
     if (pn <= last)
         fail("it was overtaken, or came twice", pn);
     if (pn > reserved) {
-        refused += !held_keep(d, frame->octets, frame->length);
+        refused += !held_frames_keep(d, frame->octets, frame->length);
     } else {
         last = pn;
         delivered++;
@@ -80,18 +80,18 @@ static void receive(uint64_t pn) {
     memcpy(octets, &pn, sizeof pn);
     for (size_t at = sizeof pn; at < frame.length; at++)
         octets[at] = (uint8_t)(pn + at);
-    if (held_give(&device) != DONE || frames_present(&device, &frame) != DONE)
+    if (held_frames_give(&device) != DONE || frames_present(&device, &frame) != DONE)
         fail("it is not taken", pn);
 }
 
 /* Frames that wait without a reservation are dropped after two ticks, and counted. */
 static void test_ticks(void) {
-    unsigned count = held_count(&device);
-    held_tick(&device);
-    if (held_count(&device) != count)
+    unsigned count = held_frames_count(&device);
+    held_frames_tick(&device);
+    if (held_frames_count(&device) != count)
         fail("it does not wait", last);
-    held_tick(&device);
-    if (held_count(&device) != 0 || device.counts.link_no_reservation != count || device.counts.link_in != count)
+    held_frames_tick(&device);
+    if (held_frames_count(&device) != 0 || device.counts.link_no_reservation != count || device.counts.link_in != count)
         fail("it waits for ever, or is not counted", last);
     if (device.history.dropped == 0 || device.history.why != MACSEC_VERDICT_NO_RESERVATION)
         fail("it is not shown as the last drop", last);
@@ -104,7 +104,7 @@ int main(int count, char **words) {
     state = strtoull(words[1], NULL, 10);
     for (uint64_t pn = 1; pn <= FRAMES; pn++)
         receive(pn);
-    waiting = held_count(&device);
+    waiting = held_frames_count(&device);
     if (delivered + refused + waiting != FRAMES)
         fail("it is lost", last);
     test_ticks();

@@ -4,14 +4,14 @@
  *     journal_numbers create JOURNAL
  *     journal_numbers send JOURNAL LIMIT SUITE AMOUNT FRAMES CAPTURE
  *     journal_numbers agree JOURNAL LIMIT COUNT CAPTURE
- *     journal_numbers paces
+ *     journal_numbers rates
  *
  * The arguments and the output are as in journal.c, except that SUITE and AMOUNT are not used, and CAPTURE also gets
  * the frames that are delivered. numbers.c finds LIMIT in the environment. The clock ticks a few frames after a
  * failure: each tick makes reservations longer, since no time passes. If nothing fails, each new frame has to be
  * delivered. agree is a key agreement. It sends and receives frames of association 0 under a key, retires the key, and
  * installs it again in a second endpoint. Then it does so with association 1 under COUNT other keys, and ends without
- * an orderly end. paces prints how many packet numbers are reserved for a channel that is quiet, busy, quiet again, and
+ * an orderly end. rates prints how many packet numbers are reserved for a channel that is quiet, busy, quiet again, and
  * whose frames lack a reservation. */
 #define _GNU_SOURCE
 #include "device.h"
@@ -48,12 +48,26 @@ void message(const char *form, ...) {
     va_end(arguments);
 }
 
-void message_of_errno(const char *form, ...) {
+int message_wrong(const char *form, ...) {
+    va_list arguments;
+    va_start(arguments, form);
+    print(form, arguments, 0);
+    va_end(arguments);
+    return ENDS_WRONG;
+}
+
+int message_of_errno(const char *form, ...) {
     int error = errno;
     va_list arguments;
     va_start(arguments, form);
     print(form, arguments, error);
     va_end(arguments);
+    return ENDS_FAILED;
+}
+
+int message_of_memory(void) {
+    message("out of memory");
+    return ENDS_FAILED;
 }
 
 bool config_path(char *path, size_t room, const char *variable, const char *otherwise, const char *name,
@@ -65,7 +79,8 @@ bool config_path(char *path, size_t room, const char *variable, const char *othe
     return snprintf(path, room, "%s", journal_path) < (int)room;
 }
 
-int confine_saver(void) {
+int confine_calls(enum thread thread) {
+    (void)thread;
     return 0;
 }
 
@@ -82,12 +97,13 @@ static void must(const char *line, uint32_t status) {
 static void carry_out(struct numbers *n, macsec_endpoint *e, const char *form, ...) {
     char line[LINE];
     va_list arguments;
+    macsec_command command;
     uint64_t raised;
     va_start(arguments, form);
     vsnprintf(line, sizeof line, form, arguments);
     va_end(arguments);
-    must(line, n == NULL ? macsec_command_line(e, (const uint8_t *)line, strlen(line))
-                         : lines_carry_out(n, e, line, strlen(line), &raised));
+    must(line, macsec_parse_line((const uint8_t *)line, strlen(line), &command));
+    must(line, n == NULL ? macsec_carry_out(e, &command) : lines_carry_out(n, e, &command, &raised));
 }
 
 /* The octets of a key are only for this test. */
@@ -97,8 +113,10 @@ static void install_key(struct numbers *n, macsec_endpoint *e, unsigned number) 
 
 static void create(struct numbers *n, macsec_endpoint *e) {
     char end[LINE];
+    macsec_config config;
     snprintf(end, sizeof end, "end A gcm128 %s 1600 sci", own);
-    if (numbers_configure(n, e, end, strlen(end), NULL, 0) != MACSEC_OK)
+    must(end, macsec_parse_end((const uint8_t *)end, strlen(end), &config));
+    if (numbers_configure(n, e, &config, NULL, 0) != MACSEC_OK)
         exit(3);
 }
 
@@ -196,7 +214,7 @@ static int run_send(unsigned long frames, const char *out) {
     unsigned long sent = 0;
     uint64_t failures = 0;
     int file;
-    if (numbers_open(&n, "journal", true, &counts) != 0)
+    if (numbers_open(&n, "journal", &counts) != 0)
         return 3;
     begin(n, &e);
     begin_peer(&peer, &e);
@@ -217,7 +235,8 @@ static int run_send(unsigned long frames, const char *out) {
             numbers_tick(n, &e);
         }
     }
-    if ((!numbers_close(n, &e) || peer.lacked > 0) && counts.journal_failed == 0)
+    numbers_close(n, &e);
+    if (peer.lacked > 0 && counts.journal_failed == 0)
         return 1;
     printf("sent %lu dropped %lu failures %" PRIu64 " lacked %lu\n", sent, frames - sent, counts.journal_failed,
            peer.lacked);
@@ -275,7 +294,7 @@ static int run_agree(unsigned count, const char *out) {
     struct numbers *n;
     struct counts counts = { 0 };
     int file;
-    if (numbers_open(&n, "journal", true, &counts) != 0)
+    if (numbers_open(&n, "journal", &counts) != 0)
         return 3;
     file = create_capture(out);
     for (unsigned number = 0; number < 2; number++) {
@@ -288,7 +307,7 @@ static int run_agree(unsigned count, const char *out) {
         if (number == 1)
             break;
         retire_key(n, &e, &peer, 0, 0);
-        numbers_save(n, &e, NULL);
+        numbers_note_accepted(n, &e, NULL);
         numbers_forget(n);
         macsec_free(&e);
         macsec_free(&peer);
@@ -305,33 +324,33 @@ static int run_agree(unsigned count, const char *out) {
 
 /* ---- Amounts ---- */
 
-static void receive_frames(struct pace *p, unsigned count) {
+static void receive_frames(struct receive_rate *p, unsigned count) {
     for (unsigned it = 0; it < count; it++)
-        (void)paces_accepted(p);
+        (void)receive_rates_accepted(p);
 }
 
-static void print_amount(const char *what, struct pace *p, double slow) {
-    printf("%s %" PRIu64 "\n", what, paces_amount(p, slow));
+static void print_amount(const char *what, struct receive_rate *p, double slow) {
+    printf("%s %" PRIu64 "\n", what, receive_rates_amount(p, slow));
 }
 
-static int run_paces(void) {
-    static struct paces paces;
-    struct pace *p = paces_of(&paces, other_sci);
+static int run_rates(void) {
+    static struct receive_rates rates;
+    struct receive_rate *p = receive_rates_of(&rates, other_sci);
     print_amount("quiet", p, 0);
     receive_frames(p, 1000);
     print_amount("busy", p, 0);
-    paces_tick(&paces);
+    receive_rates_tick(&rates);
     print_amount("slow", p, 5);
     for (int tick = 0; tick < 60; tick++) {
         print_amount("falling", p, 0);
-        paces_tick(&paces);
+        receive_rates_tick(&rates);
     }
     for (unsigned frame = 0; frame < 300; frame++)
-        (void)paces_lacked(p, 1, frame);
+        (void)receive_rates_lacked(p, 1, frame);
     print_amount("first", p, 0);
-    (void)paces_lacked(p, 2, 300);
+    (void)receive_rates_lacked(p, 2, 300);
     print_amount("next", p, 0);
-    paces_tick(&paces);
+    receive_rates_tick(&rates);
     print_amount("later", p, 0);
     receive_frames(p, 1 << 20);
     print_amount("most", p, 0);
@@ -339,8 +358,8 @@ static int run_paces(void) {
 }
 
 int main(int count, char **words) {
-    if (count == 2 && strcmp(words[1], "paces") == 0)
-        return run_paces();
+    if (count == 2 && strcmp(words[1], "rates") == 0)
+        return run_rates();
     if (count < 3)
         return 2;
     journal_path = words[2];

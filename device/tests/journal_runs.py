@@ -46,8 +46,8 @@ def build_numbers(library: pathlib.Path, folder: pathlib.Path) -> pathlib.Path:
     """Builds the end that reserves as macsecd does. Its reservations are short."""
     folder.mkdir(parents=True, exist_ok=True)
     program = folder / "journal_numbers"
-    parts = ("journal", "journals", "lines", "names", "numbers", "paces", "saver", "text", "words")
-    sizes = ['-DNUMBERS_FILE_LENGTH=(size_t)atol(getenv("LIMIT"))', "-DJOURNAL_AMOUNT_MIN=8", "-DPACES_LEAST=8"]
+    parts = "commands journal journal_writer journals lines names numbers receive_rates text words".split()
+    sizes = ['-DNUMBERS_FILE_LENGTH=(size_t)atol(getenv("LIMIT"))', "-DAMOUNT_MIN=8", "-DRECEIVE_RATES_LEAST=8"]
     sources = [str(ROOT / f"device/{it}.c") for it in (*parts, "tests/journal_numbers")]
     command = ["gcc", *FLAGS, "-pedantic", "-pthread", *sizes, "-o", str(program), *sources, str(library)]
     if subprocess.call(command):
@@ -59,7 +59,7 @@ def build_held(folder: pathlib.Path) -> pathlib.Path:
     """Builds frames that wait for a reservation, with sanitizers."""
     folder.mkdir(parents=True, exist_ok=True)
     program = folder / "journal_held"
-    sources = [str(ROOT / f"device/{it}.c") for it in ("held", "history", "tests/journal_held")]
+    sources = [str(ROOT / f"device/{it}.c") for it in ("held_frames", "history", "tests/journal_held")]
     if subprocess.call(["gcc", *FLAGS, "-pedantic", *SANITIZED, "-o", str(program), *sources]):
         sys.exit("device/tests/journal: a program was not built")
     return program

@@ -4,9 +4,13 @@ from __future__ import annotations
 
 import contextlib
 import json
+import pathlib
 import secrets
 import socket
+import subprocess
 
+from house import ROOT
+from house.compiling import WARNINGS
 from house.reporting import report, until
 from macsecd_world import SALT, End, Packets, World, connected, ping, protected
 
@@ -151,7 +155,8 @@ def check_limits(world: World) -> None:
             a.ask("A txdel 1")
         for line in ("A replay on 0", "A protect on", "A validate strict"):
             report(a.ask(line) == "ok\n", f"{line} with `device allow {allowed and allowed[1]}`")
-        report(a.ask("A replay on 18446744073709551616") != "ok\n", "a window of 2^64")
+        for line, answer in (("A replay on 18446744073709551616", "Number"), ("A protect off now", "Count")):
+            report(a.ask(line) == f"fault {answer}\n", f"a wrong line that weakens: {line}")
         a.stop()
 
 
@@ -185,6 +190,16 @@ def check_key_lengths(world: World) -> None:
         a.stop()
 
 
+def check_new_command(folder: pathlib.Path) -> None:
+    """The compiler refuses limits.c, where nothing is granted by default, if the library has one more command."""
+    header, last = (ROOT / "include/macsec.h").read_text(), "    MACSEC_COMMAND_RX_DEL = 17 "
+    words = ["gcc", *WARNINGS, "-fsyntax-only", f"-I{folder}", ROOT / "device/limits.c"]
+    for text, refuses in ((header, False), (header.replace(last, "    MACSEC_COMMAND_OTHER = 18,\n" + last), True)):
+        (folder / "macsec.h").write_text(text)
+        told = subprocess.run(words, capture_output=True, text=True)
+        report(("MACSEC_COMMAND_OTHER" in told.stderr) == refuses == bool(told.returncode), f"limits.c: {told.stderr}")
+
+
 def check_agreement(world: World) -> None:
     """A device whose endpoints a client makes, and what it may weaken."""
     for end in world.ends:
@@ -200,5 +215,6 @@ def check_agreement(world: World) -> None:
     configure(world.ends[0], "device allow nothing")
     told = world.ends[0].run("macsec0")
     report(told.returncode == 2 and "line 2: after `device allow`" in told.stderr, f"`device allow nothing`: {told}")
+    check_new_command(world.folder)
     check_limits(world)
     check_key_lengths(world)

@@ -14,7 +14,7 @@ import time
 from house.reporting import call, report, until
 from macsecd_handover import Client
 from macsecd_losses import count_all, settled
-from macsecd_world import End, Packets, Stream, World, hand_over_lines, inside, numbers_of, ping, protected
+from macsecd_world import End, Packets, Stream, World, hand_over_lines, inside, late_frames, numbers_of, ping, protected
 
 # A reservation has the packet numbers of so many seconds of a channel's frames, and at least so many.
 LASTS, LEAST = 2, 16
@@ -73,7 +73,7 @@ def check_recorded(world: World, replay: bool, times: int) -> None:
     time.sleep(TICK)
     what = f"ahead: a recorded frame, {times} times, replay protection {'on' if replay else 'off'}"
     report(grown["device TapOut"] == 0 == grown[f"{a.sci} InPktsOK"], f"{what}: delivered: {grown}")
-    late, earlier = grown[f"{a.sci} InPktsLate"], grown["device LinkEarlierRun"]
+    late, earlier = late_frames(grown, a.sci), grown["device LinkEarlierRun"]
     report(
         (late, earlier) == ((times, 0) if replay else (0, times)), f"{what}: {late} late, {earlier} of an earlier run"
     )
@@ -151,19 +151,6 @@ def check_kills_of_both(world: World, kills: int, replay: bool, rng: random.Rand
     print(f"{what}: {arrived} of {sent} datagrams arrived, {again} frames given again, {twice} delivered", flush=True)
 
 
-def check_behind(world: World) -> None:
-    """`device receive behind`: after SIGKILL no frame of the peer is dropped."""
-    a, b = world.ends
-    b.behind = True
-    world.start()
-    report(ping(a) == 3, "behind: no replies")
-    report("  receive behind: " in b.ask("show"), f"behind: show: {b.ask('show')}")
-    report("  receive ahead: dropped 0 without a reservation, 0 of an earlier run\n" in a.ask("show"), a.ask("show"))
-    b.stop(signal.SIGKILL)
-    b.start()
-    report(ping(a) == 3, "behind: no replies after SIGKILL")
-
-
 # ---- What it costs
 
 
@@ -179,7 +166,7 @@ def check_crash(world: World) -> None:
     b.start()
     passes = until(lambda: b.counters()[f"{a.sci} InPktsOK"] > 0, 20)
     sent, arrived = stream.stop()
-    late = b.counters()[f"{a.sci} InPktsLate"]
+    late = late_frames(b.counters(), a.sci)
     most = int(1.5 * max(LEAST, LASTS * rate))
     report(passes, f"ahead: no frame passes after a crash, {late} late")
     report(0 < late <= most, f"ahead: a crash lost {late} frames at {rate} a second, and not at most {most}")
@@ -198,7 +185,7 @@ def check_crash_of_both(world: World) -> None:
     for end in (a, b):
         end.start()
     replies = ping(a), ping(b)
-    dropped = [end.counters()[f"{peer.sci} InPktsLate"] for end, peer in ((a, b), (b, a))]
+    dropped = [late_frames(end.counters(), peer.sci) for end, peer in ((a, b), (b, a))]
     report(replies == (3, 3), f"ahead: after a crash of both ends {replies} of 3 requests are answered")
     report(dropped == [0, 0], f"ahead: after a crash of both ends {dropped} frames are late")
 
@@ -306,7 +293,7 @@ def check_handovers(world: World, count: int) -> None:
     sent, arrived = stream.stop()
     client.socket.close()
     c = b.counters()
-    lost = c["device LinkNoReservation"], c["device LinkEarlierRun"], c[f"{a.sci} InPktsLate"]
+    lost = c["device LinkNoReservation"], c["device LinkEarlierRun"], late_frames(c, a.sci)
     report(sent == arrived and lost == (0, 0, 0), f"ahead: {count} endpoints: {arrived} of {sent} arrived, lost {lost}")
     report("a second endpoint goes on after `load`" in b.log(), "ahead: no second endpoint has taken over")
     frames = protected(link.frames(), a.sci)

@@ -23,6 +23,7 @@ WRONG_DEVICES = (
     ("device link link0\ndevice tab macsec0\n", 2, "line 2: the word after `device`"),
     ("device link link0\ndevice group nosuchgroup\n", 2, "line 2: there is no such group"),
     ("device link link0\ndevice user nosuchuser\n", 2, "line 2: there is no such user"),
+    ("device link link0\ndevice receive behind\n", 2, "line 2: `device receive behind` is gone: what is received is"),
     ("device link lo\n", 2, "LINK lo is not an Ethernet device"),
     ("# none\n", 2, "no line `device link NAME`"),
 )

@@ -8,7 +8,6 @@ import json
 import os
 import pathlib
 import random
-import re
 import resource
 import socket
 import subprocess
@@ -18,7 +17,7 @@ import time
 from collections.abc import Iterator
 from typing import Callable
 
-from house import ROOT
+from house import families
 from house.reporting import report, until
 from macsecd_world import IN, OUT, RX, End, connected, ping
 
@@ -320,7 +319,7 @@ def check_help(macsecctl: pathlib.Path) -> None:
     """`help` has each request that shells complete, without macsecd, and another one asks whether that runs."""
     told = subprocess.run([macsecctl, "macsec9", "help"], capture_output=True, text=True)
     listed = [line.split()[0] for line in told.stdout.splitlines()]
-    wanted = re.findall(r'^REQUESTS = "(.*)"$', (ROOT / "tools/completions").read_text(), re.M)[0].split()
+    wanted = families.names("requests")
     report(told.returncode == 0 and list(dict.fromkeys(listed)) == wanted, f"macsecctl help: {told}, and not {wanted}")
     told = subprocess.run([macsecctl, "macsec9", "port"], capture_output=True, text=True)
     report(

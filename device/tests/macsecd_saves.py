@@ -26,10 +26,6 @@ from macsecd_world import End, Packets, Stream, World, build, hand_over_lines
 
 CHANNELS = 64
 
-# With `device receive behind`, a frame that was delivered longer before a kill may not be delivered again: the journal
-# is written each second.
-OLDEST = 2.0
-
 # The most packet numbers that are reserved ahead of a channel that gets 40 frames a second.
 RESERVED = 1024
 
@@ -59,11 +55,11 @@ def sci_of(channel: int) -> str:
 
 
 class Deliveries:
-    """What TAP delivers: when each frame of each channel arrived, in a thread."""
+    """What TAP delivers: the frames of each channel, in a thread."""
 
     def __init__(self, end: End) -> None:
         self.tap = Packets(end.namespace, "macsec0")
-        self.frames: list[tuple[int, int, float]] = []
+        self.frames: list[tuple[int, int]] = []
         self.goes_on = True
         self.thread = threading.Thread(target=self.run, daemon=True)
         self.thread.start()
@@ -75,9 +71,9 @@ class Deliveries:
             with contextlib.suppress(OSError):
                 frame = self.tap.socket.recv(200)
                 if frame[12:14] == b"\x88\xb5":
-                    self.frames.append((frame[14], int.from_bytes(frame[15:19], "big"), time.monotonic()))
+                    self.frames.append((frame[14], int.from_bytes(frame[15:19], "big")))
 
-    def stop(self) -> list[tuple[int, int, float]]:
+    def stop(self) -> list[tuple[int, int]]:
         """Stops it once no frame is left. Returns the frames."""
         count = -1
         while count != (count := len(self.frames)):
@@ -89,19 +85,17 @@ class Deliveries:
 
 
 class Receiver:
-    """An end that receives from 64 channels under one key, at window 0, and frames for it. It saves what it
-    has received, or reserves it ahead."""
+    """An end that receives from 64 channels under one key, at window 0, and frames for it."""
 
-    def __init__(self, world: World, sender: pathlib.Path, behind: bool) -> None:
-        self.end, self.peer, self.sender, self.behind = world.ends[0], world.ends[1], sender, behind
-        self.way = "behind" if behind else "ahead"
+    def __init__(self, world: World, sender: pathlib.Path) -> None:
+        self.end, self.peer, self.sender = world.ends[0], world.ends[1], sender
         self.key = secrets.token_hex(16)
         lines = [f"device link link0\nend A gcm128 {self.end.sci} 1514 sci\nA key 9 {self.key} 0"]
         for channel in range(CHANNELS):
             sci = sci_of(channel)
             lines += [f"A rxsc {sci}", f"A rxsa {sci} 0 9 1", f"A rxon {sci} 0"]
         self.end.write_config()
-        lines += [f"device receive {self.way}", "device shared", "device transient", ""]
+        lines += ["device receive ahead", "device shared", "device transient", ""]
         self.end.config.write_text("\n".join(lines))
         self.end.create_journal()
 
@@ -117,46 +111,38 @@ class Receiver:
             time.sleep(0.05)
 
 
-def check_kill(receiver: Receiver, first: int, rounds: int, rng: random.Random) -> tuple[float, int, int]:
-    """Frames, SIGKILL, and the same frames again. Returns the age of the oldest that was delivered again, and how many
-    were delivered, and again."""
+def check_kill(receiver: Receiver, first: int, rounds: int, rng: random.Random) -> tuple[int, int]:
+    """Frames, SIGKILL, and the same frames again. Returns how many were delivered, and how many of them again."""
     end, rate = receiver.end, 64 * 40
     end.start()
     deliveries = Deliveries(end)
     thread = threading.Thread(target=receiver.send, args=(first, rounds, rate))
     thread.start()
     time.sleep(rounds * 64 / rate + rng.uniform(-1, 0.1))
-    killed = time.monotonic()
     end.stop(signal.SIGKILL)
     thread.join()
-    before = {(channel, number): moment for channel, number, moment in deliveries.stop()}
+    before = set(deliveries.stop())
     end.start()
     deliveries = Deliveries(end)
     receiver.send(first, rounds, 20000)
     receiver.settle()
-    again = {(channel, number) for channel, number, _ in deliveries.stop()} & set(before)
-    oldest = max((killed - before[it] for it in again), default=0.0)
+    again = before & set(deliveries.stop())
     end.stop()
-    return oldest, len(before), len(again)
+    return len(before), len(again)
 
 
-def check_replays(world: World, sender: pathlib.Path, behind: bool, kills: int, rng: random.Random) -> None:
-    """SIGKILL with traffic in 64 channels: of what is reserved ahead no frame is accepted again, and else none that was
-    accepted longer ago."""
-    receiver = Receiver(world, sender, behind)
-    first, oldest, total, again = 1, 0.0, 0, 0
+def check_replays(world: World, sender: pathlib.Path, kills: int, rng: random.Random) -> None:
+    """SIGKILL with traffic in 64 channels: no frame is delivered again."""
+    receiver = Receiver(world, sender)
+    first, total, again = 1, 0, 0
     for _ in range(kills):
         rounds = 40 * rng.choice([3, 4])
-        age, delivered, repeated = check_kill(receiver, first, rounds, rng)
+        delivered, repeated = check_kill(receiver, first, rounds, rng)
         report(delivered > 64 * 40, f"replays: only {delivered} frames were delivered before a kill")
-        oldest, total, again = max(oldest, age), total + delivered, again + repeated
-        first += rounds if behind else rounds + 3 * RESERVED
-    report(behind or again == 0, f"replays: {again} frames were delivered again")
-    report(oldest <= OLDEST, f"replays: a frame was delivered again {oldest:.2f} s after it was delivered first")
-    print(
-        f"replays, {receiver.way}: {kills} kills, {total} frames, {again} delivered again, the oldest {oldest:.2f} s",
-        flush=True,
-    )
+        total, again = total + delivered, again + repeated
+        first += rounds + 3 * RESERVED
+    report(again == 0, f"replays: {again} frames were delivered again")
+    print(f"replays: {kills} kills, {total} frames, {again} delivered again", flush=True)
 
 
 def second_endpoint() -> list[str]:
@@ -165,10 +151,10 @@ def second_endpoint() -> list[str]:
     return [f"A key 4000 {keys[0]} 0", "A retire 4000", hand_over_lines(keys[1])]
 
 
-def check_again(world: World, sender: pathlib.Path, behind: bool) -> None:
+def check_again(world: World, sender: pathlib.Path) -> None:
     """An association that comes again under its key: nothing is delivered again, whatever ended it, and it begins right
     above what it had accepted."""
-    receiver = Receiver(world, sender, behind)
+    receiver = Receiver(world, sender)
     end, sci, key = receiver.end, sci_of(5), receiver.key
     end.start()
     begin = [f"A rxsa {sci} 0 9 1", f"A rxon {sci} 0"]
@@ -198,9 +184,9 @@ def check_again(world: World, sender: pathlib.Path, behind: bool) -> None:
     report(end.stop() == 0, f"again: macsecd does not end well: {end.log()}")
 
 
-def check_last_save(world: World, sender: pathlib.Path, behind: bool) -> None:
-    """A journal that can't be written at the end: what was received behind is not saved; ahead, nothing is missing."""
-    receiver = Receiver(world, sender, behind)
+def check_last_records(world: World, sender: pathlib.Path) -> None:
+    """A journal that can't be written at the end: nothing that the next run needs is missing, so macsecd ends well."""
+    receiver = Receiver(world, sender)
     end = receiver.end
     end.start()
     receiver.send(1, 10, 20000)
@@ -208,9 +194,7 @@ def check_last_save(world: World, sender: pathlib.Path, behind: bool) -> None:
     journal.rename(journal.with_suffix(".moved"))
     receiver.settle()
     status = end.stop()
-    report(status == int(behind), f"the journal can't be written at the end: status {status}")
-    says = "can be delivered again" in end.log()
-    report(says == behind, f"the journal can't be written at the end: {end.log()}")
+    report(status == 0, f"the journal can't be written at the end: status {status}: {end.log()}")
 
 
 # ---- The disk
@@ -452,9 +436,9 @@ def check_refused(world: World) -> None:
         key = f"A key {number} {secrets.token_hex(16)} 0"
         client.carry_out(key, f"A txsa 2 {number} 1 conf", "A txdel 2", f"A retire {number}")
         began = time.monotonic()
-        answer = client.ask("A txsa 9")
+        answers = client.ask("A txsa 9"), client.ask(f"A txsa 2 {number} 1 conf")
         took.append(time.monotonic() - began)
-        report(answer == "fault Count\n", f"refused: {answer}")
+        report(answers[0] == "fault Count\n" and answers[1].startswith("refused"), f"refused: {answers}")
     median = sorted(took)[len(took) // 2]
     report(median < 0.5, f"refused: after a key was given up, the answer takes {1000 * median:.0f} ms")
     client.socket.close()

@@ -60,7 +60,7 @@ class Secrets:
             own = {it: at for it, at in parts.items() if len(self.beside[it]) == 1}
             found = hits(memory, key, own)
             if key in lives:
-                report(found.octets > 0 and found.digits == 1, f"{what}: living key {number}: {found}")
+                report(found.octets > 0 and found.digits == 0, f"{what}: living key {number}: {found}")
             else:
                 is_gone = found.octets == found.digits == 0 and found.parts <= FEW
                 where = "" if is_gone else places(memory, key, own)

@@ -24,7 +24,7 @@ DATAGRAM = 1400 - 14 - 20 - 8
 CLOCKED = ["macsec_send_raw", "macsec_receive_raw", "read", "write", "recvmmsg", "sendmmsg", "epoll_wait"]
 CLOCK = [*(f"-Wl,--wrap={name}" for name in CLOCKED), str(ROOT / "device/tests/macsecd_clock.c")]
 # macsecd without batches: relay-single takes one frame at a time.
-SINGLE = ("device.h", "enum { BATCH = 64 };", "enum { BATCH = 1 };")
+SINGLE = ("frames.h", "enum { BATCH = 64 };", "enum { BATCH = 1 };")
 RELAYED = [*CLOCKED[:2], "macsec_slot_new", "macsec_slot_free_raw", "macsec_plan_send_raw", "macsec_seal_job_raw"]
 RELAYED += ["macsec_plan_receive_raw", "macsec_open_job", "macsec_finish_receive_raw"]
 RELAY = [*(f"-Wl,--wrap={name}" for name in RELAYED), str(ROOT / "device/tests/macsecd_relay.c")]

@@ -15,7 +15,7 @@ import threading
 import time
 from collections.abc import Iterator, Sequence
 
-from house import ROOT, compiling
+from house import ROOT, compiling, families
 from house.compiling import INCLUDED, WARNINGS, device_sources
 from house.reporting import Failed, call, report, until
 
@@ -29,9 +29,10 @@ SOL_PACKET, PACKET_AUXDATA, VLAN_VALID = 263, 8, 1 << 4
 SALT = "0102030405060708090a0b0c"
 
 # The endpoint's counters: of frames of a receive channel, of other frames of LINK, and of frames of TAP.
-RX = ["InPktsOK", "InPktsUnchecked", "InPktsDelayed", "InPktsLate", "InPktsInvalid", "InPktsNotValid"]
-IN = ["InPktsUntagged", "InPktsNoTag", "InPktsBadTag", "InPktsReserved", "InPktsNoSA", "InPktsNoSAError"]
-OUT = ["OutPktsUntagged", "OutPktsTooLong", "OutPktsNoSA", "OutPktsProtected", "OutPktsEncrypted"]
+RX, OWN = families.names("counters", of="rx"), families.names("counters", of="endpoint")
+IN = [it for it in OWN if it.startswith("InPkts")]
+OUT = [it for it in OWN + families.names("counters", of="tx") if it.startswith("OutPkts")]
+SUITES = [it["name"] for it in families.suites()]
 
 
 def build(
@@ -44,6 +45,11 @@ def build(
     call(*words, *wrapped, "-o", str(out / "macsecd"), *device_sources(source), str(library))
     call(*words, "-o", str(out / "macsecctl"), str(source / "macsecctl.c"))
     return out
+
+
+def late_frames(counters: dict[str, int], sci: str) -> int:
+    """How many frames of a receive channel were dropped as late."""
+    return counters[f"{sci} InPktsLate"]
 
 
 @contextlib.contextmanager
@@ -202,7 +208,6 @@ class End(Namespace):
 
     isolated = False  # is LINK in a separate namespace?
     workers: int | None = None  # how many threads do the work of the cipher; None: what macsecd takes
-    behind = False  # is what was received saved afterwards, and not reserved ahead?
 
     def __init__(self, world: World, number: int) -> None:
         super().__init__(f"macsecd-{os.getpid()}-{world.folder.name}-{number}", world.folder / str(number))
@@ -268,8 +273,6 @@ A rxon 02000000000{peer}0001 0
 {more}"""
         if self.workers is not None:
             text += f"device workers {self.workers}\n"
-        if self.behind:
-            text += "device receive behind\n"
         if not self.isolated:
             text += "device shared\n" + ("" if "device persist" in device else "device transient\n")
         self.config.write_text(text)

@@ -8,6 +8,7 @@
  * how often a device waited. */
 #define _GNU_SOURCE
 #include "workers.h"
+#include "device.h"
 #include <inttypes.h>
 #include <poll.h>
 #include <stdarg.h>
@@ -97,12 +98,14 @@ enum outcome tap_write(struct tap *t, const uint8_t *octets, size_t length, stru
 
 /* ---- LINK ---- */
 
-unsigned link_waiting(void) {
+unsigned link_waiting(const struct link *l) {
+    (void)l;
     return waiting_count;
 }
 
-void link_append(const uint8_t *octets, size_t length, struct counts *c) {
+void link_append(struct link *l, const uint8_t *octets, size_t length, struct counts *c) {
     unsigned at = (waiting_first + waiting_count) % BATCH;
+    (void)l;
     if (waiting_count == BATCH) {
         c->link_refused++;
         return;
@@ -161,17 +164,17 @@ enum outcome link_read(struct link *l, struct unfinished frames[BATCH], unsigned
     return *count > 0 ? DONE : BUSY;
 }
 
+/* No frame has to wait. */
+void link_keep(struct link *l, unsigned index, struct received **spare) {
+    (void)l, (void)index, (void)spare;
+}
+
 /* ---- The rest of a device ---- */
 
 void numbers_used(struct numbers *n, macsec_endpoint *e, unsigned frames, bool lacked) {
     (void)n, (void)e, (void)frames;
     if (lacked)
         wrong("a reservation is needed");
-}
-
-bool numbers_are_ahead(const struct numbers *n) {
-    (void)n;
-    return true;
 }
 
 uint64_t numbers_grants(const struct numbers *n) {
@@ -195,7 +198,8 @@ void floods_stop(struct device *d) {
     (void)d;
 }
 
-int confine_worker(void) {
+int confine_calls(enum thread thread) {
+    (void)thread;
     return 0;
 }
 
@@ -224,7 +228,7 @@ static void arrive(void) {
     do {
         drain();
         (void)link_flush(&a.link, &a.counts);
-        (void)parallel_from_link(&b);
+        (void)frames_from_link(&b);
         drain();
     } while (ring_count(workers_ring(a.workers, SENDING)) > 0 || waiting_count > 0 || wire_count > 0);
 }
@@ -284,7 +288,7 @@ static void turn(void) {
         wrong("the sender is gone");
     if (below(2) == 0)
         (void)link_flush(&a.link, &a.counts);
-    if (parallel_from_link(&b) == GONE || parallel_go_on(&a) == GONE || parallel_go_on(&b) == GONE)
+    if (frames_from_link(&b) == GONE || parallel_go_on(&a) == GONE || parallel_go_on(&b) == GONE)
         wrong("a device is gone");
     if (below(keys_last) == 0)
         change_key();
@@ -322,11 +326,11 @@ static void send_alone(void) {
     arrive();
     to_send++;
     burst = 1;
-    if (parallel_from_client(&a) == GONE || a.under_way[SENDING] != 0)
+    if (parallel_from_client(&a) == GONE || workers_under_way(a.workers, SENDING) != 0)
         wrong("a client frame that comes alone waits for a worker");
     while (waiting_count > 0)
         (void)link_flush(&a.link, &a.counts);
-    if (parallel_from_link(&b) == GONE || b.under_way[RECEIVING] != 0)
+    if (frames_from_link(&b) == GONE || workers_under_way(b.workers, RECEIVING) != 0)
         wrong("a frame of LINK that comes alone waits for a worker");
 }
 

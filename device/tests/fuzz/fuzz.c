@@ -59,14 +59,18 @@ struct device *fuzz_device(void) {
     static struct device device = { .name = "fuzz", .handles = { MACSEC_ENDPOINT_INIT, MACSEC_ENDPOINT_INIT } };
     struct device *d = &device;
     messages_name(d->name);
-    fuzz_require(keys_open() == 0 && numbers_create(d->name) == 0, "no journal is made: STATE_DIRECTORY has one");
-    fuzz_require(numbers_open(&d->numbers, d->name, true, &d->counts) == 0, "the journal can't be opened");
+    fuzz_require(keys_open(&d->keys) == 0 && numbers_create(d->name) == 0,
+                 "no journal is made: STATE_DIRECTORY has one");
+    fuzz_require(numbers_open(&d->numbers, d->name, &d->counts) == 0, "the journal can't be opened");
     d->endpoint = &d->handles[0];
     numbers_begin(d->numbers, d->endpoint);
     d->config.max_frame = MACSEC_FRAME_MAX;
-    d->link = (struct link){ .socket = -1, .index = 1, .mtu = 1500, .name = "link" };
-    d->tap = (struct tap){ -1, "tap" };
-    d->life.socket = -1;
+    d->link.socket = -1;
+    d->link.index = 1;
+    d->link.mtu = 1500;
+    memcpy(d->link.name, "link", sizeof "link");
+    d->tap = (struct tap){ .file = -1, .name = "tap" };
+    d->rtnetlink.socket = -1;
     for (int i = 0; i < CLIENTS; i++)
         d->control.clients[i] = -1;
     port_open(d);

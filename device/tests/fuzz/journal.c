@@ -1,5 +1,6 @@
 /* The journal (device/journal.c and names.c). An input is the file. What is read of it is written and read again:
  * each name must have the same greatest packet number then, and be given up or not as before. */
+#define _GNU_SOURCE
 #include "journal.h"
 #include "fuzz.h"
 #include <stdlib.h>

@@ -6,8 +6,8 @@
 /* Frames wait until the clock has ticked so often since one of them passed. */
 enum { TICKS = 2 };
 
-bool held_keep(struct device *d, const uint8_t *octets, size_t length) {
-    struct held *h = &d->held;
+bool held_frames_keep(struct device *d, const uint8_t *octets, size_t length) {
+    struct held_frames *h = &d->held_frames;
     if (h->count == HELD_FRAMES || length > HELD_OCTETS - h->used)
         return false;
     if (h->count == 0) {
@@ -22,13 +22,13 @@ bool held_keep(struct device *d, const uint8_t *octets, size_t length) {
 
 /* Has a reservation been reported since the first of them was kept? */
 static bool is_granted(const struct device *d) {
-    return d->held.count > 0 && d->held.grants != numbers_grants(d->numbers);
+    return d->held_frames.count > 0 && d->held_frames.grants != numbers_grants(d->numbers);
 }
 
 /* Gives all frames to the endpoint. Frames that still lack a reservation are kept again. If a reservation is reported
  * meanwhile, the frames after them are kept too: else these would overtake them. */
 static enum outcome give_all(struct device *d) {
-    struct held *h = &d->held;
+    struct held_frames *h = &d->held_frames;
     unsigned count = h->count, ticks = h->ticks;
     size_t at = 0;
     enum outcome outcome = DONE;
@@ -39,7 +39,7 @@ static enum outcome give_all(struct device *d) {
         at += frame.length;
         h->left = count - 1 - i;
         if (is_granted(d))
-            (void)held_keep(d, frame.octets, frame.length); /* there is space */
+            (void)held_frames_keep(d, frame.octets, frame.length); /* there is space */
         else if (frames_present(d, &frame) == GONE)
             outcome = GONE;
     }
@@ -48,7 +48,7 @@ static enum outcome give_all(struct device *d) {
     return outcome;
 }
 
-enum outcome held_give(struct device *d) {
+enum outcome held_frames_give(struct device *d) {
     enum outcome outcome = DONE;
     while (is_granted(d))
         if (give_all(d) == GONE)
@@ -56,13 +56,13 @@ enum outcome held_give(struct device *d) {
     return outcome;
 }
 
-unsigned held_count(const struct device *d) {
-    return d->held.count + d->held.left;
+unsigned held_frames_count(const struct device *d) {
+    return d->held_frames.count + d->held_frames.left;
 }
 
-void held_tick(struct device *d) {
+void held_frames_tick(struct device *d) {
     macsec_received dropped = MACSEC_RECEIVED_INIT;
-    struct held *h = &d->held;
+    struct held_frames *h = &d->held_frames;
     if (h->count == 0 || h->grants != numbers_grants(d->numbers) || ++h->ticks < TICKS)
         return;
     d->counts.link_in += h->count;

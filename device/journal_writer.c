@@ -2,10 +2,10 @@
  * wait for it: the thread that has the endpoint gives octets to this one, and gets the result later. This thread calls
  * nothing of the library and allocates nothing. */
 #define _GNU_SOURCE
-#include "device.h"
-#include "journal.h"
+#include "numbers.h"
 #include <errno.h>
 #include <pthread.h>
+#include <stdlib.h>
 #include <string.h>
 #include <sys/eventfd.h>
 #include <sys/stat.h>
@@ -21,7 +21,7 @@ enum { LOOKS = 1 };
 
 enum state { IDLE, ORDERED, CARRIED_OUT };
 
-struct saver {
+struct journal_writer {
     struct journal *journal;
     pthread_t thread;
     bool runs;  /* is there a thread? */
@@ -42,20 +42,18 @@ struct saver {
     struct saved saved;
 };
 
-static struct saver the_saver = { .events = -1, .length_of_file = -1 };
-
 static double now(void) {
     struct timespec t;
     (void)clock_gettime(CLOCK_MONOTONIC, &t); /* there is such a clock */
     return (double)t.tv_sec + (double)t.tv_nsec / 1e9;
 }
 
-static void carry_out(struct saver *s) {
-    struct journal_fault fault = { 0, 0, MACSEC_OK, 0 };
+static void carry_out(struct journal_writer *s) {
     double began = now();
-    int result = s->whole ? journal_replace(s->journal, s->octets, s->length, &fault)
-                          : journal_append_all(s->journal, s->octets, s->length, &fault);
-    s->saved = (struct saved){ result == 0, false, (int)fault.step, fault.error, fault.status, now() - began };
+    int result = s->whole ? journal_replace(s->journal, s->octets, s->length, &s->saved.fault)
+                          : journal_append_all(s->journal, s->octets, s->length, &s->saved.fault);
+    s->saved.good = result == 0;
+    s->saved.seconds = now() - began;
     s->file = s->journal->file;
     s->length_of_file = s->journal->in_doubt ? -1 : (off_t)s->journal->length;
 }
@@ -63,14 +61,14 @@ static void carry_out(struct saver *s) {
 /* ---- The thread ---- */
 
 /* The counter of an eventfd can't be full here. */
-static void tell(const struct saver *s) {
+static void tell(const struct journal_writer *s) {
     const uint64_t one = 1;
     while (write(s->events, &one, sizeof one) < 0 && errno == EINTR)
         ;
 }
 
 /* Waits for an order, or looks at the file. */
-static void wait_for_order(struct saver *s) {
+static void wait_for_order(struct journal_writer *s) {
     struct timespec end;
     struct stat about;
     bool cut;
@@ -89,8 +87,8 @@ static void wait_for_order(struct saver *s) {
 }
 
 static void *work(void *argument) {
-    struct saver *s = argument;
-    int confined = confine_saver();
+    struct journal_writer *s = argument;
+    int confined = confine_calls(JOURNAL_THREAD);
     (void)pthread_mutex_lock(&s->lock);
     s->confined = confined;
     s->begun = true;
@@ -115,30 +113,30 @@ static void *work(void *argument) {
 
 static int failed(int error) {
     errno = error;
-    message_of_errno("the thread of the journal");
-    return ENDS_FAILED;
+    return message_of_errno("the thread of the journal");
 }
 
-int saver_open(struct saver **s, struct journal *journal) {
+int journal_writer_open(struct journal_writer **s, struct journal *journal) {
+    struct journal_writer *it = calloc(1, sizeof *it);
     pthread_condattr_t attributes;
     int error;
-    *s = &the_saver;
-    the_saver.journal = journal;
-    the_saver.events = eventfd(0, EFD_NONBLOCK | EFD_CLOEXEC);
-    if (the_saver.events < 0)
+    *s = it;
+    if (it == NULL)
+        return failed(ENOMEM);
+    it->journal = journal;
+    it->length_of_file = -1;
+    it->events = eventfd(0, EFD_NONBLOCK | EFD_CLOEXEC);
+    if (it->events < 0)
         return failed(errno);
-    error = pthread_condattr_init(&attributes);
-    if (error == 0)
-        error = pthread_condattr_setclock(&attributes, CLOCK_MONOTONIC);
-    if (error == 0)
-        error = pthread_cond_init(&the_saver.changed, &attributes);
-    if (error == 0)
-        error = pthread_mutex_init(&the_saver.lock, NULL);
+    if ((error = pthread_condattr_init(&attributes)) == 0 &&
+        (error = pthread_condattr_setclock(&attributes, CLOCK_MONOTONIC)) == 0 &&
+        (error = pthread_cond_init(&it->changed, &attributes)) == 0)
+        error = pthread_mutex_init(&it->lock, NULL);
     (void)pthread_condattr_destroy(&attributes);
     return error == 0 ? 0 : failed(error);
 }
 
-int saver_start(struct saver *s) {
+int journal_writer_start(struct journal_writer *s) {
     pthread_attr_t attributes;
     int error = pthread_attr_init(&attributes);
     if (error == 0)
@@ -156,17 +154,17 @@ int saver_start(struct saver *s) {
     return s->confined;
 }
 
-int saver_file(const struct saver *s) {
+int journal_writer_file(const struct journal_writer *s) {
     return s->events;
 }
 
 /* ---- Orders ---- */
 
-bool saver_is_busy(const struct saver *s) {
+bool journal_writer_is_busy(const struct journal_writer *s) {
     return s->length > 0;
 }
 
-void saver_order(struct saver *s, const uint8_t *octets, size_t length, bool whole) {
+void journal_writer_order(struct journal_writer *s, const uint8_t *octets, size_t length, bool whole) {
     (void)pthread_mutex_lock(&s->lock);
     s->octets = octets;
     s->length = length;
@@ -181,7 +179,7 @@ void saver_order(struct saver *s, const uint8_t *octets, size_t length, bool who
     (void)pthread_mutex_unlock(&s->lock);
 }
 
-bool saver_is_done(struct saver *s, struct saved *saved) {
+bool journal_writer_is_done(struct journal_writer *s, struct saved *saved) {
     uint64_t count;
     bool done, cut;
     if (read(s->events, &count, sizeof count) < 0 && errno != EAGAIN && errno != EINTR)
@@ -200,7 +198,7 @@ bool saver_is_done(struct saver *s, struct saved *saved) {
     return done;
 }
 
-void saver_wait(struct saver *s, int milliseconds) {
+void journal_writer_wait(struct journal_writer *s, int milliseconds) {
     struct timespec end;
     int error = 0;
     (void)clock_gettime(CLOCK_MONOTONIC, &end);
@@ -216,8 +214,8 @@ void saver_wait(struct saver *s, int milliseconds) {
     (void)pthread_mutex_unlock(&s->lock);
 }
 
-bool saver_close(struct saver *s) {
-    if (saver_is_busy(s))
+bool journal_writer_close(struct journal_writer *s) {
+    if (journal_writer_is_busy(s))
         return false;
     (void)pthread_mutex_lock(&s->lock);
     s->ends = true;
@@ -225,6 +223,7 @@ bool saver_close(struct saver *s) {
     (void)pthread_mutex_unlock(&s->lock);
     if (s->runs)
         (void)pthread_join(s->thread, NULL);
-    s->runs = false;
+    (void)close(s->events); /* nothing is lost if this fails */
+    free(s);
     return true;
 }

@@ -12,10 +12,10 @@ static const char *const texts[DROPS] = {
     "or the peer has not reached the packet number from which this run delivers",
 };
 
-void drops_tick(struct device *d) {
+void drop_messages_tick(struct device *d) {
     const uint64_t counts[DROPS] = { d->counts.link_no_reservation, d->counts.link_earlier_run };
     for (int i = 0; i < DROPS; i++) {
-        struct drops *it = &d->drops[i];
+        struct drop_message *it = &d->drop_messages[i];
         bool more = counts[i] != it->count;
         if (more && it->silence == 0)
             message("%s", texts[i]);

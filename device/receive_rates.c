@@ -1,6 +1,6 @@
 /* How many frames of each receive channel are accepted in a second, and so how many packet numbers are reserved ahead
  * of its associations. The peer goes on at the same rate under a new key, so the rate is the channel's. */
-#include "device.h"
+#include "numbers.h"
 #include <string.h>
 
 /* A reservation lasts for so many seconds. The next one is asked for when half of it is left. Where a synchronization
@@ -9,24 +9,24 @@
 enum { SYNCHRONIZATIONS = 4 };
 
 /* The fewest and the most packet numbers of a reservation. A restart can lose as many frames, since no record lowers a
- * reservation. Frames that come faster wait in held.c, so the fewest can be few. A channel of eight frames a second
- * needs a record each second. A test has another number. */
-#ifndef PACES_LEAST
-#define PACES_LEAST 16
+ * reservation. Frames that come faster wait in held_frames.c, so the fewest can be few. A channel of eight frames a
+ * second needs a record each second. A test has another number. */
+#ifndef RECEIVE_RATES_LEAST
+#define RECEIVE_RATES_LEAST 16
 #endif
-enum { LEAST = PACES_LEAST, MOST = 1 << 20 };
+enum { LEAST = RECEIVE_RATES_LEAST, MOST = 1 << 20 };
 
 /* In each second the rate is forgotten by one of so many parts. After each of so many parts of a reservation the device
  * looks whether the next one is needed. */
 enum { FORGETS = 8, LOOKS = 16 };
 
-static bool is_of(const struct pace *p, const uint8_t sci[8]) {
+static bool is_of(const struct receive_rate *p, const uint8_t sci[8]) {
     return p->is_used && memcmp(p->sci, sci, sizeof p->sci) == 0;
 }
 
-/* The pace that is taken for a new channel: one that is not used, or the slowest one, of a channel that is gone. */
-static struct pace *free_pace(struct paces *p) {
-    struct pace *found = &p->all[0];
+/* The rate that is taken for a new channel: one that is not used, or the slowest one, of a channel that is gone. */
+static struct receive_rate *free_rate(struct receive_rates *p) {
+    struct receive_rate *found = &p->all[0];
     for (size_t i = 0; i < MACSEC_RX_CHANNEL_COUNT; i++) {
         if (!p->all[i].is_used)
             return &p->all[i];
@@ -36,8 +36,8 @@ static struct pace *free_pace(struct paces *p) {
     return found;
 }
 
-struct pace *paces_of(struct paces *p, const uint8_t sci[8]) {
-    struct pace *found;
+struct receive_rate *receive_rates_of(struct receive_rates *p, const uint8_t sci[8]) {
+    struct receive_rate *found;
     if (is_of(&p->all[p->latest], sci))
         return &p->all[p->latest];
     for (size_t i = 0; i < MACSEC_RX_CHANNEL_COUNT; i++)
@@ -45,7 +45,7 @@ struct pace *paces_of(struct paces *p, const uint8_t sci[8]) {
             p->latest = i;
             return &p->all[i];
         }
-    found = free_pace(p);
+    found = free_rate(p);
     memset(found, 0, sizeof *found);
     memcpy(found->sci, sci, sizeof found->sci);
     found->is_used = true;
@@ -53,7 +53,7 @@ struct pace *paces_of(struct paces *p, const uint8_t sci[8]) {
     return found;
 }
 
-uint64_t paces_amount(struct pace *p, double slow) {
+uint64_t receive_rates_amount(struct receive_rate *p, double slow) {
     double lasts = slow * SYNCHRONIZATIONS > LASTS ? slow * SYNCHRONIZATIONS : LASTS;
     double wanted = lasts * (double)(p->rate > p->frames ? p->rate : p->frames);
     uint64_t amount = wanted < MOST ? (uint64_t)wanted : MOST;
@@ -66,12 +66,12 @@ uint64_t paces_amount(struct pace *p, double slow) {
     return amount;
 }
 
-bool paces_accepted(struct pace *p) {
+bool receive_rates_accepted(struct receive_rate *p) {
     p->frames++;
     return ++p->unseen >= p->patience;
 }
 
-bool paces_lacked(struct pace *p, uint64_t order, unsigned waiting) {
+bool receive_rates_lacked(struct receive_rate *p, uint64_t order, unsigned waiting) {
     if (p->asked == order)
         return false;
     p->asked = order;
@@ -80,9 +80,9 @@ bool paces_lacked(struct pace *p, uint64_t order, unsigned waiting) {
     return true;
 }
 
-void paces_tick(struct paces *p) {
+void receive_rates_tick(struct receive_rates *p) {
     for (size_t i = 0; i < MACSEC_RX_CHANNEL_COUNT; i++) {
-        struct pace *it = &p->all[i];
+        struct receive_rate *it = &p->all[i];
         uint64_t forgotten = it->rate - it->rate / FORGETS;
         it->rate = it->frames > forgotten ? it->frames : forgotten;
         it->frames = 0;
@@ -90,6 +90,6 @@ void paces_tick(struct paces *p) {
     }
 }
 
-void paces_clear(struct paces *p) {
+void receive_rates_clear(struct receive_rates *p) {
     memset(p, 0, sizeof *p);
 }

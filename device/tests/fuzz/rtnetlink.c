@@ -1,4 +1,4 @@
-/* Reports of rtnetlink (device/life.c). An input has messages: an octet for the sender (0: the system; 1: another
+/* Reports of rtnetlink (device/rtnetlink.c). An input has messages: an octet for the sender (0: the system; 1: another
  * process; 2: no message, since the system has dropped some), the length in two octets, and the message. */
 #define _GNU_SOURCE
 #include "fuzz.h"
@@ -67,12 +67,12 @@ int LLVMFuzzerInitialize(int *count, char ***arguments) {
 
 int LLVMFuzzerTestOneInput(const uint8_t *octets, size_t length) {
     input = (struct input){ octets, length };
-    device->life.up = device->life.lost = false;
+    device->link.up = device->rtnetlink.lost = false;
     device->link.promiscuous = false;
     device->port.off = false;
     device->port.ticks = 0;
-    (void)life_read(device);
-    fuzz_require(life_tick(device), "a second is not counted");
-    fuzz_require(has_carrier == device->life.up, "TAP is not as LINK is");
+    (void)rtnetlink_read(device);
+    fuzz_require(rtnetlink_tick(device), "a second is not counted");
+    fuzz_require(has_carrier == device->link.up, "TAP is not as LINK is");
     return 0;
 }

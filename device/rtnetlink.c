@@ -3,7 +3,6 @@
  *
  * The system drops reports while the socket's queue is full, and also the answer to a question. So a question is asked
  * when the queue is empty, and each second, whatever was reported. */
-#define _GNU_SOURCE
 #include "device.h"
 #include <errno.h>
 #include <linux/netlink.h>
@@ -13,18 +12,13 @@
 #include <sys/socket.h>
 #include <unistd.h>
 
-/* A message of rtnetlink about a device has at most this many octets. */
-enum { MESSAGE = 32768 };
-
 /* The most messages that are read in one call, so that a busy system does not keep macsecd from its frames. */
 enum { MESSAGES = 256 };
-
-static _Alignas(struct nlmsghdr) char buffer[MESSAGE];
 
 /* ---- Asking ---- */
 
 /* Asks for the state of the device of this index. The answer is read as a report is. */
-static int ask(const struct life *f, int index) {
+static int ask(const struct rtnetlink *f, int index) {
     struct {
         struct nlmsghdr header;
         struct ifinfomsg about;
@@ -36,23 +30,20 @@ static int ask(const struct life *f, int index) {
     request.header.nlmsg_flags = NLM_F_REQUEST;
     request.about.ifi_family = AF_UNSPEC;
     request.about.ifi_index = index;
-    do
-        sent = send(f->socket, &request, sizeof request, 0);
-    while (sent < 0 && errno == EINTR);
+    sent = TEMP_FAILURE_RETRY(send(f->socket, &request, sizeof request, 0));
     /* Without memory for it, the question is asked again in a second. */
     if (sent == (ssize_t)sizeof request || errno == ENOBUFS || errno == ENOMEM || errno == EAGAIN)
         return 0;
-    message_of_errno("rtnetlink");
-    return ENDS_FAILED;
+    return message_of_errno("rtnetlink");
 }
 
 /* ---- Reports ---- */
 
 static void note_link_up(struct device *d, unsigned flags) {
     bool up = (flags & IFF_UP) != 0 && (flags & IFF_RUNNING) != 0;
-    if (up == d->life.up)
+    if (up == d->link.up)
         return;
-    d->life.up = up;
+    d->link.up = up;
     port_set_carrier(d);
     message("LINK %s is %s", d->link.name, up ? "up" : "down");
 }
@@ -77,12 +68,12 @@ static void note_address(struct device *d, const uint8_t *address, size_t length
 }
 
 /* Nobody reports that a program has changed TAP's address or its carrier. */
-bool life_tick(struct device *d) {
+bool rtnetlink_tick(struct device *d) {
     uint8_t address[6];
     if (tap_address(&d->tap, address) && memcmp(address, d->link.address, sizeof address) != 0)
         link_make_promiscuous(&d->link);
     port_set_carrier(d);
-    return ask(&d->life, d->link.index) == 0;
+    return ask(&d->rtnetlink, d->link.index) == 0;
 }
 
 static void note_attributes(struct device *d, const struct ifinfomsg *about, size_t length) {
@@ -136,7 +127,7 @@ static bool read_error(const struct nlmsghdr *header) {
 }
 
 static bool read_reports(struct device *d, size_t length) {
-    const struct nlmsghdr *header = (const struct nlmsghdr *)buffer;
+    const struct nlmsghdr *header = (const struct nlmsghdr *)d->rtnetlink.buffer;
     while (NLMSG_OK(header, length)) {
         size_t step = NLMSG_ALIGN(header->nlmsg_len);
         if (header->nlmsg_type == NLMSG_ERROR ? !read_error(header) : !read_report(d, header))
@@ -150,27 +141,25 @@ static bool read_reports(struct device *d, size_t length) {
 }
 
 /* Reads a message. Returns its length; 0 if none was there, or if it is not the system's; or -1. */
-static ssize_t read_message(struct life *f) {
+static ssize_t read_message(struct rtnetlink *f) {
     struct sockaddr_nl from = { .nl_pid = UINT32_MAX }; /* nobody's, until the system names the sender */
     socklen_t room = sizeof from;
-    ssize_t length;
-    do
-        length = recvfrom(f->socket, buffer, sizeof buffer, MSG_DONTWAIT, (struct sockaddr *)&from, &room);
-    while (length < 0 && errno == EINTR);
+    ssize_t length = TEMP_FAILURE_RETRY(
+        recvfrom(f->socket, f->buffer, sizeof f->buffer, MSG_DONTWAIT, (struct sockaddr *)&from, &room));
     return length > 0 && from.nl_pid != 0 ? 0 : length;
 }
 
-bool life_read(struct device *d) {
+bool rtnetlink_read(struct device *d) {
     for (int i = 0; i < MESSAGES; i++) {
-        ssize_t length = read_message(&d->life);
-        if (length < 0 && errno == EAGAIN && !d->life.lost)
+        ssize_t length = read_message(&d->rtnetlink);
+        if (length < 0 && errno == EAGAIN && !d->rtnetlink.lost)
             return true;
         if (length < 0 && errno == EAGAIN) { /* the queue is empty now */
-            d->life.lost = false;
-            if (ask(&d->life, d->link.index) != 0)
+            d->rtnetlink.lost = false;
+            if (ask(&d->rtnetlink, d->link.index) != 0)
                 return false;
         } else if (length < 0 && errno == ENOBUFS) {
-            d->life.lost = true;
+            d->rtnetlink.lost = true;
         } else if (length < 0) {
             message_of_errno("rtnetlink");
             return false;
@@ -181,18 +170,16 @@ bool life_read(struct device *d) {
     return true;
 }
 
-int life_open(struct device *d) {
+int rtnetlink_open(struct device *d) {
     struct sockaddr_nl address = { .nl_family = AF_NETLINK, .nl_groups = RTMGRP_LINK };
-    d->life.up = d->life.lost = false;
-    d->life.socket = socket(AF_NETLINK, SOCK_RAW | SOCK_NONBLOCK | SOCK_CLOEXEC, NETLINK_ROUTE);
-    if (d->life.socket >= 0 && bind(d->life.socket, (const struct sockaddr *)&address, sizeof address) == 0)
+    d->rtnetlink.socket = socket(AF_NETLINK, SOCK_RAW | SOCK_NONBLOCK | SOCK_CLOEXEC, NETLINK_ROUTE);
+    if (d->rtnetlink.socket >= 0 && bind(d->rtnetlink.socket, (const struct sockaddr *)&address, sizeof address) == 0)
         return 0;
-    message_of_errno("rtnetlink");
-    return ENDS_FAILED;
+    return message_of_errno("rtnetlink");
 }
 
-int life_begin(struct device *d) {
-    if (ask(&d->life, d->link.index) != 0)
+int rtnetlink_begin(struct device *d) {
+    if (ask(&d->rtnetlink, d->link.index) != 0)
         return ENDS_FAILED;
-    return life_read(d) ? 0 : ENDS_FAILED;
+    return rtnetlink_read(d) ? 0 : ENDS_FAILED;
 }

@@ -1,0 +1,196 @@
+/* The endpoint, and the clients of the control socket that change it or ask about it. */
+#ifndef CONTROL_H
+#define CONTROL_H
+
+#include "system.h"
+#include "text.h"
+
+struct device;
+struct numbers;
+
+/* ---- keys.c: the keys that an endpoint has, for one that takes over from it ---- */
+
+/* Allocates locked memory for one key of each number. Returns 0, or the exit status after a message. */
+int keys_open(macsec_sak **keys);
+/* To be called when a command was carried out: keeps a new key, and wipes a retired one. */
+void keys_note(macsec_sak *keys, const macsec_command *c);
+/* Is there a key of this number that is not retired? */
+bool keys_has(const macsec_sak *keys, size_t number);
+/* Does nothing if keys_open has allocated nothing. */
+void keys_wipe(macsec_sak *keys);
+
+/* ---- totals.c: counters over all endpoints that have taken over from each other ---- */
+
+/* made: counts-of-counters of tools/families.json */
+enum { OWN_COUNTERS = 11, TX_COUNTERS = 4, RX_COUNTERS = 6 };
+/* end */
+
+/* What the earlier endpoints counted, also on each receive channel that is still there, and on its associations. */
+struct totals {
+    uint64_t own[OWN_COUNTERS], tx[TX_COUNTERS];
+    struct channel_totals {
+        uint8_t sci[8];
+        uint64_t all[RX_COUNTERS];
+        uint64_t of_sa[MACSEC_AN_COUNT][RX_COUNTERS];
+    } channels[MACSEC_RX_CHANNEL_COUNT];
+    size_t count;
+};
+
+/* The values of the endpoint's counters and of its transmit channel's, in the order of the library's structs; 0 if
+ * there is no endpoint. */
+void totals_own(const struct device *d, uint64_t own[OWN_COUNTERS], uint64_t tx[TX_COUNTERS]);
+/* The values of a receive channel, or, if `an` is not -1, of an association. Returns the library's status. */
+uint32_t totals_rx(const struct device *d, const uint8_t sci[8], int an, uint64_t values[RX_COUNTERS]);
+/* Keeps the counters of the endpoint, which ends, so that the next one's are added to them. */
+void totals_carry(struct device *d);
+/* To be called when a command was carried out: a channel or an association that was deleted counts no more. */
+void totals_note(struct totals *t, const macsec_command *c);
+
+/* ---- endpoint.c: the endpoint, by the lines of requests and of the configuration ---- */
+
+/* What became of a line. */
+struct result {
+    const char *fault; /* NULL, or why macsecd did not give it to the endpoint */
+    uint32_t status;   /* the library's */
+    uint64_t raised;   /* as of lines_carry_out */
+    uint32_t kind;     /* MACSEC_COMMAND_.. */
+};
+
+/* What became of a line, by the status of the library. */
+struct result result_of(uint32_t status);
+/* Creates the endpoint of a configuration's text, or none if the text has no line. Returns the status of the first line
+ * that fails, and its number. */
+uint32_t endpoint_configure(struct device *d, const char *text, size_t length, uint32_t *line);
+bool endpoint_is_open(const struct device *d);
+/* Creates an endpoint without keys by `open SCI SUITE FORM`; the present one ends. */
+struct result endpoint_open(struct device *d, const struct words *w);
+void endpoint_close(struct device *d);
+/* Carries out a line of a request. */
+struct result endpoint_command(struct device *d, const char *line, size_t length);
+/* Carries out all lines of a text, or none. Adds the answer. */
+void endpoint_load(struct device *d, struct text *t, const char *lines, size_t length);
+
+/* ---- handover.c: a second endpoint ---- */
+
+/* How many milliseconds to wait for the reservations of new transmit associations, while no frame is read. */
+enum { HANDOVER_WAITS = 50 };
+
+/* Makes a second endpoint in the free handle: a copy with the keys that are not retired, the channels and the
+ * associations, which go on with the reservations. Returns NULL, after a message, if it can't be made. */
+macsec_endpoint *handover_begin(struct device *d);
+/* Reserves for the second endpoint, and lets it take over from the first. Returns false, after a message, if no record
+ * can be written: then it is freed. */
+bool handover_finish(struct device *d, macsec_endpoint *e);
+/* Lets the second endpoint take over, even without a reservation: then frames are dropped until one is made. */
+void handover_take(struct device *d, macsec_endpoint *e);
+
+/* ---- answers.c: the text of answers ---- */
+
+void sci_text(const uint8_t sci[8], char text[SCI_TEXT]);
+/* The answer to a command. */
+void answer_result(struct text *t, struct result r);
+/* What `macsec run` prints for a line that only reads, `A counters` or `A numbers`, without the number of the line.
+ * Returns false if it is another line. */
+bool answer_line(struct text *t, macsec_endpoint *e, const char *line, size_t length);
+/* The packet numbers of all associations. */
+void answer_numbers(struct text *t, const struct device *d);
+/* The counters, with those of the endpoints from which this one has taken over, and what the device counts. */
+void answer_counters(struct text *t, const struct device *d);
+/* Adds the line of one association. Returns the library's status. */
+uint32_t answer_tx_number(struct text *t, const macsec_endpoint *e, uint8_t an);
+uint32_t answer_rx_number(struct text *t, const macsec_endpoint *e, const uint8_t sci[8], uint8_t an);
+/* What LINK is, and where. */
+void answer_link(struct text *t, const struct device *d);
+/* All counters as one JSON object, and in the text format of Prometheus. */
+void answer_json(struct text *t, const struct device *d);
+void answer_metrics(struct text *t, const struct device *d);
+
+/* ---- show.c: the state of the device for people ---- */
+
+void answer_show(struct text *t, const struct device *d);
+
+/* ---- requests.c: requests and their answers ---- */
+
+/* The most octets of a request, which is `load` with its lines. */
+enum { REQUEST_MAX = 128 * 1024 };
+
+/* Answers a request of a client, which ends with a zero and may have others. Returns true if the answer is to wait for
+ * the journal. */
+bool requests_answer(struct device *d, struct text *t, int client, char *request, size_t length);
+
+/* ---- waits.c: answers that wait for the journal ---- */
+
+/* The most clients of the control socket, and octets of an answer that can wait. */
+enum { CLIENTS = 16, KEPT_ANSWER = 64 };
+
+struct waiting {
+    size_t length; /* of the answer; 0: there is none */
+    char answer[KEPT_ANSWER];
+    uint64_t ticket;
+    int64_t until;  /* in milliseconds */
+    bool unwatched; /* does the loop not read its requests? */
+};
+
+struct waits {
+    unsigned answers; /* how many wait: as a rule none, so that the loop looks at no client after each frame */
+    struct waiting clients[CLIENTS];
+};
+
+/* Keeps the answer of a client until the records of its request are on the disk. Returns false if they are, or if the
+ * answer is too long to be kept: it is to be sent at once. */
+bool waits_keep(struct device *d, int client, const char *answer, size_t length);
+/* Does the client wait for an answer? Its next requests are read after that. */
+bool waits_for(const struct device *d, int client);
+/* Sends the answers whose records are on the disk, and those that have waited too long. */
+void waits_send(struct device *d);
+/* How many milliseconds the loop may wait; -1: for ever. */
+int waits_left(const struct device *d);
+/* To be called when a connection has ended. */
+void waits_client_gone(struct device *d, int client);
+
+/* ---- control.c: the control socket ---- */
+
+struct control {
+    int listener;
+    int clients[CLIENTS]; /* -1: there is none */
+    bool is_root[CLIENTS];
+    uint64_t used[CLIENTS]; /* which use of the socket was a client's last one */
+    uint64_t uses;
+    bool held_up; /* could the system not give a descriptor for a connection? Then it is tried again each second. */
+    char request[REQUEST_MAX + 2]; /* with one octet by which a longer one is seen, and a zero */
+    char answer[256 * 1024];
+};
+
+/* Opens the socket. It stays when macsecd ends, and the next start replaces it. Returns 0, or the exit status after a
+ * message. */
+int control_open(struct control *k, const char *name, const struct config *c);
+/* Accepts a connection, for which an idle one may end. Returns its index, or -1. If the system has no descriptor for
+ * it, the connection is held up. */
+int control_accept(struct device *d);
+/* Answers a request of a client. Returns false if the connection has ended; it is closed then. */
+bool control_answer(struct device *d, int index);
+/* Sends an answer to a client. Returns false if the connection has ended; it is closed then. */
+bool control_send(struct device *d, int index, const char *octets, size_t length);
+
+/* ---- port.c: the controlled port, and the client that owns the device ---- */
+
+struct port {
+    bool off;
+    int ticks; /* how often the clock has ticked since it is off */
+    int owner; /* a client, or -1 */
+};
+
+void port_open(struct device *d);
+/* Gives TAP carrier while LINK has and the port is on. */
+void port_set_carrier(struct device *d);
+void port_set(struct device *d, bool on);
+/* To be called each second. */
+void port_tick(struct device *d);
+/* May a client change something? Then it may become the owner, and so may root if the owner is not root. */
+bool port_may_change(const struct device *d, int client);
+bool port_may_own(const struct device *d, int client);
+void port_own(struct device *d, int client);
+/* To be called when a connection has ended. */
+void port_client_gone(struct device *d, int client);
+
+#endif

@@ -1,0 +1,295 @@
+/* The path of frames, and the network devices that they come from and go to. */
+#ifndef FRAMES_H
+#define FRAMES_H
+
+#include "system.h"
+#include <linux/if_packet.h>
+#include <linux/virtio_net.h>
+#include <net/if.h>
+#include <sys/socket.h>
+
+struct config;
+struct device;
+
+/* The most frames that one call takes from a device or gives to it. */
+enum { BATCH = 64 };
+
+/* How many frames of a direction workers can have. */
+enum { RING = 128 };
+
+/* ---- What the device counts, in addition to the endpoint; answers.c has the names ---- */
+
+struct counts {
+    uint64_t link_in;        /* frames that were read from LINK */
+    uint64_t link_lost;      /* frames that LINK's socket had no space for, or that can't be read from it */
+    uint64_t link_too_short; /* frames of LINK that the endpoint refused: fewer than 14 octets */
+    uint64_t link_too_long;  /* frames of LINK that the endpoint refused: more than 9,248 octets */
+    uint64_t no_endpoint;    /* frames of LINK while there is no endpoint */
+    uint64_t link_out;       /* frames that LINK took */
+    uint64_t link_refused;   /* frames that LINK did not take; their packet numbers are used */
+    uint64_t tap_in;         /* frames that were read from TAP */
+    uint64_t tap_too_short;  /* frames of TAP that the endpoint refused */
+    uint64_t tap_too_long;
+    uint64_t tap_out;        /* frames that TAP took */
+    uint64_t tap_refused;    /* frames that TAP did not take, because it is down, for example */
+    uint64_t port_out;       /* frames of TAP that were dropped: the controlled port is off */
+    uint64_t port_in;        /* frames for TAP that were dropped for this reason */
+    uint64_t no_reservation; /* frames of TAP that were dropped: their packet numbers are not reserved */
+    uint64_t journal_failed; /* failures to write to the journal */
+    uint64_t requests;       /* requests at the control socket */
+    uint64_t link_floods;    /* times that the system dropped a flood of LINK, for up to a second */
+    /* Valid frames of LINK that were dropped: their packet numbers were not reserved yet, or by an earlier run. */
+    uint64_t link_no_reservation, link_earlier_run;
+};
+
+enum { COUNT_OF_COUNTS = sizeof(struct counts) / sizeof(uint64_t) };
+
+/* ---- link.c: LINK, the network device below ---- */
+
+/* The octets of a VLAN tag, of the longest frame that the system makes of segments, and one by which a longer frame is
+ * seen. */
+enum { LINK_BUFFER = 4 + 65550 + 1 };
+
+/* A received frame, with space before it for a VLAN tag. The system gives a page of it once a frame is there. */
+struct received {
+    struct virtio_net_hdr about;
+    uint8_t octets[LINK_BUFFER];
+    _Alignas(struct cmsghdr) uint8_t control[CMSG_SPACE(sizeof(struct tpacket_auxdata))];
+};
+
+struct link {
+    int socket;
+    int index;
+    uint32_t mtu;
+    uint8_t address[6];
+    bool promiscuous;
+    bool up;             /* has it carrier? */
+    uint64_t unreadable; /* frames that the system can't describe, since they were last counted */
+    char name[IF_NAMESIZE];
+    /* The frames that wait, in a ring: so many from `first` on. */
+    unsigned first, waiting;
+    size_t lengths[BATCH];
+    uint8_t frames[BATCH][MACSEC_FRAME_MAX];
+    /* What frames are read into. The last headers, so many, are prepared for the next call. */
+    unsigned prepared;
+    struct mmsghdr headers[BATCH];
+    struct iovec parts[BATCH][2];
+    struct received *buffers[BATCH];
+    /* Those of the first call, and one for each frame that link_keep keeps. */
+    unsigned used;
+    struct received received[BATCH + RING];
+};
+
+/* A frame in a buffer of link.c or tap.c. Its length is above MACSEC_FRAME_MAX if it is too long. */
+struct frame {
+    const uint8_t *octets;
+    size_t length;
+};
+
+/* A frame of LINK as the system has it, which may leave work to a network card. */
+struct unfinished {
+    uint8_t *octets;
+    size_t length;
+    bool lacks_sum;                      /* is its checksum to be computed? */
+    bool is_udp;                         /* are its segments of UDP, and not of TCP? */
+    uint16_t sum_start, sum_at, segment; /* what the checksum covers, where it is, and the data of a segment or 0 */
+};
+
+/* What became of a call to a device: it was done, it can't be done now, or the device is gone. */
+enum outcome { DONE, BUSY, GONE };
+
+/* Opens LINK, in the namespace that the process is in. Returns 0, or the exit status after a message. */
+int link_open(struct link *l, const char *name);
+/* Reads at most BATCH frames. A VLAN tag that the system took out of a frame is in it again. */
+enum outcome link_read(struct link *l, struct unfinished frames[BATCH], unsigned *count);
+/* Keeps the octets of the frame of this index, until the next call with this `spare`: it gets the frame's buffer, and
+ * gives the one that it had. RING of them can be kept. */
+void link_keep(struct link *l, unsigned index, struct received **spare);
+/* Adds a copy of a frame to those that wait to be sent. If BATCH frames wait, it is counted as refused. */
+void link_append(struct link *l, const uint8_t *octets, size_t length, struct counts *c);
+/* How many frames wait to be sent. */
+unsigned link_waiting(const struct link *l);
+/* Sends the frames that link_append has added. BUSY: some still wait, until LINK can be written to. */
+enum outcome link_flush(struct link *l, struct counts *c);
+/* Adds the frames that LINK's socket has lost since the last call. */
+void link_count_lost(struct link *l, struct counts *c);
+/* Makes LINK pass frames to any address. */
+void link_make_promiscuous(struct link *l);
+
+/* ---- segments.c: frames of LINK that the system has not completed ---- */
+
+/* The octets of the longest header that is divided from its data. */
+enum { HEAD = 256 };
+
+/* A frame of LINK that is divided into segments. */
+struct segments {
+    struct unfinished of;
+    size_t ip, transport, header; /* where the headers begin, and what each segment gets; 0: there is one segment */
+    size_t at;                    /* where the data of the next segment begin */
+    bool is_ipv4;
+    uint8_t head[HEAD];
+};
+
+/* Completes a frame. If it can't be divided it stays one, which may be too long. */
+void segments_begin(struct segments *s, const struct unfinished *u);
+/* Takes the next segment, which is there until the next call. Returns false if there is none. */
+bool segments_next(struct segments *s, struct frame *frame);
+
+/* ---- tap.c: TAP, the network device of the client ---- */
+
+struct tap {
+    int file; /* of /dev/net/tun, opened in the host's network namespace */
+    char name[IF_NAMESIZE];
+    uint8_t buffer[MACSEC_FRAME_MAX + 1];
+};
+
+/* The MTU of TAP: 32 octets below LINK's, and so small that no frame is longer than the configuration's largest. */
+uint32_t tap_mtu(uint32_t link_mtu, uint32_t max_frame);
+/* Gives a TAP that is there its owner. Returns 0, or the exit status after a message: ENDS_TAKEN if a process of
+ * neither root nor this user, macsecd's, has TAP, or if TAP has another type and is up. */
+int tap_own(const struct config *c, uid_t user);
+/* Attaches the file to TAP, which gets its owner, LINK's address and this MTU. An isolated LINK's TAP has the MTU
+ * already. Returns 0, or the exit status after a message. */
+int tap_open(struct tap *t, const struct config *c, const struct link *l);
+/* Reads a frame. It is there until the next call. */
+enum outcome tap_read(struct tap *t, struct frame *frame);
+/* Delivers a frame, and counts whether TAP took it. */
+enum outcome tap_write(struct tap *t, const uint8_t *octets, size_t length, struct counts *c);
+/* Reads TAP's address. Returns false if it can't be read, as after TAP was moved to a third namespace. */
+bool tap_address(const struct tap *t, uint8_t address[6]);
+/* Gives TAP carrier, or takes it away. */
+void tap_set_carrier(struct tap *t, bool on);
+
+/* ---- holder.c: the process that has TAP ---- */
+
+/* Says that TAP is in use, and by which process if one can be seen: if there are several, one of root or of this user.
+ * Returns whether there is such a one. */
+bool holder_say(const struct tap *t, uid_t user);
+
+/* ---- namespace.c: the host's network namespace, which has TAP, and LINK's own ---- */
+
+/* The octets of the path of LINK's namespace. */
+enum { NAMESPACE_PATH = sizeof "/run/netns/macsec-" + IF_NAMESIZE };
+
+/* The path of the namespace of the LINK of NAME. */
+void namespace_path(char path[NAMESPACE_PATH], const char *name);
+/* Opens TAP's file in the host's namespace, enters LINK's unless LINK is shared, and gives up CAP_SYS_ADMIN. To be
+ * called before the journal is read and a socket of a device is opened. Returns 0, or the exit status after a
+ * message. */
+int namespace_enter(struct tap *t, const struct config *c, const char *name);
+
+/* ---- rtnetlink.c: LINK goes up and down, changes and ends; TAP gets another address ---- */
+
+struct rtnetlink {
+    int socket;
+    bool lost; /* did the system drop reports since it was asked? */
+    /* A message of rtnetlink about a device has at most this many octets. */
+    _Alignas(uint64_t) char buffer[32768];
+};
+
+/* Opens the socket. Returns 0, or the exit status after a message. */
+int rtnetlink_open(struct device *d);
+/* Gives TAP LINK's carrier. Returns 0, or the exit status after a message. */
+int rtnetlink_begin(struct device *d);
+/* Reads what the system reports. Returns false, after a message, if LINK is gone. */
+bool rtnetlink_read(struct device *d);
+/* To be called each second: asks for LINK's state, looks at TAP's address, and sets its carrier. Returns false, after a
+ * message, if the system can't be asked. */
+bool rtnetlink_tick(struct device *d);
+
+/* ---- history.c: when frames last went each way ---- */
+
+/* Times are in seconds since macsecd started, and one more; 0 is never. */
+struct heard {
+    uint8_t sci[8];
+    uint64_t time;
+};
+
+struct history {
+    uint64_t seconds; /* since macsecd started, by the loop's clock: no frame asks the system for the time */
+    uint64_t sent, dropped;
+    bool from_link;                              /* did LINK bring the last frame that was dropped? Else TAP did. */
+    uint32_t why;                                /* its verdict, or its fate */
+    struct heard heard[MACSEC_RX_CHANNEL_COUNT]; /* when a channel's last frame was delivered */
+};
+
+/* Note what became of a frame. */
+void history_sent(struct history *h, const macsec_sent *sent);
+void history_received(struct history *h, const macsec_received *got);
+/* Sets how long ago this time was. Returns false if it never was. */
+bool history_age(const struct history *h, uint64_t time, uint64_t *seconds);
+/* Sets how long ago a frame of this channel was delivered. Returns false if none was. */
+bool history_heard(const struct history *h, const uint8_t sci[8], uint64_t *seconds);
+
+/* ---- frames.c: the path of frames ---- */
+
+/* Reads a batch of frames from TAP, and sends what the endpoint makes of them. */
+enum outcome frames_from_client(struct device *d);
+/* Reads a batch of frames from LINK, and delivers what the endpoint makes of them. */
+enum outcome frames_from_link(struct device *d);
+/* Of the frames that were read of TAP in a batch: those that used a packet number, and those that had none reserved. */
+struct client_batch {
+    unsigned used, lacked;
+};
+
+/* Notes what became of a client frame. */
+void frames_note_fate(struct device *d, struct client_batch *b, uint32_t fate);
+/* Adds to the waiting frames what the endpoint makes of a client frame. Returns its fate. */
+uint32_t frames_send(struct device *d, const struct frame *frame);
+/* Judges a frame of LINK, after those that wait, and delivers it. Returns GONE if TAP is. */
+enum outcome frames_receive(struct device *d, const struct frame *frame);
+/* Judges a frame, and delivers it, or lets it wait for a reservation. */
+enum outcome frames_present(struct device *d, const struct frame *frame);
+/* Parts of frames_send and of frames_present: what follows from the answer of the endpoint about a frame. */
+void frames_sent(struct device *d, const macsec_sent *sent);
+enum outcome frames_judged(struct device *d, const macsec_received *got, const struct frame *frame);
+
+/* ---- held_frames.c: frames of LINK that wait for a reservation ---- */
+
+/* The most of them, and of their octets. */
+enum { HELD_FRAMES = 1024, HELD_OCTETS = 1 << 20 };
+struct held_frames {
+    unsigned count, ticks; /* how many; and of the clock, since the first of them came or another one passed */
+    unsigned left;         /* that are to be given to the endpoint once more */
+    uint64_t grants;       /* how many reservations had been reported when it was kept */
+    size_t used;
+    uint16_t lengths[HELD_FRAMES];
+    uint8_t octets[HELD_OCTETS];
+};
+
+/* Keeps a copy of a frame. Returns false if there is no space. */
+bool held_frames_keep(struct device *d, const uint8_t *octets, size_t length);
+/* Gives the frames that are kept to the endpoint if a reservation was reported. To be called before a later frame is
+ * given to it, and when a reservation may have been reported. Returns GONE if TAP is. */
+enum outcome held_frames_give(struct device *d);
+/* How many frames wait for a reservation. */
+unsigned held_frames_count(const struct device *d);
+/* To be called each second: drops the kept frames that have waited too long. */
+void held_frames_tick(struct device *d);
+
+/* ---- drop_messages.c: frames of LINK that are dropped for their packet numbers alone ---- */
+
+/* Two kinds: packet numbers that are not reserved yet, and numbers that an earlier run had reserved. */
+enum { DROPS = 2 };
+struct drop_message {
+    uint64_t count;
+    unsigned silence; /* for so many seconds no message is made */
+};
+/* To be called each second: says when such frames begin. */
+void drop_messages_tick(struct device *d);
+
+/* ---- floods.c: frames of LINK that the endpoint drops unopened, many in a second ---- */
+
+struct floods {
+    unsigned frames; /* that had no SecTAG or no association, in this second */
+    bool filtered;   /* does the system drop such frames? */
+};
+
+/* Notes the verdict on a frame. */
+void floods_note(struct device *d, uint32_t verdict);
+/* If there were too many such frames, has the system drop the next ones, before it copies them. */
+void floods_stop(struct device *d);
+/* Reads all frames again: to be called each second, and when the endpoint may have other channels or options. */
+void floods_end(struct device *d);
+
+#endif

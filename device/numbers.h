@@ -1,0 +1,225 @@
+/* Packet numbers that outlive a run, and the journal that has them. journal.h has the file. */
+#ifndef NUMBERS_H
+#define NUMBERS_H
+
+#include "system.h"
+
+#include "journal.h"
+
+struct config;
+struct counts;
+
+/* ---- names.c: the names in the journal, and their records ---- */
+
+/* The octets of a name; the number of no key; and how many names of keys that were given up stay in the journal. */
+enum { NAME = 32, NO_KEY = MACSEC_KEY_COUNT, KEPT_NAMES = 256 };
+
+struct name {
+    macsec_record made;    /* the record with the greatest packet number: durable, being written, or to be written */
+    macsec_record durable; /* the durable one, and its packet number */
+    uint64_t durable_last;
+    /* What a receive association has accepted, where more is reserved: of that record what follows the name. */
+    uint8_t accepted[MACSEC_RECORD_LENGTH - NAME];
+    uint64_t given_up; /* at which turn its key was given up; 0: it was not */
+    uint32_t key;      /* the key's number in the endpoint, or NO_KEY */
+    bool is_durable;   /* is there a durable record? */
+    bool has_accepted; /* is it known what was accepted? */
+    bool came_again;   /* was the name in the journal before the key was installed? Then that may happen again */
+    bool again;        /* is the record to be written again, after a mark? */
+    bool marked;       /* is the mark durable? */
+    bool changed;      /* is it among the changed names? */
+};
+
+struct names {
+    uint8_t header[MACSEC_RECORD_LENGTH];
+    struct name *at;
+    size_t count, room;
+    uint32_t *slots; /* of the hash table: 0, or 1 more than the index of a name */
+    size_t slot_count;
+    uint32_t *changed; /* the indices of names with something to be written */
+    size_t changed_count;
+    uint64_t given_up; /* how many names were given up */
+};
+
+/* Reads the octets of a journal. Returns the library's status. */
+uint32_t names_read(struct names *n, const uint8_t *octets, size_t length);
+/* The name in a record, or NULL if it is new. It is valid until the next call that adds or removes names. */
+struct name *names_find(const struct names *n, const uint8_t *record);
+/* The greatest packet number in the records of a name. */
+uint64_t names_last(const struct name *name);
+/* Does a durable record of this name reserve as much? */
+bool names_cover(const struct name *name, const macsec_record *record);
+/* Notes a record that the library has made for a key of this number. It is written later if it says something new.
+ * Returns its name, or NULL if memory runs out. */
+struct name *names_note(struct names *n, const macsec_record *record, uint32_t key);
+/* Notes what a receive association has accepted, where more is reserved. */
+void names_accept(struct names *n, const macsec_record *record);
+/* Gives up the names of a key, which will not be installed again. A name that has come again before stays. */
+void names_give_up(struct names *n, uint32_t key);
+/* The number of this key, or of all keys if it is NO_KEY, will be given to another key: names forget it. */
+void names_detach(struct names *n, uint32_t key);
+/* Writes the records that have changed to a buffer. Returns their length, which is at most names_change_room. */
+size_t names_changes(struct names *n, uint8_t *out);
+size_t names_change_room(const struct names *n);
+/* Writes the whole journal, without the names that may leave it, to a buffer. Returns its length, which is at most
+ * names_room. */
+size_t names_all(struct names *n, uint8_t *out);
+size_t names_room(const struct names *n);
+/* How many names stay in the journal. */
+size_t names_count(const struct names *n);
+/* Writes the header and the greatest record of each name, for another endpoint of this run. A name that one of
+ * these records has gets that record instead. A name of a receive association gets the number up to which the
+ * association has accepted. */
+size_t names_copy(const struct names *n, const macsec_record *instead, size_t count, uint8_t *out);
+size_t names_copy_room(const struct names *n);
+/* Notes that octets which names_changes or names_all has written are durable. Reports the records that reserve
+ * something new. */
+void names_written(struct names *n, const uint8_t *records, size_t length,
+                   void (*report)(void *context, const macsec_record *record), void *context);
+void names_free(struct names *n);
+
+/* ---- receive_rates.c: how many packet numbers to reserve ahead of receiving ---- */
+
+/* Of a receive channel. */
+struct receive_rate {
+    uint8_t sci[8];
+    uint64_t frames, rate;     /* that were accepted since the last tick; and in a second */
+    uint64_t burst;            /* how many to reserve at least, since frames lacked a reservation */
+    uint64_t asked;            /* the order before whose end it was asked for them, or 0 */
+    unsigned unseen, patience; /* frames since the last call of receive_rates_amount, and at most until the next one */
+    bool is_used;
+};
+struct receive_rates {
+    struct receive_rate all[MACSEC_RX_CHANNEL_COUNT];
+    size_t latest; /* the index of the one that was looked for last */
+};
+
+/* The rate of a channel. It is there until the next call with another channel. */
+struct receive_rate *receive_rates_of(struct receive_rates *p, const uint8_t sci[8]);
+/* How many packet numbers to reserve, if a synchronization of the disk takes so many seconds. */
+uint64_t receive_rates_amount(struct receive_rate *p, double slow);
+/* Notes that a frame was accepted. Returns true if it is time to look whether a reservation is wanted. */
+bool receive_rates_accepted(struct receive_rate *p);
+/* Notes that a frame lacks a reservation while this order of the writer is under way or the next one, and how many
+ * frames wait for a reservation. Returns true, once for an order, if one is to be asked for. */
+bool receive_rates_lacked(struct receive_rate *p, uint64_t order, unsigned waiting);
+/* To be called each second. */
+void receive_rates_tick(struct receive_rates *p);
+void receive_rates_clear(struct receive_rates *p);
+
+/* ---- journal_writer.c: the thread that writes the journal ---- */
+
+struct journal_writer;
+
+/* What became of an order. */
+struct saved {
+    bool good, cut; /* was it carried out, and has another program changed the length of the file? */
+    struct journal_fault fault;
+    double seconds;
+};
+
+/* Makes a writer of this journal, which belongs to the thread while it works. Returns 0, or the exit status after a
+ * message. */
+int journal_writer_open(struct journal_writer **s, struct journal *journal);
+/* Starts the thread. Until then, orders are carried out at once. Returns 0, or the exit status after a message. */
+int journal_writer_start(struct journal_writer *s);
+/* A descriptor that can be read when an order was carried out, or another program has cut the file. */
+int journal_writer_file(const struct journal_writer *s);
+/* Is an order under way? */
+bool journal_writer_is_busy(const struct journal_writer *s);
+/* Orders that octets be appended to the journal, or be the whole journal. They stay as they are until it is done. */
+void journal_writer_order(struct journal_writer *s, const uint8_t *octets, size_t length, bool whole);
+/* Has the order been carried out? Then the writer has none any more. Of `saved`, `cut` is filled in always. */
+bool journal_writer_is_done(struct journal_writer *s, struct saved *saved);
+/* Waits until the order has been carried out, at most so many milliseconds. */
+void journal_writer_wait(struct journal_writer *s, int milliseconds);
+/* Ends the thread and frees the writer, unless an order is under way. Returns false if one is. */
+bool journal_writer_close(struct journal_writer *s);
+
+/* ---- numbers.c: packet numbers that outlive a run ---- */
+
+struct numbers;
+
+/* Creates the journal of this name. Returns 0, or the exit status after a message. */
+int numbers_create(const char *name);
+/* Opens the journal of this name. Returns 0, or the exit status after a message. */
+int numbers_open(struct numbers **n, const char *name, struct counts *counts);
+/* The exit status for a status of the library about the journal, after a message unless it is MACSEC_OK. */
+int numbers_explain(uint32_t status);
+/* Frames may come from now on: makes all reservations. This waits for the disk, and so do calls before it. */
+void numbers_begin(struct numbers *n, macsec_endpoint *e);
+/* Does what numbers_begin does, and starts the thread that writes the journal. Returns 0, or the exit status after a
+ * message. */
+int numbers_start(struct numbers *n, macsec_endpoint *e);
+/* The descriptor of the journal's folder, and one that can be read when records were written. */
+int numbers_folder(const struct numbers *n);
+int numbers_file(const struct numbers *n);
+/* To be called when numbers_file can be read: reports the records to the endpoint, and has the next ones written. */
+void numbers_go_on(struct numbers *n, macsec_endpoint *e);
+/* Creates an endpoint with a copy of the journal, in which these records replace the ones of the same names. What
+ * numbers_note_accepted has noted replaces what is reserved for receive associations. Returns the library's status. */
+uint32_t numbers_configure(const struct numbers *n, macsec_endpoint *e, const macsec_config *config,
+                           const macsec_record *instead, size_t count);
+/* Creates an endpoint with a journal that reserves nothing. Such an endpoint sends and receives nothing. */
+uint32_t numbers_configure_empty(const struct numbers *n, macsec_endpoint *e, const macsec_config *config);
+/* To be called when a key was installed or retired. `passes`: a key agreement has brought the key or retires it, so it
+ * is given up. */
+void numbers_note_key(struct numbers *n, uint16_t key, bool passes);
+void numbers_note_retired(struct numbers *n, uint16_t key, bool passes);
+/* Makes the reservations that transmit associations want. */
+void numbers_reserve(struct numbers *n, macsec_endpoint *e);
+/* Makes the reservations that receive associations want. */
+void numbers_accept(struct numbers *n, macsec_endpoint *e);
+/* Makes all reservations for an endpoint that is to take over. If an enabled association has nothing reserved, it waits
+ * for the disk, at most so long. Returns false if the association still has nothing then, and the journal can't be
+ * written. */
+bool numbers_reserve_soon(struct numbers *n, macsec_endpoint *e, int milliseconds);
+/* Notes that frames were sent, and whether one lacked a reservation; reserves in time. */
+void numbers_used(struct numbers *n, macsec_endpoint *e, unsigned frames, bool lacked);
+/* How often a reservation of received packet numbers may have been reported to the endpoint. */
+uint64_t numbers_grants(const struct numbers *n);
+/* Notes what became of a frame of LINK, and how many frames wait for a reservation; reserves in time. */
+void numbers_received(struct numbers *n, macsec_endpoint *e, const macsec_received *got, unsigned waiting);
+/* To be called each second: fits the reservations to the rate. */
+void numbers_tick(struct numbers *n, macsec_endpoint *e);
+/* Notes what the receive associations of a channel have accepted, or all if `sci` is NULL. To be called before an
+ * association or the endpoint ends. In another endpoint of this run the association begins above that. */
+void numbers_note_accepted(struct numbers *n, const macsec_endpoint *e, const uint8_t *sci);
+/* To be called when an endpoint has ended: the numbers of its keys will be given to other keys. */
+void numbers_forget(struct numbers *n);
+/* A ticket for the records that are to be written. */
+uint64_t numbers_ticket(const struct numbers *n);
+/* Were the records of a ticket written, or could they not be? */
+bool numbers_is_written(const struct numbers *n, uint64_t ticket);
+/* How many names are in the journal, and how many there can be. */
+size_t numbers_names(const struct numbers *n);
+size_t numbers_names_max(void);
+/* Writes the last records, and closes the journal. */
+void numbers_close(struct numbers *n, macsec_endpoint *e);
+
+/* ---- lines.c: commands that begin and end associations ---- */
+
+/* Carries out a command. If an association begins above the command's packet number, since lower ones may have been
+ * used, `raised` is where; else it is 0. */
+uint32_t lines_carry_out(struct numbers *n, macsec_endpoint *e, const macsec_command *c, uint64_t *raised);
+
+/* ---- journals.c: the journals of the host ---- */
+
+/* Makes the path of the journal of NAME. Returns false, after a message, if it is too long. */
+bool journals_path(char *path, size_t room, const char *name);
+/* Says if the file system does not keep the journal. A new one is refused then if it is lost for certain. Returns 0, or
+ * the exit status. */
+int journals_check_disk(const char *name, bool creates);
+/* Compares the keys under which this NAME sends with the other journals of the host, in the same folder and in those
+ * beside one that has the name of the device. Returns 0, or the exit status after a message. */
+int journals_check_keys(const struct config *c, const char *name);
+/* Locks the folders of the host's journals, so that no other NAME compares until the first records of this one are on
+ * the disk, and unlocks them. The first call waits for other starts; it returns 0, or the exit status after a message.
+ */
+int journals_lock(const char *name);
+void journals_unlock(void);
+/* Why macsecd does not start with the journal that is there; or NULL, also if it can't be read. Nothing is locked. The
+ * text is valid until the next call. */
+const char *journals_fault(const char *path);
+
+#endif

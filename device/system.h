@@ -1,0 +1,69 @@
+/* What macsecd uses of the system for itself: standard error, the service manager, memory and rights. */
+#ifndef SYSTEM_H
+#define SYSTEM_H
+
+/* Each header of the device includes this one first. */
+#ifndef _GNU_SOURCE
+#define _GNU_SOURCE
+#endif
+#include "macsec.h"
+#include <stdbool.h>
+#include <stddef.h>
+#include <stdint.h>
+#include <sys/types.h>
+
+/* Exit statuses: the system refused something, or LINK or TAP is gone; the arguments or the configuration are wrong.
+ * And of --own-tap: only the deletion of TAP takes it from another user. */
+enum { ENDS_FAILED = 1, ENDS_WRONG = 2, ENDS_TAKEN = 3 };
+
+/* ---- messages.c: what macsecd says, on standard error ---- */
+
+/* Names the device in the messages that follow. */
+void messages_name(const char *name);
+/* Makes the messages that follow without waiting. What standard error does not take is dropped, and a later message
+ * says how many lines that were. To be called before anything is opened. */
+void messages_open(void);
+/* Prints a line. No frame causes one. A line that comes again and again is printed once a minute, with its count. */
+void message(const char *form, ...) __attribute__((format(printf, 1, 2)));
+/* The same of a fault of what macsecd was given. Returns ENDS_WRONG. */
+int message_wrong(const char *form, ...) __attribute__((format(printf, 1, 2)));
+/* The same of a call that failed, with the text of errno after it. Returns ENDS_FAILED. */
+int message_of_errno(const char *form, ...) __attribute__((format(printf, 1, 2)));
+/* Says that memory has run out. Returns ENDS_FAILED. */
+int message_of_memory(void);
+/* Writes what was printed to standard output. Returns 0, or the exit status after a message. */
+int messages_flush_output(void);
+
+/* ---- service.c: the service manager ---- */
+
+struct service {
+    int socket;      /* -1: there is no service manager */
+    bool owes_ready; /* is READY=1 to be sent again? */
+};
+
+/* Connects to the service manager's socket, if there is one. Returns 0, or the exit status after a message. */
+int service_open(struct service *s);
+/* Sends it an assignment, such as READY=1. */
+void service_notify(struct service *s, const char *assignment);
+
+/* ---- memory.c: memory that is not swapped ---- */
+
+/* Locks the stack, the variables and the heap, which is then large enough for what is allocated later. To be called
+ * before keys are read, and while macsecd has capabilities. If the system refuses it, a message says so. */
+void memory_lock(void);
+
+/* ---- confine.c: what macsecd gives up ---- */
+
+/* No core files, and no access to the memory by other processes of the same user: to be called before keys are read. */
+int confine_memory(void);
+/* No CAP_SYS_ADMIN: to be called when LINK's namespace was entered. Returns 0, or the exit status after a message. */
+int confine_namespace(void);
+/* The user of the journal's folder if it is root, no capabilities, no new privileges, and no files except in the folder
+ * of the journal: to be called before keys are used and the thread of the journal is started. Without Landlock it
+ * fails, unless the configuration allows that. All return 0, or the exit status after a message. */
+int confine_rights(int state, bool unconfined);
+/* Allows only the system calls that this thread needs. Returns 0, or the exit status after a message. */
+enum thread { ENDPOINT_THREAD, JOURNAL_THREAD, WORKER_THREAD };
+int confine_calls(enum thread thread);
+
+#endif
