@@ -57,9 +57,9 @@ OVER_PROGRAM := altered-frames conformance conformance-controls peer planted sto
 OVER_LIBRARY := axioms c-programs constant-time delivered-once device-forged device-fuzz instructions isolated \
     isolated-controls isolated-unit journal keys-in-memory macsecd macsecd-controls macsecd-isolated macsecd-workers \
     pages python readers two-hosts workers
-CHECKS := $(OVER_PROGRAM) $(OVER_LIBRARY) against allocators any-order c-cost c-header controls cores device-analyzed \
+CHECKS := $(OVER_PROGRAM) $(OVER_LIBRARY) against allocators any-order c-header controls cores device-analyzed \
     device-forged-linux device-installed device-kernel edits failures fuzz isolated-kinds kept-frames kernel-captures \
-    lanes-used live mka moves needed packages style table version
+    lanes-used live mka moves needed packages sizes style table version
 
 .PHONY: all try test run lib kept device device-of install install-device install-python dist check pictures reference \
     bench toolchain clean help always $(CHECKS)
@@ -142,7 +142,6 @@ constant-time delivered-once instructions keys-in-memory: build/$(HWCAPS)/libmac
 packages: $(BOTH) $(LIBRARIES)
 controls: build/macsec $(BOTH) build/macsec-rattle build/libmacsec.a
 against: $(BOTH) $(LIBRARIES)
-c-cost: $(BENCHES) $(LIBRARIES)
 
 device: build/macsecd build/macsecctl
 

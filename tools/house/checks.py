@@ -1,4 +1,5 @@
-"""The table of checks: what `make test`, the gate and a person run. tools/check runs them and writes the pages' list."""
+"""The table of checks: what `make test`, the gate and a person run. tools/check runs them, and writes the pages' list
+of them."""
 
 from __future__ import annotations
 
@@ -7,9 +8,9 @@ from typing import NamedTuple
 from house.processors import KINDS, WIDER, runs
 from house.written import table
 
-# What a check needs, in the order in which the gate makes it: nothing but sources; the compiler of `rt`, its log, or the
-# crates that it has proved; the program, also as Rattle's own compiler builds it; the libraries for C; what is built of
-# these, and no check that writes into build/ beside it.
+# What a check needs, in the order in which the gate makes it: nothing but sources; the compiler of `rt`, its log, or
+# the crates that it has proved; the program, also as Rattle's own compiler builds it; the libraries for C; what is
+# built of these, and no check that writes into build/ beside it.
 NOTHING, TOOLCHAIN, LOG, PROVED = "nothing", "rt", "the log of rt ci", "proved crates"
 PROGRAM, PROGRAMS, LIBRARY, ROOT_USER = "program", "both programs", "library", "library, root"
 SHOWN, ALL = "programs, library", "all of these"
@@ -47,12 +48,10 @@ class Check(NamedTuple):
     counted: str | None = None
 
     def arguments(self, when: str) -> str | None:
-        """The arguments with which it is run then."""
         return {"test": self.test, "gate": self.gate, "hand": self.hand}[when]
 
     @property
     def is_manual(self) -> bool:
-        """Does only a person run it?"""
         return self.test is None and self.gate is None
 
 
@@ -68,8 +67,8 @@ NARROWER = f"--mistakes build/libmacsec_c.a build/libmacsec_c-{WIDER}.a " if run
 CHECKS: list[Check] = [
     Check("needed", "finds the commands that the checks run", "tools/needed", NOTHING, 1,
           "a PATH without a command", test="", gate="--gate"),
-    Check("edits", "checks that each must-fail edit still applies, and that docs/MISTAKES.md is made of them", "tools/edits",
-          NOTHING, 1, "an edit that cannot be applied, one that is deleted", test="", gate=""),
+    Check("edits", "checks that each must-fail edit still applies, and that docs/MISTAKES.md is made of them",
+          "tools/edits", NOTHING, 1, "an edit that cannot be applied, one that is deleted", test="", gate=""),
     Check("allocators", "compares the lists of calls that allocate with the sources", "tests/program/failures calls",
           NOTHING, 1, "a call and a type that no list has", test="", gate=""),
     Check("c-header", "compares the header for C with the crates, and with the calls that it keeps",
@@ -79,12 +78,15 @@ CHECKS: list[Check] = [
           test="", gate=""),
     Check("pictures", "finds a drawing that its source does not make", "tools/pictures --check", NOTHING, 5,
           "another drawing", test="", gate=""),
-    Check("reference", "finds a page of docs/reference that the sources do not make", "tools/reference --check",
-          NOTHING, 2, "another page", test="", gate=""),
+    Check("reference", "finds a page or part that its sources do not make, and compares tools/families.json with them",
+          "tools/reference --check", NOTHING, 2, "another page, parts, and data that the proofs do not have",
+          test="", gate=""),
     Check("style", "finds Python and C with another layout than the formatters give", "python3 tools/house/style.py",
           NOTHING, 10, "files with another layout", test=""),
     Check("table", "compares the checks in docs/MAINTAINING.md and the Makefile with this table",
           "tools/check --table --check", NOTHING, 1, "another list", test="", gate=""),
+    Check("sizes", "compares each part with its limit of size, and finds wide lines in files that changed",
+          "tools/sizes --check", NOTHING, 1, "a part over its limit, two files with wide lines", test="", gate=""),
     Check("moves", "tries all lists of three moves over the rules in Python", "python3 fuzz/moves.py", NOTHING, 20,
           "wrong rules, each of which a list of moves has to show", test="", gate=""),
     Check("kept-frames", "sees that callers which keep a frame over the next call are refused",
@@ -95,9 +97,9 @@ CHECKS: list[Check] = [
           "the must-fail edits", gate=""),
     Check("edits-refused", "reads in the log of the proofs that each edit was tried and refused",
           "tools/edits --after build/ci.log", LOG, 1, "a log without edits", gate=""),
-    Check("stored-runs", "compares the answers to stored runs and example scripts with stored ones", "tests/program/stored-runs", PROGRAM, 5,
-          "a program with other answers, a run that is deleted", test=BUILT, gate=BOTH,
-          counted="^  .*: as stored$"),
+    Check("stored-runs", "compares the answers to stored runs and example scripts with stored ones",
+          "tests/program/stored-runs", PROGRAM, 5, "a program with other answers, a run that is deleted", test=BUILT,
+          gate=BOTH, counted="^  .*: as stored$"),
     Check("altered-frames", "flips each bit of frames on the link", "tests/program/altered-frames", PROGRAM, 5,
           "a program with other verdicts", test=BUILT, gate=BOTH),
     Check("conformance", "runs the table of docs/CONFORMANCE.md and the test vectors", "conformance/conformance",
@@ -113,11 +115,12 @@ CHECKS: list[Check] = [
           PROGRAMS, 15, "programs that do not fail, or otherwise; other lists", gate="", hand="calls"),
     Check("c-programs", "builds and runs the programs over the library for C, and makes random calls",
           "tests/library/c-programs", LIBRARY, 50, "other texts, programs that are missing, calls with other answers",
-          test="--library {library} --calls 1000 --seed {seed}",
+          test="--library {library} --calls 1500 --seed {seed}",
           gate="--calls 6000 --seed {seed} --x86-64-v3 build/glibc-hwcaps/x86-64-v3/libmacsec.a",
           hand="--calls {inputs} --seed {seed}"),
     Check("constant-time", "reports what depends on keys or on data, in the library for C and in the program",
-          "tests/library/constant-time", LIBRARY, 60, "a table read by index, branches on a key, comparisons that end early",
+          "tests/library/constant-time", LIBRARY, 60,
+          "a table read by index, branches on a key, comparisons that end early",
           gate=f"--mistakes {BUILDS} {LIBRARIES}"),
     Check("keys-in-memory", "looks for keys in the memory of a process that has retired or freed them",
           "tests/library/keys-in-memory", LIBRARY, 20, "libraries that overwrite no blocks, or no stack",
@@ -143,20 +146,20 @@ CHECKS: list[Check] = [
     Check("python", "tests the Python package and its examples, and makes random calls", "python/tests/run", LIBRARY,
           40, "a package with mistakes, another text",
           test="--library {shared} --program {program} --seed {seed}", gate="--seed {seed}"),
-    Check("readers", "gives mutated captures, logs and texts to the commands in Python", "python3 fuzz/readers.py", LIBRARY,
-          30, "commands with mistakes, limits of time and memory, too few inputs",
+    Check("readers", "gives mutated captures, logs and texts to the commands in Python", "python3 fuzz/readers.py",
+          LIBRARY, 30, "commands with mistakes, limits of time and memory, too few inputs",
           test="--inputs 300 --seed {seed} --library {shared}", gate="--inputs 2000 --seed {seed}",
           hand="--inputs {inputs} --seed {seed}"),
     Check("device", "compiles the device", "make --no-print-directory device CPU=x86-64-v2", LIBRARY, 10, None,
           gate=""),
-    Check("device-fuzz", "gives mutated octets to macsecd's readers, under sanitizers", "device/tests/device-fuzz", LIBRARY, 20,
-          "readers with mistakes; clang that is missing", gate="--inputs 2000 --mistakes --seed {seed}",
+    Check("device-fuzz", "gives mutated octets to macsecd's readers, under sanitizers", "device/tests/device-fuzz",
+          LIBRARY, 20, "readers with mistakes; clang that is missing", gate="--inputs 2000 --mistakes --seed {seed}",
           hand="--minutes 2 --mistakes --seed {seed}"),
     Check("macsecd", "runs the device in network namespaces", "device/tests/macsecd", ROOT_USER, 60,
           "the check macsecd-controls", gate="--short --seed {seed}", hand="--seed {seed}"),
-    Check("workers", "sends frames through the device's workers in one process, under sanitizers", "device/tests/workers",
-          LIBRARY, 20, "workers and rings with mistakes (--mistakes)", test="--short --library {library} --seed {seed}",
-          gate="--seed {seed}", hand="--mistakes --seed {seed}"),
+    Check("workers", "sends frames through the device's workers in one process, under sanitizers",
+          "device/tests/workers", LIBRARY, 20, "workers and rings with mistakes (--mistakes)",
+          test="--short --library {library} --seed {seed}", gate="--seed {seed}", hand="--mistakes --seed {seed}"),
     Check("macsecd-workers", "passes frames through the device with no worker and with one", "device/tests/macsecd",
           ROOT_USER, 20, "the checks macsecd-controls and workers",
           gate="--short --workers 0,1 --seed {seed} traffic rekey restart port losses",
@@ -166,35 +169,34 @@ CHECKS: list[Check] = [
     Check("any-order", "sees that rt ci accepts what make run leaves", "tests/any-order", ALL, 60, None, gate=""),
     Check("isolated", "runs the device with LINK in a separate network namespace", "device/tests/isolated",
           ROOT_USER, 60, "the check isolated-controls", gate="--short --seed {seed}", hand="--seed {seed}"),
-    Check("two-hosts", "runs the commands of docs/TWO-HOSTS.md at two simulated hosts", "device/tests/two-hosts", ROOT_USER,
-          12, "pages with another command", gate=""),
+    Check("two-hosts", "runs the commands of docs/TWO-HOSTS.md at two simulated hosts", "device/tests/two-hosts",
+          ROOT_USER, 12, "pages with another command", gate=""),
     Check("device-forged", "sends frames of macsec-forge to the device, and judges what it delivers",
           "device/tests/device-forged", ROOT_USER, 15, "devices that differ from their CONFIG", gate=""),
     Check("device-forged-linux", "sends them to Linux's own MACsec in a virtual machine",
           "device/tests/device-forged --linux", GUEST, 30, "the check device-forged", hand=""),
-    Check("isolated-controls", "plants mistakes in the isolation of LINK", "device/tests/isolated --controls", ROOT_USER,
-          1100, "it is made of them", hand=""),
-    Check("isolated-kinds", "runs the device with each kind of LINK in a virtual machine", "device/tests/isolated-kinds",
-          GUEST, 180, "device/tests/isolated-kinds --controls", hand=""),
+    Check("isolated-controls", "plants mistakes in the isolation of LINK", "device/tests/isolated --controls",
+          ROOT_USER, 1100, "it is made of them", hand=""),
+    Check("isolated-kinds", "runs the device with each kind of LINK in a virtual machine",
+          "device/tests/isolated-kinds", GUEST, 180, "device/tests/isolated-kinds --controls", hand=""),
     Check("isolated-unit", "runs the unit of macsecd under systemd", "device/tests/isolated-unit", ROOT_USER, 35,
           "device/tests/isolated-unit --controls", gate=""),
-    Check("device-installed", "installs the packages in a virtual machine with systemd: upgrade, reboots, a card pulled, purge",
+    Check("device-installed",
+          "installs the packages in a virtual machine with systemd: upgrade, reboots, a card pulled, purge",
           "device/tests/device-installed", GUEST, 900, "device/tests/device-installed --controls", hand=""),
     Check("macsecd-isolated", "runs the device's other checks with an isolated LINK", "device/tests/macsecd --isolated",
           ROOT_USER, 600, "the check macsecd-controls", hand="--seed {seed}"),
-    Check("macsecd-controls", "plants mistakes in the device", "device/tests/macsecd --short --controls", ROOT_USER, 1200,
-          "it is made of them", hand=""),
+    Check("macsecd-controls", "plants mistakes in the device", "device/tests/macsecd --short --controls", ROOT_USER,
+          1200, "it is made of them", hand=""),
     Check("device-analyzed", "runs the analyzers of gcc and clang over the device and the examples in C",
           "device/tests/device-analyzed", NOTHING, 15, "memory that is read after it was freed", test=""),
     Check("peer", "compares frames with Scapy's and with what tshark reads", "tests/program/peer", PROGRAM, 40,
           "another packet number", gate="--frames 80 --seed {seed}", hand=""),
     Check("against", "measures the program and the library beside OpenSSL: speeds, which have no limits",
           "tests/program/against", LIBRARY, 180, None, hand=""),
-    Check("c-cost", "counts the instructions of a frame through the library: figures, whose limits `instructions` has",
-          "tests/program/c-cost", LIBRARY, 60, None, hand=""),
     Check("cores", "measures how many frames several threads seal: a speed, which other work on the machine changes",
-          "tests/library/cores --least 0.9 build/libmacsec.a", LIBRARY, 10, "threads that seal under one lock (--mistake)",
-          hand=""),
+          "tests/library/cores --least 0.9 build/libmacsec.a", LIBRARY, 10,
+          "threads that seal under one lock (--mistake)", hand=""),
     Check("device-kernel", "runs the device against a Linux kernel in a virtual machine", "device/tests/device-kernel",
           GUEST, 900, None, hand=""),
     Check("kernel-captures", "opens captures of a Linux kernel in a virtual machine", "python/tests/kernel-captures",
@@ -218,11 +220,8 @@ def listed() -> str:
     """The table for a terminal, and after it the checks without a control."""
     lines = []
     for it in CHECKS:
-        when = [
-            name
-            for name, arguments in (("test", it.test), ("gate", it.gate), ("manually", it.hand))
-            if arguments is not None
-        ]
+        runs_of = {"test": it.test, "gate": it.gate, "manually": it.hand}
+        when = [name for name, arguments in runs_of.items() if arguments is not None]
         lines.append(f"{it.name:21} {', '.join(when):20} {it.seconds:5} s  {it.needs:20} {it.does}")
     without = [it.name for it in CHECKS if it.control is None]
     return "\n".join([*lines, "", f"No control: {', '.join(without)}"]) + "\n"

@@ -20,6 +20,14 @@ def device_sources(folder: pathlib.Path = ROOT / "device") -> list[str]:
     return [str(it) for it in sorted(folder.glob("*.c")) if it.name != "macsecctl.c"]
 
 
+def compiled(folder: str, source: pathlib.Path, library: pathlib.Path, *flags: str) -> str:
+    """A program over a static library, in a folder that has no other one of this source."""
+    program = f"{folder}/{source.stem}"
+    words = ["gcc", *WARNINGS, *(flags or ["-O1"]), *INCLUDED, str(source), str(library), "-o", program]
+    subprocess.run(words, check=True)
+    return program
+
+
 def run(words: list[str], environment: dict[str, str] | None = None) -> str:
     """Runs a program that must succeed. Returns its standard error."""
     ended = subprocess.run(words, env=environment, capture_output=True, text=True)
@@ -29,8 +37,8 @@ def run(words: list[str], environment: dict[str, str] | None = None) -> str:
 
 
 def altered_library(room: pathlib.Path, archive: pathlib.Path, file: str, old: str, new: str) -> pathlib.Path:
-    """A library for C, made in a new folder of the archive of its crate, in which one text of a file of tools/library is
-    another one."""
+    """A library for C, made in a new folder of the archive of its crate, in which one text of a file of tools/library
+    is another one."""
     shutil.copytree(ROOT / "tools/library", room / "tools/library")
     shutil.copytree(ROOT / "include", room / "include")
     shutil.copy(ROOT / "tools/merged-library", room / "tools")

@@ -1,4 +1,5 @@
-"""The crates of crates.txt, their files, and the kit of the command `rt`: what the tools that build the project share."""
+"""The crates of crates.txt, their files, and the kit of the command `rt`: what the tools that build the project
+share."""
 
 from __future__ import annotations
 
@@ -55,7 +56,6 @@ def below(name: str) -> tuple[str, ...]:
 
 
 def files(name: str, parts: tuple[str, ...] = ("src", "specs", "proofs")) -> list[str]:
-    """The files of these folders of a crate."""
     folders = [f"{ROOT}/crates/{name}/{part}" for part in parts]
     return sorted(f"{folder}/{it}" for top in folders for folder, _, names in os.walk(top) for it in names)
 

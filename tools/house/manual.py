@@ -22,8 +22,6 @@ NAMES = [it.name for it in CHECKS if it.is_manual]
 
 
 class Run(NamedTuple):
-    """A row of the file."""
-
     check: str
     commit: str
     date: str
@@ -38,7 +36,6 @@ def git(*words: str) -> str | None:
 
 
 def rows() -> dict[str, Run]:
-    """The rows that have the form of one."""
     lines = (line.split("\t") for line in FILE.read_text(encoding="utf-8").splitlines())
     whole = (it for it in lines if len(it) == len(Run._fields) and all(map(re.fullmatch, FORMS, it[1:])))
     return {it[0]: Run(*it) for it in whole}
@@ -50,7 +47,6 @@ def text_of(found: dict[str, Run]) -> str:
 
 
 def fault() -> str | None:
-    """What is wrong with the file."""
     if FILE.read_text(encoding="utf-8") == text_of(rows()):
         return None
     return f"each row has {HEAD.split()}, and is of one of these, in this order: {', '.join(NAMES)}"
@@ -63,7 +59,6 @@ def age(commit: str) -> str:
 
 
 def listed() -> list[str]:
-    """A line for each check."""
     lines, known = [], rows()
     for name in NAMES:
         it = known.get(name)
@@ -74,8 +69,9 @@ def listed() -> list[str]:
 
 def machine() -> str:
     """The processors of this machine, whether virtual machines are emulated on it, and its kernel."""
-    found = re.search(r"^model name\s*: (.*)", pathlib.Path("/proc/cpuinfo").read_text(encoding="utf-8"), re.M)
-    kvm = "KVM" if os.path.exists("/dev/kvm") else "no KVM"
+    about = pathlib.Path("/proc/cpuinfo").read_text(encoding="utf-8")
+    found = re.search(r"^model name\s*: (.*)", about, re.M)
+    kvm = "KVM" if os.path.exists("/dev/kvm") and {"vmx", "svm"} & set(about.split()) else "no KVM"
     model = " ".join(found[1].split()) if found else platform.machine()
     return f"{len(os.sched_getaffinity(0))} of {model}, {kvm}, Linux {platform.release()}"
 

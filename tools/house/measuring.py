@@ -45,7 +45,6 @@ def kinds(target: str, *needed: dict[str, str]) -> list[str]:
 
 
 def seconds(words: list[str], environment: dict[str, str] | None) -> float:
-    """How long a command takes."""
     began = time.monotonic()
     run(words, environment)
     return time.monotonic() - began

@@ -20,9 +20,9 @@ MOST = 4
 
 
 class Section(NamedTuple):
-    """A part of a key's row: where it begins and ends, counted from the row's first copy of the key. And the pieces of it
-    that are looked for: how many octets each has, how far apart they begin, and how many different octets there are at
-    least in one, so that nothing else has it by chance."""
+    """A part of a key's row: where it begins and ends, counted from the row's first copy of the key. And the pieces of
+    it that are looked for: how many octets each has, how far apart they begin, and how many different octets there are
+    at least in one, so that nothing else has it by chance."""
 
     name: str
     first: int
@@ -110,7 +110,6 @@ def mappings(number: int) -> list[Mapping]:
 
 
 def regions(number: int) -> list[Region]:
-    """What is in it."""
     found = []
     with open(f"/proc/{number}/mem", "rb", buffering=0) as memory:
         for it in mappings(number):
@@ -135,7 +134,8 @@ def pages(octets: bytes) -> list[tuple[int, bytes]]:
 
 
 def is_table(octets: bytes) -> bool:
-    """Are these the products of all nibbles with a number? Each is then the sum of those of its bits, and the first is 0."""
+    """Are these the products of all nibbles with a number? Each is then the sum of those of its bits, and the first is
+    0."""
     return all(octets[it] == octets[it & it - 1] ^ octets[it & -it] for it in range(TABLE))
 
 

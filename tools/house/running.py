@@ -23,6 +23,9 @@ LEFT_OUT = re.compile(
     r"nothing is tested|not tried|cannot be tried|not checked|commands skipped|skipped=|not installed"
 )
 COUNTS = re.compile(r"(\d+) passed, (\d+) failed")
+# How many lines of what a failed command printed are repeated at the end, and which they are if it printed such.
+REPEATED = 8
+FAULT = re.compile(r"WRONG|NOT |FAILED|\bError\b|error:|failed\b")
 
 
 class Job(NamedTuple):
@@ -106,11 +109,12 @@ class Running:
 
 class Runner:
     """Runs jobs, prints a line for each, and counts what passed. With `stops` a job that fails stops the others. `left`
-    has what was left out, in whole or in part."""
+    has what was left out, in whole or in part, and `told` what those that failed have printed of it."""
 
     def __init__(self, logs: pathlib.Path, stops: bool) -> None:
         self.logs, self.stops, self.passed, self.lost = logs, stops, 0, 0
         self.failed: list[str] = []
+        self.told: dict[str, list[str]] = {}
         self.left: list[str] = []
         logs.mkdir(parents=True, exist_ok=True)
 
@@ -160,8 +164,10 @@ class Runner:
             return True
         self.failed.append(job.name)
         self.lost += max(1, int(counts[2])) if counts else 1
+        lines = text.splitlines()
+        self.told[job.name] = ([it for it in lines if FAULT.search(it)] or lines)[-REPEATED:]
         if not job.shown:
-            self.say("\n".join(f"  {it}" for it in text.splitlines()[-40:]))
+            self.say("\n".join(f"  {it}" for it in lines[-40:]))
         self.say(f"{job.name} FAILED ({ended.seconds()}), {os.path.relpath(ended.log, ROOT)}")
         for way in ways.of(job.name, text, next(it for it in job.words if it != "python3")):
             self.say(f"  {way}")
@@ -184,9 +190,11 @@ class Runner:
             self.say(f"{each.job.name}: stopped ({each.seconds()})")
 
     def end(self) -> int:
-        """Prints what was left out, what failed and how many passed. Returns the status."""
+        """Prints what was left out, what failed and why, and how many passed. Returns the status."""
         if self.left:
             self.say(f"NOT TRIED, or not in full: {', '.join(self.left)}")
+        for name in self.failed:
+            self.say("\n".join(f"  {name}: {it[:200]}" for it in self.told[name]))
         if self.failed:
             self.say(f"FAILED: {', '.join(self.failed)}")
         self.say(f"{self.passed} passed, {self.lost} failed")

@@ -20,12 +20,12 @@ def table(head: str, rows: Iterable[Iterable[object]]) -> str:
 PART = re.compile(r"(<!-- made: ([\w-]+) -->\n).*?(<!-- end -->)", re.S)
 
 
-def with_parts(page: str, parts: dict[str, str]) -> str:
-    """A page with its made parts made again. It must have these parts and no others."""
-    found = {it[1] for it in PART.findall(page)}
-    if found != set(parts):
-        raise ValueError(f"a page has the parts {sorted(found)}, and not {sorted(parts)}")
-    return PART.sub(lambda it: f"{it[1]}\n{parts[it[2]]}\n\n{it[3]}", page)
+def with_parts(page: str, parts: dict[str, str], others: Iterable[str] = ()) -> str:
+    """A page with its made parts made again. It must have these parts, those that other tools make, and no more."""
+    found, named = {it[1] for it in PART.findall(page)}, {*parts, *others}
+    if found != named:
+        raise ValueError(f"a page has the parts {sorted(found)}, and not {sorted(named)}")
+    return PART.sub(lambda it: f"{it[1]}\n{parts[it[2]]}\n\n{it[3]}" if it[2] in parts else it[0], page)
 
 
 def write_or_check(
@@ -36,20 +36,22 @@ def write_or_check(
     if arguments not in ([], ["--check"]):
         print(f"usage: {tool} [--check]", file=sys.stderr)
         return 2
-    made, where = make(), folder.relative_to(ROOT)
+    made = make()
     if not arguments:
         folder.mkdir(parents=True, exist_ok=True)
         for name, text in made.items():
             (folder / name).write_text(text, encoding="utf-8")
         return 0
-    wrong = [f"{where}/{name} is missing" for name in made if not (folder / name).is_file()]
+    where = {name: (folder / name).relative_to(ROOT) for name in made}
+    wrong = [f"{where[name]} is missing" for name in made if not (folder / name).is_file()]
     wrong += [
-        f"{where}/{name} is stale"
+        f"{where[name]} is stale"
         for name, text in made.items()
         if (folder / name).is_file() and (folder / name).read_text(encoding="utf-8") != text
     ]
     if is_own:
-        wrong += [f"{where}/{it.name} is of nothing" for it in sorted(folder.glob("*")) if it.name not in made]
+        unmade = (it for it in sorted(folder.glob("*")) if it.name not in made)
+        wrong += [f"{it.relative_to(ROOT)} is of nothing" for it in unmade]
     for each in wrong:
         print(f"{each}: run {tool}", file=sys.stderr)
     return 1 if wrong else 0

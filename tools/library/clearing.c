@@ -43,6 +43,10 @@ CALL(32768, macsec_install_key, (macsec_endpoint * e, const macsec_sak *key), (e
 CALL(32768, macsec_retire_key, (macsec_endpoint * e, uint16_t key), (e, key))
 CALL(32768, macsec_key_take, (macsec_key * key, const macsec_endpoint *e, uint16_t number), (key, e, number))
 CALL(32768, macsec_command_line_raw, (macsec_endpoint * e, const uint8_t *text, size_t length), (e, text, length))
+CALL(32768, macsec_parse_line_raw, (const uint8_t *text, size_t length, macsec_command *command),
+     (text, length, command))
+CALL(32768, macsec_parse_end_raw, (const uint8_t *text, size_t length, macsec_config *config), (text, length, config))
+CALL(32768, macsec_carry_out, (macsec_endpoint * e, const macsec_command *command), (e, command))
 CALL(32768, macsec_answer_raw,
      (macsec_endpoint * e, uint32_t number, const uint8_t *text, size_t text_length, uint8_t *out, size_t out_length,
       size_t *written),

@@ -5,14 +5,13 @@ It is built of Debian's source package wpa, which `make dist` downloads once. Wi
 from __future__ import annotations
 
 import gzip
-import os
 import shutil
 import subprocess
 import sys
 from pathlib import Path
 
 from house.crates import BUILD, ROOT, hash_of
-from trials import DOC, outside, quietly, read, run, see
+from trials import DOC, dpkg_in, is_empty, outside, quietly, read, run, see
 
 NAME = "wpa-supplicant-macsecd"
 HERE = f"{ROOT}/integrations/wpa_supplicant"
@@ -26,7 +25,6 @@ KEPT = Path(BUILD, "wpa_supplicant")
 
 
 def has_source(folder: Path = KEPT) -> bool:
-    """Is Debian's source package there?"""
     return any((folder / "source").glob("wpa_*.dsc"))
 
 
@@ -89,13 +87,9 @@ def scripts() -> dict[str, tuple[bytes, int]]:
 def tried_below(where: str, root: str) -> None:
     """Tries the programs that are unpacked below a root."""
     do = outside({})
-    see(
-        f"{where}, wpa_supplicant has the driver",
-        "macsec_macsecd" in help_of(f"{root}/usr/sbin/{NAMES['wpa_supplicant']}"),
-    )
-    see(
-        f"{where}, wpa_cli prints its version", do(f"{root}/usr/sbin/{NAMES['wpa_cli']}", "-v").startswith("wpa_cli v2")
-    )
+    program, client = (f"{root}/usr/sbin/{it}" for it in NAMES.values())
+    see(f"{where}, wpa_supplicant has the driver", "macsec_macsecd" in help_of(program))
+    see(f"{where}, wpa_cli prints its version", do(client, "-v").startswith("wpa_cli v2"))
     unit = Path(root, f"usr/lib/systemd/system/{UNIT}").read_text()
     named = [word.strip("'\"") for word in unit.split() if word.startswith("/usr/sbin/")]
     see(f"{where}, the unit starts {named}", f"/usr/sbin/{NAMES['wpa_supplicant']}" in named and "/local/" not in unit)
@@ -113,18 +107,12 @@ def unpacked(package: str, root: str) -> None:
 
 def empty_root(package: str, root: str) -> None:
     """Installs the package in an empty root, and removes it: nothing is left."""
-    for name in ("info", "updates", "triggers"):
-        os.makedirs(f"{root}/var/lib/dpkg/{name}")
-    Path(root, "var/lib/dpkg/status").touch()
     wants = Path(root, "etc/systemd/system/multi-user.target.wants", UNIT.replace("@", "@macsec0"))
     wants.parent.mkdir(parents=True)
-    dpkg = ["dpkg", f"--root={root}", "--force-depends", "--force-not-root", "--force-script-chrootless"]
-    dpkg.append("--log=/dev/null")
+    dpkg = dpkg_in(root, "--force-script-chrootless")
     for _ in range(2):
         quietly(*dpkg, "-i", package)
     tried_below("in an empty root", root)
     wants.symlink_to(f"/usr/lib/systemd/system/{UNIT}")
     quietly(*dpkg, "-P", NAME)
-    hidden = f"{root}/var/lib/dpkg"
-    left = [f"{at}/{it}" for at, _, names in os.walk(root) for it in names if not at.startswith(hidden)]
-    see(f"in an empty root, nothing is left of {NAME} {left or ''}", not left and not os.path.exists(f"{root}/usr"))
+    is_empty(root, NAME)

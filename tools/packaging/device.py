@@ -8,7 +8,7 @@ import shutil
 from pathlib import Path
 
 from house.crates import ROOT
-from trials import DOC, found_in, outside, quietly, read, run, see, tried_completions
+from trials import DOC, dpkg_in, found_in, outside, quietly, read, run, see, tried_completions
 
 NAME = "macsecd"
 HERE = f"{ROOT}/tools/packaging/macsecd"
@@ -16,8 +16,6 @@ NEEDS = "systemd (>= 252), iproute2, util-linux"
 ABOUT = "MACsec device: protects the link between two hosts"
 SCRIPTS = ("postinst", "prerm", "postrm")
 MANUALS = ("macsecd.8", "macsecctl.8", "macsec-link.8")
-# What is completed, as in trials.py.
-COMPLETED = {"macsecd --cr": "--create-journal", "macsecctl macsec0 met": "metrics", "macsec-link rel": "release"}
 # The accounts of an empty root, and what systemd-sysusers leaves beside them.
 ACCOUNTS = {"passwd": "root:x:0:0::/root:/bin/sh\n", "group": "root:x:0:\n"}
 BESIDE = ("etc/.pwd.lock", "etc/passwd-", "etc/group-", "etc/shadow", "etc/shadow-", "etc/gshadow", "etc/gshadow-")
@@ -77,7 +75,7 @@ def tried_below(where: str, root: str) -> None:
     wanted = "eth0 macsec0 1514 isolated 0\n"
     printed = do(f"{root}/usr/sbin/macsecd", "--settings", "macsec0") if os.geteuid() == 0 else wanted
     see(f"{where}, macsecd --settings reads the example", printed == wanted)
-    tried_completions(where, do, root, str(room), COMPLETED)
+    tried_completions(where, do, root, ["macsecd", "macsecctl", "macsec-link"])
     shutil.rmtree(room)
     paths = [str(it) for it in Path(root, "usr").rglob("*") if it.is_file() and b"/usr/local" in plain(it)]
     see(f"{where}, nothing of macsecd names /usr/local {paths or ''}", not paths)
@@ -103,16 +101,12 @@ def empty_root(package: str, root: str) -> None:
     if not all(map(shutil.which, ("systemd-sysusers", "systemd-tmpfiles"))):
         print("  macsecd was not installed in an empty root: systemd is not installed", flush=True)
         return
-    for name in ("info", "updates", "triggers"):
-        os.makedirs(f"{root}/var/lib/dpkg/{name}")
     for path in ("etc/systemd/system/multi-user.target.wants", "var/lib", "run"):
         os.makedirs(f"{root}/{path}", exist_ok=True)
-    Path(root, "var/lib/dpkg/status").touch()
+    dpkg = dpkg_in(root, "--force-script-chrootless")
     for name, text in ACCOUNTS.items():
         Path(root, "etc", name).write_text(text)
     before = left(root)
-    dpkg = ["dpkg", f"--root={root}", "--force-depends", "--force-not-root", "--force-script-chrootless"]
-    dpkg.append("--log=/dev/null")
     for _ in range(2):
         quietly(*dpkg, "-i", package)
     tried_below("in an empty root", root)

@@ -8,6 +8,7 @@ import re
 import shutil
 import subprocess
 import sys
+from collections.abc import Iterable
 from pathlib import Path
 from typing import Callable
 
@@ -30,21 +31,6 @@ SUITE = "bookworm"
 INCLUDED = "gcc,libc6-dev,pkg-config,man-db,bash-completion,python3"
 # Below it, what installing anything leaves: the records of dpkg, logs and caches.
 RECORDS = ("var/lib/dpkg/", "var/log/", "var/cache/", "etc/ld.so.cache", "tmp/")
-
-# What is completed: the words of a command line, the last one begun, in a folder with a file `frames.pcap`.
-COMPLETED = {
-    "macsec pro": "protect",
-    "macsec run fra": "frames.pcap",
-    "macsec protect CONFIG IN fra": "frames.pcap",
-    "macsec protect CONFIG IN OUT fra": "",
-    "macsec-decrypt IN --only": "--only-opened",
-    "macsec-why --key KEY fra": "frames.pcap",
-}
-COMPLETE = """
-COMP_WORDS=({words}) COMP_CWORD={last}
-{function} 2> /dev/null
-echo "${{COMPREPLY[*]}}"
-"""
 
 
 def run(*words: str, **how) -> str:
@@ -129,13 +115,10 @@ def tried_programs(where: str, do: Callable[..., str], top: str, tour: str) -> N
         see(f"{where}, the program for {EVERY} has no vectors of 256 bits", wide == 0)
 
 
-def tried_completions(where: str, do: Callable[..., str], at: str, room: str, completed: dict[str, str]) -> None:
-    """Sees that bash completes the words of command lines, in a folder."""
-    for words, expected in completed.items():
-        name, last = words.split()[0], len(words.split()) - 1
-        call = COMPLETE.format(words=words, last=last, function="_" + name.replace("-", "_"))
-        script = f"cd {room}\n. {at}{COMPLETIONS}/{name}\n{call}"
-        see(f"{where}, `{words}` is completed", do("bash", "-c", script).strip() == expected)
+def tried_completions(where: str, do: Callable[..., str], at: str, names: Iterable[str]) -> None:
+    """Sees that bash can load the completion of each command. What they complete, python/tests tries."""
+    told = do("bash", "-c", "; ".join(f". {at}{COMPLETIONS}/{it}" for it in names) + "; complete -p")
+    see(f"{where}, {', '.join(names)} are completed", all(told.count(f" {it}\n") for it in names))
 
 
 def tried(where: str, do: Callable[..., str], at: str, room: str, flags: list[str]) -> None:
@@ -144,8 +127,7 @@ def tried(where: str, do: Callable[..., str], at: str, room: str, flags: list[st
     tried_programs(where, do, f"{at}/usr", f"{at}{DOC}/macsec/examples/tour.macsec")
     tried_in_c(where, do, at, room, flags)
     tried_in_python(where, do, at, room)
-    do("touch", f"{room}/frames.pcap")
-    tried_completions(where, do, at, room, COMPLETED)
+    tried_completions(where, do, at, ["macsec", *python_commands()])
 
 
 def manuals(where: str, do: Callable[..., str], words: str) -> None:
@@ -195,6 +177,21 @@ def linked_pages(root: str) -> None:
     see(f"every link of PYTHON leads to a file of python3-macsec {wrong[:5] or ''}", not wrong)
 
 
+def dpkg_in(root: str, *words: str) -> list[str]:
+    """The call of dpkg for an empty root, which is prepared."""
+    for name in ("info", "updates", "triggers"):
+        os.makedirs(f"{root}/var/lib/dpkg/{name}", exist_ok=True)
+    Path(root, "var/lib/dpkg/status").touch()
+    return ["dpkg", f"--root={root}", "--force-depends", "--force-not-root", "--log=/dev/null", *words]
+
+
+def is_empty(root: str, name: str) -> None:
+    """Sees that what was installed in an empty root left nothing."""
+    hidden = f"{root}/var/lib/dpkg"
+    left = [f"{at}/{it}" for at, _, names in os.walk(root) for it in names if not at.startswith(hidden)]
+    see(f"in an empty root, nothing is left of {name} {left or ''}", not left and not os.path.exists(f"{root}/usr"))
+
+
 def unpacked(names: list[str], root: str) -> None:
     for name in names:
         run("dpkg", "-x", name, root)
@@ -204,15 +201,11 @@ def unpacked(names: list[str], root: str) -> None:
 
 def empty_root(names: list[str], root: str) -> None:
     """Installs the packages in an empty root and removes them: nothing is left."""
-    for name in ("info", "updates", "triggers"):
-        os.makedirs(f"{root}/var/lib/dpkg/{name}")
-    open(f"{root}/var/lib/dpkg/status", "w").close()
-    dpkg = ["dpkg", f"--root={root}", "--force-depends", "--force-not-root", "--log=/dev/null"]
+    dpkg = dpkg_in(root)
     quietly(*dpkg, "-i", *names)
     tried_below("in an empty root", root)
     quietly(*dpkg, "-P", *NAMES)
-    left = [f"{at}/{it}" for at, _, files in os.walk(root) for it in files if not at.startswith(f"{root}/var/lib/dpkg")]
-    see("in an empty root, nothing is left when they are removed", not left and not os.path.exists(f"{root}/usr"))
+    is_empty(root, "the packages")
 
 
 def archive(name: str, room: str) -> None:
