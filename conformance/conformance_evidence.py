@@ -69,8 +69,6 @@ def test_contract(reference: str) -> str | None:
 
 
 class Runs:
-    """Runs what rows name, over one program."""
-
     def __init__(self, program: str, captures: dict[str, dict[str, str]], vectors: dict[str, list[str]]) -> None:
         """Takes the program, the captures, and what is wrong with each group of vectors."""
         self.program = program
@@ -99,7 +97,6 @@ class Runs:
         return self.test_run(name, "script", "examples/scripts")
 
     def test_run(self, name: str, kind: str = "run", folder: str = "tests/program/runs") -> str | None:
-        """A run of tests/program/runs."""
         said = self.stored().get(f"{kind} {name}")
         if said is None:
             return f"{folder} has no {name}"
@@ -135,7 +132,6 @@ class Runs:
         return None if os.access(f"{ROOT}/{name}", os.R_OK) else f"there is no {name}"
 
     def test_vectors(self, name: str) -> str | None:
-        """A group of vectors."""
         if name not in self.vectors:
             return f"vectors/macsec-vectors.json has no group {name}"
         wrong = self.vectors[name]

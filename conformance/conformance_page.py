@@ -37,9 +37,8 @@ def evidence_of(row: Row) -> str:
 
 
 def clause_table(rows: list[Row]) -> str:
-    cells = (
-        (it["id"], clause_of(it), joined(it["requirement"]), SUPPORT[it["support"]], evidence_of(it)) for it in rows
-    )
+    about = lambda it: (it["id"], clause_of(it), joined(it["requirement"]), SUPPORT[it["support"]], evidence_of(it))
+    cells = map(about, rows)
     return table("row | clause | requirement | support | evidence, or why not", cells)
 
 

@@ -80,7 +80,6 @@ def opened_by_openssl(it: Vector, frame: bytes, channel: Vector, lowest: int) ->
 
 
 def association(it: Vector, sci: str, ssci: str, an: int, pn: int, sends_sci: bool, encrypt: bool) -> MACsecSA:
-    """Scapy's SA."""
     extended = {"ssci": octets(ssci), "salt": octets(it["salt"])} if "XPN" in it["suite"] else {}
     extended["xpn_en"] = bool(extended)
     bits = {"icvlen": 16, "encrypt": int(encrypt), "send_sci": int(sends_sci)}
@@ -113,8 +112,6 @@ def sent_by_scapy(it: Vector, client: bytes, pn: int) -> bytes:
 
 
 class Report:
-    """What agrees, and what differs."""
-
     def __init__(self, every: bool) -> None:
         """Takes whether each frame that differs is printed."""
         self.every = every

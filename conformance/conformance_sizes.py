@@ -1,4 +1,4 @@
-"""Measures the sizes in docs/REVIEW.md: definitions to trust, code and proofs, and what is only tested."""
+"""Measures the sizes in docs/PROVED.md: definitions to trust, code and proofs, and what is only tested."""
 
 from __future__ import annotations
 
@@ -22,9 +22,7 @@ RESTARTS += [f"macsec_restarts/{it}" for it in ("AheadSteps", "AheadRuns", "Ahea
 TEXTS = ["macsec_script/Printed", "macsec_script/Promised", "macsec_script_parser/Scripts", "macsec_capture/Captured"]
 TEXTS += ["macsec_pcapng/Captures", "macsec_cli_runs/Failures"]
 IN_C = [f"macsec_c/{it}" for it in ("Answers", "Found", "Texts")]
-IN_C += [
-    f"macsec_c_calls/{it}" for it in ("Configs", "Keys", "SentParts", "ReceivedParts", "Shown", "Reserving", "Texts")
-]
+IN_C += [f"macsec_c_calls/{it}" for it in "Configs Keys SentParts ReceivedParts Shown Reserving Texts".split()]
 
 
 @functools.lru_cache(None)
@@ -60,7 +58,6 @@ def rounded(count: int) -> int:
 
 
 def paths(*patterns: str) -> list[str]:
-    """The files of these patterns."""
     found = (it for pattern in patterns for it in glob.glob(f"{ROOT}/{pattern}", recursive=True))
     return sorted(it for it in found if os.path.isfile(it))
 
@@ -92,6 +89,5 @@ def size_table() -> str:
         ("Python: rules and searches", paths("fuzz/*.py"), "a search finds less"),
         ("Python: package `macsec`", python, "a cause is wrong; it judges no frame"),
     ]
-    return table(
-        "what | lines | if it is wrong", ((what, f"{rounded(lines(it)):,}", wrong) for what, it, wrong in rows)
-    )
+    cells = ((what, f"{rounded(lines(it)):,}", wrong) for what, it, wrong in rows)
+    return table("what | lines | if it is wrong", cells)

@@ -13,7 +13,7 @@ import sys
 from collections.abc import Iterable, Iterator
 from typing import Any
 
-from house import ROOT
+from house import ROOT, families
 
 VECTORS, SCHEMA = ROOT / "vectors/macsec-vectors.json", ROOT / "vectors/schema.json"
 sys.dont_write_bytecode = True
@@ -24,7 +24,7 @@ SECONDS = 60
 Vector = "dict[str, Any]"
 
 # What a script calls each suite.
-SUITES = {"GCM-AES-128": "gcm128", "GCM-AES-256": "gcm256", "GCM-AES-XPN-128": "xpn128", "GCM-AES-XPN-256": "xpn256"}
+SUITES = {it["title"]: it["name"] for it in families.suites()}
 # The results of each kind of vector, beside what is given.
 RESULTS = {
     "aes": ("ciphertext",),
@@ -83,8 +83,8 @@ def script_of(vector: Vector) -> str:
 
 
 def results_of(vector: Vector, text: str) -> list[Vector]:
-    """What such a script printed of each frame: the link frame, or why it was dropped; or the verdict, the client frame,
-    and the packet numbers."""
+    """What such a script printed of each frame: the link frame, or why it was dropped; or the verdict, the client
+    frame, and the packet numbers."""
     if vector["kind"] == "protect":
         found = re.findall(r"^\d+ (?:frame \d+ (\w+)|dropped (\w+))$", text, re.M)
         return [{"link": link} if link else {"dropped": reason} for link, reason in found]
@@ -113,7 +113,6 @@ def parts_of(vector: Vector) -> list[Vector]:
 
 
 def by_rules(vector: Vector) -> list[Vector]:
-    """The results of a vector by the rules."""
     if "cipher" in vector:
         given = {name: bytes.fromhex(it) for name, it in vector["cipher"].items()}
         if vector["kind"] == "aes":
@@ -129,7 +128,6 @@ def by_rules(vector: Vector) -> list[Vector]:
 
 
 def stored(vector: Vector) -> list[Vector]:
-    """The results that a vector lists."""
     return [{it: part[it] for it in RESULTS[vector["kind"]] if it in part} for part in parts_of(vector)]
 
 

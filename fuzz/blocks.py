@@ -21,7 +21,6 @@ def padded(octets):
 
 
 def units_of(resolution):
-    """The number of units in a second."""
     return 2 ** (resolution - 128) if resolution > 127 else 10**resolution
 
 
@@ -30,8 +29,6 @@ def option(order, code, value):
 
 
 class Blocks:
-    """The blocks of a file, one after another."""
-
     def __init__(self, rng, is_sound):
         self.rng, self.is_sound, self.octets = rng, is_sound, b""
         self.begin_section()

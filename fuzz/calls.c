@@ -19,7 +19,7 @@
 #include <sys/mman.h>
 #include <unistd.h>
 
-enum { HANDLES = 4, KEYS = 3, SLOTS = 3, MOST_WORDS = 16, LONGEST_LINE = 524288, MOST_ROOMS = 4 };
+enum { HANDLES = 4, KEYS = 3, SLOTS = 3, MOST_WORDS = 20, LONGEST_LINE = 524288, MOST_ROOMS = 4 };
 
 static macsec_endpoint handles[HANDLES];
 static macsec_key keys[KEYS];
@@ -174,8 +174,8 @@ void __wrap_free(void *block) {
 enum { BLOCKS = 14 };
 
 static void check_blocks(const char *name, unsigned handle, bool held_before, uint32_t status) {
-    const char *reading[] = { "configure",    "command_line",      "answer",
-                              "reserve_open", "reserve_configure", "journal_compacted" };
+    const char *reading[] = { "configure", "command_line", "parse_line",        "parse_end",
+                              "answer",    "reserve_open", "reserve_configure", "journal_compacted" };
     bool beside = strncmp(name, "reserve_", strlen("reserve_")) == 0, may_ask = false;
     for (size_t i = 0; i < sizeof reading / sizeof reading[0]; i++)
         may_ask = may_ask || strcmp(name, reading[i]) == 0;
@@ -217,7 +217,6 @@ static void *room_with(const void *values, size_t size) {
 
 #define ROOM(type, ...) room_with(&(type){ __VA_ARGS__ }, sizeof(type))
 #define RECORD (filled = room_of(sizeof(macsec_record)))
-#define RX_COUNTERS ROOM(macsec_rx_counters, 7, 7, 7, 7, 7, 7, { 7, 7, 7, 7, 7, 7, 7, 7, 7, 7 })
 
 /* Prints a number of 128 bits, given as two halves. */
 static void print_halves(uint64_t high, uint64_t low) {
@@ -404,8 +403,7 @@ static uint32_t answer(macsec_endpoint *e, char **w) {
     return status;
 }
 
-static const macsec_sak *sealed_key(char **w) {
-    macsec_sak *key = room_of(sizeof *key);
+static void read_key(macsec_sak *key, char **w) {
     octets(w[0], key->bytes, sizeof key->bytes);
     octets(w[1], key->salt, sizeof key->salt);
     key->ssci = (uint32_t)number(w[2]);
@@ -413,8 +411,69 @@ static const macsec_sak *sealed_key(char **w) {
     key->number = (uint16_t)number(w[4]);
     key->length = (uint8_t)number(w[5]);
     key->offset = (uint8_t)number(w[6]);
+}
+
+static const macsec_sak *sealed_key(char **w) {
+    macsec_sak *key = room_of(sizeof *key);
+    read_key(key, w);
     seal();
     return key;
+}
+
+/* ---- Commands as structs ---- */
+
+static macsec_command *room_of_command(char **w) {
+    macsec_command *it = room_of(sizeof *it);
+    read_key(&it->sak, w);
+    it->pn = number(w[7]);
+    octets(w[8], it->sci, sizeof it->sci);
+    it->ssci = (uint32_t)number(w[9]);
+    it->kind = (uint32_t)number(w[10]);
+    it->choice = (uint32_t)number(w[11]);
+    it->key = (uint16_t)number(w[12]);
+    it->an = (uint8_t)number(w[13]);
+    it->flag = (uint8_t)number(w[14]);
+    return it;
+}
+
+static void print_command(const macsec_command *it) {
+    check_reserved(MACSEC_OK, RESERVED_OF(*it));
+    print_octets(it->sak.bytes, sizeof it->sak.bytes);
+    print_octets(it->sak.salt, sizeof it->sak.salt);
+    printf(" %u %u %u %u %u", (unsigned)it->sak.ssci, (unsigned)it->sak.suite, (unsigned)it->sak.number,
+           (unsigned)it->sak.length, (unsigned)it->sak.offset);
+    print_number(it->pn);
+    print_octets(it->sci, sizeof it->sci);
+    printf(" %u %u %u %u %u %u", (unsigned)it->ssci, (unsigned)it->kind, (unsigned)it->choice, (unsigned)it->key,
+           (unsigned)it->an, (unsigned)it->flag);
+}
+
+static uint32_t parse_line(const char *word) {
+    macsec_command *it = room_of(sizeof *it);
+    uint32_t status = macsec_parse_line(sealed(word), length_of(word), it);
+    print_command(it);
+    return status;
+}
+
+static uint32_t parse_end(const char *word) {
+    macsec_config *it = room_of(sizeof *it);
+    uint32_t status = macsec_parse_end(sealed(word), length_of(word), it);
+    print_octets(it->sci, sizeof it->sci);
+    printf(" %u %u %u", (unsigned)it->suite, (unsigned)it->form, (unsigned)it->max_frame);
+    return status;
+}
+
+static uint32_t carry_out(macsec_endpoint *e, char **w) {
+    const macsec_command *it = room_of_command(w);
+    seal();
+    return macsec_carry_out(e, it);
+}
+
+static uint32_t clear_command(char **w) {
+    macsec_command *it = room_of_command(w);
+    macsec_clear_command(it);
+    print_command(it);
+    return MACSEC_OK;
 }
 
 /* Seals a frame of a tester, which is shown also where nothing was done. */
@@ -442,39 +501,26 @@ static uint32_t show_keys_left(uint32_t status) {
     return status;
 }
 
-static uint32_t show_counters(uint32_t status) {
-    macsec_counters *c = filled;
-    check_reserved(status, RESERVED_OF(*c));
-    const uint64_t all[] = { c->in_pkts_untagged,    c->in_pkts_no_tag,      c->in_pkts_bad_tag,
-                             c->in_pkts_reserved,    c->in_pkts_no_sa,       c->in_pkts_no_sa_error,
-                             c->in_octets_validated, c->in_octets_decrypted, c->out_pkts_untagged,
-                             c->out_pkts_too_long,   c->out_pkts_no_sa };
-    for (size_t i = 0; i < sizeof all / sizeof all[0]; i++)
+/* A struct of counters alone, each of them 7 before the call. */
+static void *counters_of(size_t size) {
+    uint64_t *all = filled = room_of(size);
+    for (size_t i = 0; i < size / sizeof *all; i++)
+        all[i] = 7;
+    return all;
+}
+
+/* The first members are counters, and the others are reserved. c/layout.txt has their order. */
+static uint32_t show_counters(uint32_t status, size_t count, size_t size) {
+    const uint64_t *all = filled;
+    check_reserved(status, all + count, size / sizeof *all - count);
+    for (size_t i = 0; i < count; i++)
         print_number(all[i]);
     return status;
 }
 
-static uint32_t show_tx_counters(uint32_t status) {
-    macsec_tx_counters *c = filled;
-    check_reserved(status, RESERVED_OF(*c));
-    print_number(c->out_pkts_protected);
-    print_number(c->out_pkts_encrypted);
-    print_number(c->out_octets_protected);
-    print_number(c->out_octets_encrypted);
-    return status;
-}
-
-static uint32_t show_rx_counters(uint32_t status) {
-    macsec_rx_counters *c = filled;
-    check_reserved(status, RESERVED_OF(*c));
-    print_number(c->in_pkts_ok);
-    print_number(c->in_pkts_unchecked);
-    print_number(c->in_pkts_delayed);
-    print_number(c->in_pkts_late);
-    print_number(c->in_pkts_invalid);
-    print_number(c->in_pkts_not_valid);
-    return status;
-}
+/* Makes a call that fills in so many counters of a struct. */
+#define COUNTERS(count, type, call, ...)                                                                               \
+    show_counters(call(__VA_ARGS__, counters_of(sizeof(type))), count, sizeof(type))
 
 static uint32_t show_sci(uint32_t status) {
     print_octets(filled, 8);
@@ -508,6 +554,7 @@ static uint32_t show_rx_sa(uint32_t status) {
 static uint32_t command(macsec_endpoint *e, const char *name, char **w) {
     CALL("send_uncontrolled", macsec_send_uncontrolled(e, sealed(w[0]), length_of(w[0])));
     CALL("command_line", macsec_command_line(e, sealed(w[0]), length_of(w[0])));
+    CALL("carry_out", carry_out(e, w));
     CALL("set_protect", macsec_set_protect(e, number(w[0]) != 0));
     CALL("set_validation", macsec_set_validation(e, (uint32_t)number(w[0])));
     CALL("set_replay", macsec_set_replay(e, number(w[0]) != 0, number(w[1])));
@@ -544,6 +591,9 @@ static uint32_t call(macsec_endpoint *e, const char *name, char **w) {
     CALL("send", send(e, w[0]));
     CALL("receive", receive(e, w[0]));
     CALL("answer", answer(e, w));
+    CALL("parse_line", parse_line(w[0]));
+    CALL("parse_end", parse_end(w[0]));
+    CALL("clear_command", clear_command(w));
     CALL("seal", seal_frame(w));
     CALL("key_take", with_blocks(1, macsec_key_take(key_at(w[0]), e, (uint16_t)number(w[1]))));
     CALL("key_free", free_key(key_at(w[0])));
@@ -558,14 +608,12 @@ static uint32_t call(macsec_endpoint *e, const char *name, char **w) {
     CALL("get_options",
          show_options(macsec_get_options(e, ROOM(macsec_options, 7, 7, 7, false, false, { 7, 7, 7, 7, 7 }))));
     CALL("keys_left", show_keys_left(macsec_keys_left(e, ROOM(uint32_t, 7))));
-    CALL("get_counters", show_counters(macsec_get_counters(
-                             e, ROOM(macsec_counters, 7, 7, 7, 7, 7, 7, 7, 7, 7, 7, 7, { 7, 7, 7, 7, 7 }))));
-    CALL("get_tx_counters",
-         show_tx_counters(macsec_get_tx_counters(e, ROOM(macsec_tx_counters, 7, 7, 7, 7, { 7, 7, 7, 7 }))));
-    CALL("get_rx_counters", show_rx_counters(macsec_get_rx_counters(e, sealed_sci(w[0]), RX_COUNTERS)));
+    CALL("get_counters", COUNTERS(11, macsec_counters, macsec_get_counters, e));
+    CALL("get_tx_counters", COUNTERS(4, macsec_tx_counters, macsec_get_tx_counters, e));
+    CALL("get_rx_counters", COUNTERS(6, macsec_rx_counters, macsec_get_rx_counters, e, sealed_sci(w[0])));
     CALL("get_rx_sa_counters",
-         show_rx_counters(macsec_get_rx_sa_counters(e, sealed_sci(w[0]), (uint8_t)number(w[1]), RX_COUNTERS)));
-    CALL("get_removed_counters", show_rx_counters(macsec_get_removed_counters(e, sealed_sci(w[0]), RX_COUNTERS)));
+         COUNTERS(6, macsec_rx_counters, macsec_get_rx_sa_counters, e, sealed_sci(w[0]), (uint8_t)number(w[1])));
+    CALL("get_removed_counters", COUNTERS(6, macsec_rx_counters, macsec_get_removed_counters, e, sealed_sci(w[0])));
     CALL("get_rx_sc", show_sci(macsec_get_rx_sc(e, (size_t)number(w[0]), (filled = room_of(8)))));
     CALL("get_tx_sa", show_tx_sa(macsec_get_tx_sa(e, (uint8_t)number(w[0]),
                                                   ROOM(macsec_tx_sa, 7, 7, 7, false, false, { 7, 7, 7, 7, 7 }))));

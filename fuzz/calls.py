@@ -32,23 +32,22 @@ from ends import Ends
 from handles import CALLS, CONSTANTS, ROOT, SUITES, asked, hex_of, without_memory
 from rarely import Rarely
 
-# The calls that allocate: whether one allocation is refused (!), or also all after it (?), since a text's vector that is
-# refused twice its size may get a smaller one.
+# The calls that allocate: whether one allocation is refused (!), or also all after it (?), since a text's vector that
+# is refused twice its size may get a smaller one.
 ALLOCATING = {"new": "!", "reserve_open": "!", "journal_compacted": "!", "key_take": "!", "slot_new": "!"}
-ALLOCATING |= dict.fromkeys(("configure", "reserve_configure", "command_line", "answer"), "?")
+ALLOCATING |= dict.fromkeys("configure reserve_configure command_line parse_line parse_end answer".split(), "?")
 EVERY = 8
 # The calls that are made seldom, and often fail before they allocate: of these every one is first made so.
 SELDOM = {"reserve_open", "reserve_configure", "journal_compacted", "key_take", "slot_new"}
 # A longer line is not among them: it would take its program too much time.
 MOST_REFUSED = 50_000
 
-
 # The calls that show a record.
 RECORDS = {"reserve_wanted", "reserve_to_accept", "reserve_to_save"}
-# The calls with keys and slots, which the Python package does not make.
-JOBS = {
-    "key_take", "key_free", "slot_new", "slot_free", "slot_clear", "plan_send", "seal_job", "plan_receive", "open_job",
-    "finish_receive",
+# The calls that the Python package does not make: those with keys and slots, and with commands as structs.
+IN_C_ALONE = {
+    "parse_line", "parse_end", "carry_out", "clear_command", "key_take", "key_free", "slot_new", "slot_free",
+    "slot_clear", "plan_send", "seal_job", "plan_receive", "open_job", "finish_receive",
 }  # fmt: skip
 
 
@@ -61,8 +60,8 @@ class Calls(Rarely):
     SSCIS = [0, 1, 2, 2**32 - 1]
     AMOUNTS = [0, 1, 2, 2, 3, 3, 8, 64, 2**32, 2**63, 2**64 - 1]
 
-    def __init__(self, seed, has_jobs=True):
-        self.has_jobs = has_jobs
+    def __init__(self, seed, in_c_too=True):
+        self.in_c_too = in_c_too
         self.random = random.Random(int.from_bytes(hashlib.sha256(seed.encode()).digest(), "big"))
         self.link = []
         # Records that were shown.
@@ -75,8 +74,10 @@ class Calls(Rarely):
     def an(self):
         return self.random.choice((0, 0, 0, 1, 1, 2, 3, 4, 255))
 
+    def salt(self):
+        return self.random.randbytes(24)
+
     def place(self):
-        """The place of a key or of a slot."""
         return self.random.choice((0, 0, 1, 1, 2))
 
     def sci(self):
@@ -186,13 +187,27 @@ class Calls(Rarely):
         return (self.pick((" ", " ", " ", "  ", "\t")).join(words) + self.pick(("", "", "", " ", "\r"))).encode()
 
     def asked(self):
-        """A line of a script, most often about end A."""
         others = "A counters,A counters,A numbers,A send 00,A deliver 0,B counters,pad 0,A counters 1".split(",")
         return self.line() if self.random.random() < 0.7 else self.pick(others).encode()
 
     def answering(self):
         handle, number = self.handle(), self.pick((0, 1, 3, 65_536, 2**32 - 1))
         return handle, number, self.asked(), self.pick((0, 63, 64, 64, 400, 9_000))
+
+    def row(self):
+        """A command as a struct, of each kind and of none, with members that name something or nothing."""
+        kind, choice = self.pick((*range(19), 2**32 - 1)), self.pick((0, 1, 2, 3, 4, 2**32 - 1))
+        _, *key, number, length, offset = self.key()
+        pn, shown = self.pick((*self.PNS, *self.WINDOWS)), self.pick((number, number, self.pick(self.NUMBERS)))
+        rest = (kind, choice, shown, self.an(), self.pick((0, 0, 0, 1, 1, 1, 2, 255)))
+        return *key, number, length, offset, pn, self.sci(), self.pick(self.SSCIS), *rest
+
+    def end_line(self):
+        """Most often the line of a configuration."""
+        words = ["end", "A", self.word("suite"), self.sci().hex(), self.pick(("64", "1518", "9248")), self.word("form")]
+        if self.random.random() < 0.3:
+            words = self.altered(words)
+        return " ".join(words).encode() if self.random.random() < 0.9 else self.line()
 
     def text(self):
         """The text of a configuration. Most often its first lines have no fault."""
@@ -205,71 +220,36 @@ class Calls(Rarely):
         words = self.altered(["end", "A", SUITES[suite], sci.hex(), "1518", self.word("form")])
         return "\r\n".join([" ".join(words), *(it.decode() for it in lines)]).encode()
 
-    def arguments(self, name):
-        h, pick = self.handle, self.pick
-        makers = {
-            "new": self.new,
-            "configure": lambda: (h(), self.text()),
-            "command_line": lambda: (h(), self.line()),
-            "answer": self.answering,
-            "free": lambda: (h(),),
-            "reserve_open": lambda: (*self.new(), self.journal(), pick((0, 1))),
-            "reserve_configure": lambda: (h(), self.text(), self.journal(), pick((0, 1))),
-            "reserve_wanted": lambda: (pick((0, 0, 0, 1, 2)), self.an(), pick(self.AMOUNTS)),
-            "reserve_to_accept": lambda: (*self.receiving(), pick(self.AMOUNTS), pick(self.PNS)),
-            "reserve_granted": lambda: (pick((0, 0, 0, 1, 2)), self.record()),
-            "reserve_tx_floor": lambda: (pick((0, 0, 0, 1, 2)), pick(self.NUMBERS)),
-            "reserve_rx_floor": lambda: (*self.receiving(), pick(self.NUMBERS)),
-            "journal_header": lambda: (h(), self.random.randbytes(24)),
-            "journal_compacted": lambda: (h(), self.journal()),
-            "send": lambda: (pick((0, 0, 0, 0, 0, 1, 2)), self.client_frame()),
-            "send_uncontrolled": lambda: (h(), self.client_frame()),
-            "seal": self.sealing,
-            "receive": lambda: (pick((1, 1, 1, 1, 1, 0, 2)), self.link_frame()),
-            "key_take": lambda: (pick((0, 0, 1, 1, 2)), self.place(), pick(self.NUMBERS)),
-            "key_free": lambda: (0, self.place()),
-            "slot_new": lambda: (0, self.place()),
-            "slot_free": lambda: (0, self.place()),
-            "slot_clear": lambda: (0, self.place()),
-            "plan_send": lambda: (pick((0, 0, 0, 0, 1, 2)), self.place(), self.client_frame()),
-            "seal_job": lambda: (0, self.place(), self.place(), pick((400, 400, 400, 9_248, 0, 23, 60))),
-            "plan_receive": lambda: (pick((1, 1, 1, 1, 0, 2)), self.place(), self.link_frame()),
-            "open_job": lambda: (0, self.place(), self.place()),
-            "finish_receive": lambda: (pick((1, 1, 1, 1, 0, 2)), self.place(), pick((9_248,) * 8 + (9_247, 0))),
-            "set_protect": lambda: (h(), pick((0, 1, 1))),
-            "set_validation": lambda: (h(), pick((0, 1, 1, 2, 2, 2, 3, 2**32 - 1))),
-            "set_replay": lambda: (h(), pick((0, 1, 1)), pick(self.WINDOWS)),
-            "set_tag_form": lambda: (h(), pick((0, 1, 2, 3, 4, 2**32 - 1))),
-            "install_key": self.key,
-            "retire_key": lambda: (h(), pick(self.NUMBERS)),
-            "add_tx_sa": lambda: (h(), self.an(), pick(self.NUMBERS), pick(self.PNS), pick((0, 1))),
-            "add_rx_sc": lambda: (h(), self.sci()),
-            "delete_rx_sc": lambda: (h(), self.sci()),
-            "add_rx_sa": lambda: (h(), self.sci(), self.an(), pick(self.NUMBERS), pick(self.PNS), pick(self.SSCIS)),
-            "set_lowest_pn": lambda: (h(), self.sci(), self.an(), pick(self.PNS)),
-            "get_rx_sc": lambda: (h(), pick((0, 0, 1, 2, 63, 64, 2**64 - 1))),
-        }
-        if name in makers:
-            return makers[name]()
-        if name in ("get_options", "keys_left", "get_counters", "get_tx_counters"):
-            return (h(),)
-        if name in ("get_rx_counters", "get_removed_counters"):
-            return h(), self.sci()
-        return (h(), self.an()) if name.endswith("_tx_sa") else (h(), self.sci(), self.an())
+    # Each call, how often it is made, and its arguments: what a method makes, and numbers, of which one is taken.
+    GIVEN = """send 200 0,0,0,0,0,1,2 client_frame; receive 300 1,1,1,1,1,0,2 link_frame; send_uncontrolled 5 handle
+        client_frame; new 12 new; configure 12 handle text; free 2 handle; set_protect 4 handle 0,1,1; set_validation 8
+        handle 0,1,1,2,2,2,3,4294967295; set_replay 8 handle 0,1,1 WINDOWS; set_tag_form 8 handle 0,1,2,3,4,4294967295;
+        install_key 25 key; retire_key 6 handle NUMBERS; add_tx_sa 20 handle an NUMBERS PNS 0,1; enable_tx_sa 20 handle
+        an; disable_tx_sa 2 handle an; delete_tx_sa 2 handle an; add_rx_sc 10 handle sci; delete_rx_sc 2 handle sci;
+        add_rx_sa 30 handle sci an NUMBERS PNS SSCIS; enable_rx_sa 25 handle sci an; disable_rx_sa 2 handle sci an;
+        set_lowest_pn 10 handle sci an PNS; delete_rx_sa 3 handle sci an; command_line 60 handle line; answer 60
+        answering; parse_line 40 handle line; parse_end 10 handle end_line; carry_out 60 handle row; clear_command 2
+        handle row; get_options 8 handle; keys_left 8 handle; get_counters 20 handle; get_tx_counters 10 handle;
+        get_rx_counters 15 handle sci; get_rx_sa_counters 15 handle sci an; get_removed_counters 10 handle sci;
+        get_rx_sc 6 handle 0,0,1,2,63,64,18446744073709551615; get_tx_sa 10 handle an; get_rx_sa 15 handle sci an;
+        reserve_open 4 new journal 0,1; reserve_configure 4 handle text journal 0,1; reserve_wanted 15 0,0,0,1,2 an
+        AMOUNTS; reserve_to_save 10 handle sci an; reserve_granted 15 0,0,0,1,2 record; reserve_to_accept 15 receiving
+        AMOUNTS PNS; reserve_tx_floor 6 0,0,0,1,2 NUMBERS; reserve_rx_floor 10 receiving NUMBERS; journal_header 5
+        handle salt; journal_compacted 5 handle journal; seal 25 sealing; key_take 20 0,0,1,1,2 place NUMBERS; key_free
+        4 0 place; slot_new 6 0 place; slot_free 4 0 place; slot_clear 3 0 place; plan_send 60 0,0,0,0,1,2 place
+        client_frame; seal_job 80 0 place place 400,400,400,9248,0,23,60; plan_receive 80 1,1,1,1,0,2 place link_frame;
+        open_job 60 0 place place; finish_receive 80 1,1,1,1,0,2 place 9248,9248,9248,9248,9248,9248,9248,9248,9247,0"""
+    MADE_OF = {name: words for name, *words in map(str.split, GIVEN.split(";"))}
 
-    # Each call, and how often.
-    WEIGHTS = {
-        "send": 200, "receive": 300, "send_uncontrolled": 5, "new": 12, "configure": 12, "free": 2, "set_protect": 4,
-        "set_validation": 8, "set_replay": 8, "set_tag_form": 8, "install_key": 25, "retire_key": 6, "add_tx_sa": 20,
-        "enable_tx_sa": 20, "disable_tx_sa": 2, "delete_tx_sa": 2, "add_rx_sc": 10, "delete_rx_sc": 2, "add_rx_sa": 30,
-        "enable_rx_sa": 25, "disable_rx_sa": 2, "set_lowest_pn": 10, "delete_rx_sa": 3, "command_line": 60, "answer": 60,
-        "get_options": 8, "keys_left": 8, "get_counters": 20, "get_tx_counters": 10, "get_rx_counters": 15,
-        "get_rx_sa_counters": 15, "get_removed_counters": 10, "get_rx_sc": 6, "get_tx_sa": 10, "get_rx_sa": 15, "reserve_open": 4,
-        "reserve_configure": 4, "reserve_wanted": 15, "reserve_to_save": 10, "reserve_granted": 15, "reserve_to_accept": 15,
-        "reserve_tx_floor": 6, "reserve_rx_floor": 10, "journal_header": 5, "journal_compacted": 5, "seal": 25,
-        "key_take": 20, "key_free": 4, "slot_new": 6, "slot_free": 4, "slot_clear": 3, "plan_send": 60, "seal_job": 80,
-        "plan_receive": 80, "open_job": 60, "finish_receive": 80,
-    }  # fmt: skip
+    def arguments(self, name):
+        found = []
+        for word in self.MADE_OF[name][1:]:
+            if word[0].isdigit():
+                made = self.pick([*map(int, word.split(","))])
+            else:
+                made = self.pick(getattr(self, word)) if word.isupper() else getattr(self, word)()
+            found += made if isinstance(made, tuple) else [made]
+        return tuple(found)
 
     def paired(self, ahead=None):
         """Calls that let endpoint 0 send to endpoint 1 under a key of one suite, as they are mostly seen in use. With
@@ -338,7 +318,7 @@ class Calls(Rarely):
                 yield "reserve_rx_floor", (1, sci, an, sa.key)
 
     def in_jobs(self):
-        """Frames from endpoint 0 to endpoint 1 in slots, mostly as they are seen in use, with other calls in between."""
+        """Frames from endpoint 0 to endpoint 1 in slots, mostly as they are seen in use, with other calls between."""
         yield from self.pick((self.paired, self.paired, self.paired_beside))()
         suite = next(iter(self.model.ends[1].keys))
         other = suite % 4 + 1
@@ -380,6 +360,14 @@ class Calls(Rarely):
         yield "free", (1,)
         yield "configure", (1, self.configuration(receiver, suite, *receives))
 
+    def rarely_parsed(self):
+        """Commands of each kind as structs, for an endpoint, and one that is cleared."""
+        yield "configure", (0, self.configuration(self.sci(), 1))
+        for kind in [*range(19)] * 2:
+            *key, pn, sci, ssci, _, choice, number, an, flag = self.row()
+            yield "carry_out", (0, *key, pn, sci, ssci, kind, choice, number, an, flag)
+        yield "clear_command", (0, *self.row())
+
     def configured(self):
         """A configuration for a handle without an endpoint."""
         yield "free", (2,)
@@ -406,11 +394,10 @@ class Calls(Rarely):
                 yield "send", (0, self.client_frame())
 
     def all(self, count):
-        """So many calls: the lines, and their answers."""
         rarely = self.rarely_written, self.rarely_refused, self.rarely_made, self.rarely_reserved, self.rarely_forgotten
-        rarely += self.rarely_ahead, self.rarely_ended
+        rarely += self.rarely_ahead, self.rarely_ended, self.rarely_parsed, self.rarely_limited
         waiting = itertools.chain.from_iterable(it() for it in (self.crowded, *rarely))
-        names, weights = list(self.WEIGHTS), list(self.WEIGHTS.values())
+        names, weights = list(self.MADE_OF), [int(weight) for weight, *_ in self.MADE_OF.values()]
         for _ in range(count):
             made = next(waiting, None)
             if made is None and self.random.random() < 0.025:
@@ -421,7 +408,7 @@ class Calls(Rarely):
                 name = self.random.choices(names, weights)[0]
                 made = name, self.arguments(name)
             name, words = made
-            if name in JOBS and not self.has_jobs:
+            if name in IN_C_ALONE and not self.in_c_too:
                 continue
             self.meet(name, words)
             answer = self.model.answer(name, *words)
@@ -434,9 +421,11 @@ class Calls(Rarely):
             yield " ".join([name, *(hex_of(it) if isinstance(it, bytes) else str(it) for it in words)]), answer
 
     def meet(self, name, words):
-        place = {"new": 2, "reserve_open": 2, "install_key": 4, "seal": 4}.get(name)
+        given = {"new": ("SUITE_", 2), "install_key": ("SUITE_", 4), "carry_out": ("COMMAND_", 11)}
+        given |= {"reserve_open": given["new"], "seal": given["install_key"]}
+        prefix, place = given.get(name, ("", 0))
         for it, value in CONSTANTS.items():
-            if place and it.startswith("SUITE_") and value == words[place]:
+            if place and it.startswith(prefix) and value == words[place]:
                 self.model.met[it] += 1
 
 

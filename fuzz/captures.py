@@ -21,6 +21,11 @@ class PcapFault(Exception):
     """The fault of a capture file."""
 
 
+def fail(applies, fault):
+    if applies:
+        raise fault
+
+
 def read_capture(file):
     """Whether the unit is a nanosecond, and the records: seconds, fraction, and the frame.
 
@@ -37,15 +42,12 @@ def read_capture(file):
 
 def read_header(file):
     """The byte order, and whether the unit is a nanosecond."""
-    if len(file) < 24:
-        raise PcapFault("CutHeader")
+    fail(len(file) < 24, PcapFault("CutHeader"))
     for order in "<>":
         magic, major, minor = struct.unpack_from(order + "IHH", file)
         if magic in (0xA1B2C3D4, 0xA1B23C4D):
-            if (major, minor) != (2, 4):
-                raise PcapFault("Version")
-            if struct.unpack_from(order + "I", file, 20) != (ETHERNET,):
-                raise PcapFault("LinkType")
+            fail((major, minor) != (2, 4), PcapFault("Version"))
+            fail(struct.unpack_from(order + "I", file, 20) != (ETHERNET,), PcapFault("LinkType"))
             return order, magic == 0xA1B23C4D
     raise PcapFault("Magic")
 
@@ -53,14 +55,11 @@ def read_header(file):
 def read_records(file, order):
     place = 24
     while place < len(file):
-        if len(file) - place < 16:
-            raise PcapFault("CutRecord")
+        fail(len(file) - place < 16, PcapFault("CutRecord"))
         seconds, fraction, captured, original = struct.unpack_from(order + "IIII", file, place)
         place += 16
-        if captured > MAX_RECORD:
-            raise PcapFault("RecordLength")
-        if len(file) - place < captured:
-            raise PcapFault("CutRecord")
+        fail(captured > MAX_RECORD, PcapFault("RecordLength"))
+        fail(len(file) - place < captured, PcapFault("CutRecord"))
         yield seconds, fraction, file[place : place + captured] if captured >= original else None
         place += captured
 
@@ -78,30 +77,23 @@ def write_record(seconds, fraction, frame):
 
 def read_block(file, place, order):
     """The block at an offset: its byte order, its type, its body, and the offset after it."""
-    if len(file) - place < 8:
-        raise PcapFault("CutRecord")
+    fail(len(file) - place < 8, PcapFault("CutRecord"))
     (kind,) = struct.unpack_from(order + "I", file, place)
     if kind == SECTION:
         magic = file[place + 8 : place + 12]
-        if len(magic) < 4:
-            raise PcapFault("CutRecord")
-        if magic not in ORDERS:
-            raise PcapFault("Magic")
+        fail(len(magic) < 4, PcapFault("CutRecord"))
+        fail(magic not in ORDERS, PcapFault("Magic"))
         order = ORDERS[magic]
     (length,) = struct.unpack_from(order + "I", file, place + 4)
-    if length % 4 or length < LEAST.get(kind, 12):
-        raise PcapFault("BlockLength")
+    fail(length % 4 or length < LEAST.get(kind, 12), PcapFault("BlockLength"))
     end = place + length
-    if len(file) < end:
-        raise PcapFault("CutRecord")
-    if struct.unpack_from(order + "I", file, end - 4) != (length,):
-        raise PcapFault("BlockLength")
+    fail(len(file) < end, PcapFault("CutRecord"))
+    fail(struct.unpack_from(order + "I", file, end - 4) != (length,), PcapFault("BlockLength"))
     return order, kind, file[place + 8 : end - 4], end
 
 
 def test_version(order, body):
-    if struct.unpack_from(order + "HH", body, 4) not in ((1, 0), (1, 2)):
-        raise PcapFault("Version")
+    fail(struct.unpack_from(order + "HH", body, 4) not in ((1, 0), (1, 2)), PcapFault("Version"))
 
 
 def read_first_block(file):
@@ -124,8 +116,7 @@ def read_packets(file, order, place):
             interfaces = []
         elif kind == INTERFACE:
             interface = read_interface(order, body)
-            if len(interfaces) == MAX_INTERFACES:
-                raise PcapFault("InterfaceCount")
+            fail(len(interfaces) == MAX_INTERFACES, PcapFault("InterfaceCount"))
             interfaces.append(interface)
             has_ethernet = has_ethernet or interface[0] == ETHERNET
         elif kind in NUMBERS:
@@ -146,8 +137,7 @@ def read_packets(file, order, place):
 
 def read_interface(order, body):
     """The link type, the snap length, the resolution of the times, and their offset in seconds."""
-    if len(body) > MAX_BODY:
-        raise PcapFault("BlockLength")
+    fail(len(body) > MAX_BODY, PcapFault("BlockLength"))
     link, snap = struct.unpack_from(order + "HxxI", body)
     resolution = offset = None
     place = 8
@@ -157,8 +147,7 @@ def read_interface(order, body):
             break
         value = body[place + 4 : place + 4 + size]
         place += 4 + (size + 3) // 4 * 4
-        if len(body) < place or size != {9: 1, 14: 8}.get(code, size):
-            raise PcapFault("BlockLength")
+        fail(len(body) < place or size != {9: 1, 14: 8}.get(code, size), PcapFault("BlockLength"))
         if code == 9 and resolution is None:
             resolution = value[0]
         elif code == 14 and offset is None:
@@ -167,8 +156,7 @@ def read_interface(order, body):
 
 
 def interface_of(interfaces, number):
-    if number >= len(interfaces):
-        raise PcapFault("NoInterface")
+    fail(number >= len(interfaces), PcapFault("NoInterface"))
     return interfaces[number]
 
 
@@ -180,10 +168,8 @@ def other_packet(link, has_ethernet):
 
 
 def packet(body, start, captured, original, time):
-    if captured > MAX_RECORD:
-        raise PcapFault("RecordLength")
-    if len(body) < start + captured:
-        raise PcapFault("BlockLength")
+    fail(captured > MAX_RECORD, PcapFault("RecordLength"))
+    fail(len(body) < start + captured, PcapFault("BlockLength"))
     return *time(), body[start : start + captured] if captured >= original else None
 
 
@@ -191,6 +177,5 @@ def time_of(ticks, resolution, offset):
     """Seconds and nanoseconds, rounded down."""
     units = 2 ** (resolution - 128) if resolution > 127 else 10**resolution
     seconds, fraction = divmod(ticks * 10**9 // units, 10**9)
-    if not 0 <= seconds + offset < 2**32:
-        raise PcapFault("Time")
+    fail(not 0 <= seconds + offset < 2**32, PcapFault("Time"))
     return seconds + offset, fraction

@@ -11,22 +11,12 @@ import functools
 import struct
 
 import captures
+from tables import ENDPOINT_COUNTERS, REFUSALS, RX_COUNTERS, SUITES, TX_COUNTERS, WORLD_FAULTS
 
 MAX_SCRIPT, MAX_LINES, MAX_LINE = 1_048_576, 65_536, 20_000
 MAX_LINK_FRAMES, MIN_FRAME, MAX_FRAME = 65_536, 14, 9_248
-SUITES = {"gcm128": (16, False), "gcm256": (32, False), "xpn128": (16, True), "xpn256": (32, True)}
 FORMS, MODES = ("auto", "sci", "es", "scb"), ("disabled", "check", "strict")
-REFUSALS = (
-    "KeyLength Offset KeyNumberUsed KeyRepeated NoKey KeyRetired KeyInUse OwnSci ScTaken ScFull NoSc AnTaken NoSa "
-    "PnRange PnLower PnFloor SsciOwn Window SciForm Exhausted"
-).split()
-WORLD_FAULTS = {"NoFrame": 2, "LinkFull": 3, "AlterRange": 4, "Short": 5, "Long": 6}
-SECY_COUNTERS = (
-    "InPktsUntagged InPktsNoTag InPktsBadTag InPktsReserved InPktsNoSA InPktsNoSAError InOctetsValidated "
-    "InOctetsDecrypted OutPktsUntagged OutPktsTooLong OutPktsNoSA OutPktsProtected OutPktsEncrypted "
-    "OutOctetsProtected OutOctetsEncrypted"
-).split()
-RX_COUNTERS = ["InPkts" + it for it in "OK Unchecked Delayed Late Invalid NotValid".split()]
+SECY_COUNTERS = ENDPOINT_COUNTERS + TX_COUNTERS
 
 
 class LineFault(Exception):
@@ -49,13 +39,17 @@ class Refused(Exception):
     """Why a command is refused."""
 
 
+def fail(applies, fault):
+    if applies:
+        raise fault
+
+
 # The words of a line.
 
 
 def one_of(*choices):
     def read(word):
-        if word not in choices:
-            raise LineFault("Word")
+        fail(word not in choices, LineFault("Word"))
         return word
 
     return read
@@ -63,8 +57,8 @@ def one_of(*choices):
 
 def decimal(low, high):
     def read(word):
-        if not (1 <= len(word) <= 20 and all(it in "0123456789" for it in word) and low <= int(word) <= high):
-            raise LineFault("Number")
+        is_number = 1 <= len(word) <= 20 and all(it in "0123456789" for it in word)
+        fail(not is_number or not low <= int(word) <= high, LineFault("Number"))
         return int(word)
 
     return read
@@ -72,16 +66,15 @@ def decimal(low, high):
 
 def hexadecimal(*lengths):
     def read(word):
-        if not word or len(word) % 2 or not is_hex(word) or (lengths and len(word) // 2 not in lengths):
-            raise LineFault("Hex")
+        is_octets = word and len(word) % 2 == 0 and is_hex(word)
+        fail(not is_octets or (lengths and len(word) // 2 not in lengths), LineFault("Hex"))
         return bytes.fromhex(word)
 
     return read
 
 
 def packet_number(word):
-    if not (1 <= len(word) <= 16 and is_hex(word)):
-        raise LineFault("Hex")
+    fail(not (1 <= len(word) <= 16 and is_hex(word)), LineFault("Hex"))
     return int(word, 16)
 
 
@@ -127,18 +120,15 @@ def parse_words(words):
     end = None
     if words[0] in ("A", "B"):
         end = words[0]
-        if len(words) == 1:
-            raise LineFault("Count")
+        fail(len(words) == 1, LineFault("Count"))
         words = words[1:]
     forms = (AT_END if end else PLAIN).get(words[0])
-    if forms is None:
-        raise LineFault("Word")
+    fail(forms is None, LineFault("Word"))
     fitting = [it for it in forms if len(it) == len(words) - 1]
     if not fitting:
         raise LineFault("Count")
     values = [read(word) for read, word in zip(fitting[0], words[1:])]
-    if words[0] == "end" and not form_fits(values[4], values[2]):
-        raise LineFault("Ends")
+    fail(words[0] == "end" and not form_fits(values[4], values[2]), LineFault("Ends"))
     return words[0], end, values
 
 
@@ -494,13 +484,9 @@ def read_frame(frame):
         return "Bad"
     size = short or len(rest) - 16
     return {
-        "tci": tci,
-        "pn": int.from_bytes(frame[16:20], "big"),
-        "sci": frame[20:28] if length == 16 else None,
-        "tag_length": length,
-        "data": rest[:size],
-        "icv": rest[size : size + 16],
-    }
+        "tci": tci, "pn": int.from_bytes(frame[16:20], "big"), "sci": frame[20:28] if length == 16 else None,
+        "tag_length": length, "data": rest[:size], "icv": rest[size : size + 16],
+    }  # fmt: skip
 
 
 # Two ends and the link.
@@ -511,8 +497,7 @@ class World:
         self.ends, self.link = ends, []
 
     def frame(self, number):
-        if number >= len(self.link):
-            raise WorldFault("NoFrame")
+        fail(number >= len(self.link), WorldFault("NoFrame"))
         return self.link[number]
 
     def add(self, frame):
@@ -525,27 +510,22 @@ class World:
             return self.sending(keyword, end, *values)
         if keyword == "deliver":
             frame = self.frame(*values)
-            if len(frame) < MIN_FRAME:
-                raise WorldFault("Short")
+            fail(len(frame) < MIN_FRAME, WorldFault("Short"))
             verdict, delivered = self.ends[end].receive(frame)
             return verdict if delivered is None else f"{verdict} {delivered.hex()}"
         frame = self.frame(values[0])
-        if keyword == "alter" and values[1] >= len(frame):
-            raise WorldFault("AlterRange")
+        fail(keyword == "alter" and values[1] >= len(frame), WorldFault("AlterRange"))
         self.test_room()
         if keyword == "pad":
             return self.add(frame.ljust(60, b"\0"))
         return self.add(frame[: values[1]] + values[2] + frame[values[1] + 1 :])
 
     def test_room(self):
-        if len(self.link) >= MAX_LINK_FRAMES:
-            raise WorldFault("LinkFull")
+        fail(len(self.link) >= MAX_LINK_FRAMES, WorldFault("LinkFull"))
 
     def sending(self, keyword, end, frame):
-        if len(frame) < MIN_FRAME and keyword != "inject":
-            raise WorldFault("Short")
-        if len(frame) > MAX_FRAME:
-            raise WorldFault("Long")
+        fail(len(frame) < MIN_FRAME and keyword != "inject", WorldFault("Short"))
+        fail(len(frame) > MAX_FRAME, WorldFault("Long"))
         self.test_room()
         if keyword != "send":
             return self.add(frame)

@@ -32,24 +32,19 @@ import time
 
 sys.dont_write_bytecode = True
 import captures
-import expected
 import promises
+import tables
 from inputs import ROOT, Corpus, case_of
 
 SECONDS = 20
 PROGRAMS = [ROOT / "build/macsec", ROOT / "build/macsec-rattle"]
-SCRIPT_FAULTS = "Word Count Hex Number Ends LineLong".split()
-PCAP_FAULTS = (
-    "Magic Version LinkType CutHeader CutRecord RecordLength Read Write Memory RecordCount BlockLength NoInterface "
-    "InterfaceCount Time"
-).split()
 # What standard error may have, and the status that goes with it.
 STATED = [
     (0, rb""),
-    (2, rb"macsec: line [0-9]+: (%s)\n" % "|".join(SCRIPT_FAULTS).encode()),
+    (2, rb"macsec: line [0-9]+: (%s)\n" % "|".join(tables.LINE_FAULTS).encode()),
     (2, rb"macsec: (ScriptLong|usage)\n"),
     (1, rb"macsec: (Memory|Read|Write)\n"),
-    (1, rb"macsec: pcap (%s)\n" % "|".join(PCAP_FAULTS).encode()),
+    (1, rb"macsec: pcap (%s)\n" % "|".join(tables.CAPTURE_FAULTS).encode()),
     (1, rb"macsec: cannot open [^\n]*\n"),
 ]
 # The outcome in a line of the text.
@@ -65,10 +60,9 @@ EXPECTED = {
     "line on standard error": [
         *("macsec: line: " + it for it in "Word Count Hex Number Ends".split()),
         *("macsec: pcap " + it for it in "CutRecord RecordLength BlockLength".split()),
-        "macsec: usage",
     ],
-    "verdict": [it[len("InPkts") :] for it in expected.RX_COUNTERS + expected.SECY_COUNTERS[:6]],
-    "refusal": [f"refused {number} {name}" for number, name in enumerate(expected.REFUSALS, 1)],
+    "verdict": tables.VERDICTS,
+    "refusal": [f"refused {number} {name}" for number, name in enumerate(tables.REFUSALS, 1)],
     "fault": ["fault 1 Short", "fault 2 NoFrame", "fault 4 AlterRange", "fault 5 Short"],
     "outcome": ["done", "frame", "link", "partial", "dropped NoSA", "dropped TooLong"],
     "promise": promises.PROMISES,

@@ -12,6 +12,7 @@ import struct
 
 import expected
 import journals
+import tables
 from keeping import Dropped, Endpoint, NoReservation
 
 ROOT = pathlib.Path(__file__).resolve().parent.parent
@@ -25,20 +26,18 @@ FRAME_MIN, FRAME_MAX = CONSTANTS["FRAME_MIN"], CONSTANTS["FRAME_MAX"]
 
 HANDLES = 3
 KEYS = SLOTS = 3
-SUITES = {CONSTANTS["SUITE_GCM_AES_" + it]: "gcm" + it for it in ("128", "256")}
-SUITES |= {CONSTANTS["SUITE_GCM_AES_XPN_" + it]: "xpn" + it for it in ("128", "256")}
+SUITES = {CONSTANTS[it]: name for it, name in tables.SUITE_CONSTANTS.items()}
 FORMS = {CONSTANTS["FORM_" + it.upper()]: it for it in expected.FORMS}
 MODES = {CONSTANTS["MODE_" + it.upper()]: it for it in expected.MODES}
 # The calls that a handle without an endpoint does not refuse.
 HANDLE_FREE = (
     "new", "configure", "reserve_open", "reserve_configure", "free", "journal_header", "journal_compacted", "seal",
-    "answer", "key_take", "key_free", "slot_new", "slot_free", "slot_clear", "plan_send", "seal_job", "plan_receive",
-    "open_job", "finish_receive",
+    "answer", "parse_line", "parse_end", "clear_command", "key_take", "key_free", "slot_new", "slot_free", "slot_clear",
+    "plan_send", "seal_job", "plan_receive", "open_job", "finish_receive",
 )  # fmt: skip
 # The most octets of a frame that is sealed.
 MOST_SEALED = 2**36 - 32
-ALL_COUNTERS = expected.SECY_COUNTERS[:11]
-TX_COUNTERS = expected.SECY_COUNTERS[11:]
+ALL_COUNTERS, TX_COUNTERS = tables.ENDPOINT_COUNTERS, tables.TX_COUNTERS
 
 
 def constant_name(name):
@@ -50,6 +49,11 @@ class Status(Exception):
     """Why nothing is done: the name of the status, and what is shown with it, if that is not the same for all."""
 
 
+def status_if(applies, *why):
+    if applies:
+        raise Status(*why)
+
+
 class Slot:
     """A frame, what is to be done with it (seal, open, finish or nothing), and the key for that."""
 
@@ -58,8 +62,7 @@ class Slot:
 
 
 def named(table, number, status):
-    if number not in table:
-        raise Status(status)
+    status_if(number not in table, status)
     return table[number]
 
 
@@ -72,16 +75,13 @@ def key_number_of(number):
 
 
 def found(it):
-    if it is None:
-        raise Status("E_NOT_FOUND")
+    status_if(it is None, "E_NOT_FOUND")
     return it
 
 
 def framed(frame):
-    if len(frame) < FRAME_MIN:
-        raise Status("E_FRAME_SHORT")
-    if len(frame) > FRAME_MAX:
-        raise Status("E_FRAME_LONG")
+    status_if(len(frame) < FRAME_MIN, "E_FRAME_SHORT")
+    status_if(len(frame) > FRAME_MAX, "E_FRAME_LONG")
     return frame
 
 
@@ -140,6 +140,49 @@ COMMANDS = {
 }
 
 
+# The members of a command as a struct, as its call takes and shows them, after those of its key; and the row of none.
+MEMBERS = ("pn", "sci", "ssci", "kind", "choice", "key", "an", "flag")
+NO_SAK = (bytes(32), bytes(12), 0, 0, 0, 0, 0)
+# For each keyword the kind, and for each value of a line the member that has it, by the field of the line.
+PLACES = {
+    "switch": "flag", "protection": "flag", "mode": "choice", "form": "choice", "number": "key", "window": "pn",
+    "an": "an", "pn": "pn", "sci": "sci", "ssci": "ssci",
+}  # fmt: skip
+KINDS = {
+    "protect": "PROTECT", "validate": "VALIDATE", "replay": "REPLAY", "tag": "TAG", "key": "KEY", "retire": "RETIRE",
+    "txsa": "TX_SA", "txon": "TX_ON", "txoff": "TX_OFF", "txdel": "TX_DEL", "rxsc": "RX_SC", "rxscdel": "RX_SC_DEL",
+    "rxsa": "RX_SA", "rxon": "RX_ON", "rxoff": "RX_OFF", "rxlow": "RX_LOW", "rxdel": "RX_DEL",
+}  # fmt: skip
+# The longest line of each keyword.
+FIELDS = {keyword: fields for keyword, *fields in sorted((it.split() for it in expected.LINES), key=len)}
+# A value of a line as a member, and a member as a value of a line.
+TO_MEMBER = {
+    "switch": lambda it: int(it == "on"), "protection": lambda it: int(it == "conf"),
+    "mode": lambda it: CONSTANTS["MODE_" + it.upper()], "form": lambda it: CONSTANTS["FORM_" + it.upper()],
+    "ssci": lambda it: int.from_bytes(it, "big"),
+}  # fmt: skip
+FROM_MEMBER = {
+    "switch": lambda it: named({0: "off", 1: "on"}, it, "E_NO_SUCH_COMMAND"),
+    "protection": lambda it: named({0: "int", 1: "conf"}, it, "E_NO_SUCH_COMMAND"),
+    "mode": lambda it: named(MODES, it, "E_NO_SUCH_MODE"), "form": lambda it: named(FORMS, it, "E_NO_SUCH_FORM"),
+    "an": an_of, "number": key_number_of, "ssci": struct.Struct(">I").pack,
+}  # fmt: skip
+
+
+def shown_command(sak=NO_SAK, **members):
+    """A command as a struct. The members that are not given are 0."""
+    shown = {**dict.fromkeys(MEMBERS, 0), "sci": bytes(8), **members}
+    words = (*sak, *(shown[it] for it in MEMBERS))
+    return "".join(f" {it.hex() if isinstance(it, bytes) else it}" for it in words)
+
+
+def sak_of(number, octets, offset, *others):
+    """The key of a line, as a struct. Its last words are SUITE, or SSCI and SALT, or all three."""
+    suite = {name: it for it, name in SUITES.items()}[others[0]] if len(others) in (1, 3) else 0
+    ssci, salt = others[-2:] if len(others) > 1 else (bytes(4), bytes(12))
+    return octets.ljust(32, b"\0"), salt, int.from_bytes(ssci, "big"), suite, number, len(octets), offset
+
+
 def rx_sa_of(end, sci, an):
     an = an_of(an)
     return found(found(end.channel(sci)).sas.get(an))
@@ -177,26 +220,19 @@ SHOWING = {
 
 # What a call shows if it does nothing. The program sets what most of them fill in to 7 before the call.
 UNSHOWN = {
-    "configure": " 0",
-    "reserve_configure": " 0",
+    **dict.fromkeys(("configure", "reserve_configure"), " 0"),
+    "parse_line": shown_command(),
+    "parse_end": f" {'00' * 8} 0 0 0",
     "send": f" {CONSTANTS['FATE_NONE']} 0 -",
-    "receive": f" {CONSTANTS['VERDICT_NONE']} 0 {'00' * 8} 0 0 0 -",
-    "plan_send": f" {CONSTANTS['FATE_NONE']} 0 0",
-    "plan_receive": f" {CONSTANTS['FATE_NONE']} 0 0",
     "seal_job": " 7 -",
-    "finish_receive": f" {CONSTANTS['VERDICT_NONE']} 0 {'00' * 8} 0 0 0 -",
-    "reserve_wanted": " " + "07" * journals.RECORD,
-    "reserve_to_accept": " " + "07" * journals.RECORD,
-    "reserve_to_save": " " + "07" * journals.RECORD,
-    "reserve_tx_floor": " 7",
-    "reserve_rx_floor": " 7",
+    **dict.fromkeys(("plan_send", "plan_receive"), f" {CONSTANTS['FATE_NONE']} 0 0"),
+    **dict.fromkeys(("receive", "finish_receive"), f" {CONSTANTS['VERDICT_NONE']} 0 {'00' * 8} 0 0 0 -"),
+    **dict.fromkeys(("reserve_wanted", "reserve_to_accept", "reserve_to_save"), " " + "07" * journals.RECORD),
+    **dict.fromkeys(("reserve_tx_floor", "reserve_rx_floor", "keys_left"), " 7"),
     "get_options": " 7 7 7 0 0",
-    "keys_left": " 7",
     "get_counters": " 7" * len(ALL_COUNTERS),
     "get_tx_counters": " 7" * len(TX_COUNTERS),
-    "get_rx_counters": " 7" * len(expected.RX_COUNTERS),
-    "get_rx_sa_counters": " 7" * len(expected.RX_COUNTERS),
-    "get_removed_counters": " 7" * len(expected.RX_COUNTERS),
+    **dict.fromkeys(("get_rx_counters", "get_rx_sa_counters", "get_removed_counters"), " 7" * 6),
     "get_rx_sc": " " + "07" * 8,
     "get_tx_sa": f" 7{7:016x} 7 0 0",
     "get_rx_sa": f" 7{7:016x} 7{7:016x} 7 7 0",
@@ -227,8 +263,7 @@ class Model:
         shown = UNSHOWN.get(name, "")
         status = "OK"
         try:
-            if name not in HANDLE_FREE and self.ends[handle] is None:
-                raise Status("E_EMPTY")
+            status_if(name not in HANDLE_FREE and self.ends[handle] is None, "E_EMPTY")
             if name in COMMANDS:
                 keyword, *readers = COMMANDS[name]
                 self.command(handle, keyword, *(read(it) for read, it in zip(readers, words)))
@@ -247,25 +282,19 @@ class Model:
     # Creation and end.
 
     def call_new(self, handle, sci, suite, form, max_frame, journal=None, ahead=0):
-        if self.ends[handle] is not None:
-            raise Status("E_TAKEN")
+        status_if(self.ends[handle] is not None, "E_TAKEN")
         suite, form = named(SUITES, suite, "E_NO_SUCH_SUITE"), named(FORMS, form, "E_NO_SUCH_FORM")
-        if journal is not None and not journals.is_journal(journal):
-            raise Status("E_NOT_JOURNAL")
-        if not 64 <= max_frame <= FRAME_MAX:
-            raise Status("E_NEW_MAX_FRAME")
-        if not expected.form_fits(form, sci):
-            raise Status("E_NEW_SCI_FORM")
+        status_if(journal is not None and not journals.is_journal(journal), "E_NOT_JOURNAL")
+        status_if(not 64 <= max_frame <= FRAME_MAX, "E_NEW_MAX_FRAME")
+        status_if(not expected.form_fits(form, sci), "E_NEW_SCI_FORM")
         self.ends[handle] = Endpoint(suite, sci, max_frame, form, journal, ahead != 0)
 
     call_reserve_open = call_new
 
     def call_configure(self, handle, text, journal=None, ahead=0):
-        if self.ends[handle] is not None:
-            raise Status("E_TAKEN")
+        status_if(self.ends[handle] is not None, "E_TAKEN")
         (_, _, _, (_, suite, sci, max_frame, form)), *commands = parsed(text, lambda line: f" {line or 0}")
-        if journal is not None and not journals.is_journal(journal):
-            raise Status("E_NOT_JOURNAL")
+        status_if(journal is not None and not journals.is_journal(journal), "E_NOT_JOURNAL")
         made = Endpoint(suite, sci, max_frame, form, journal, ahead != 0)
         for line, keyword, _, values in commands:
             try:
@@ -284,16 +313,14 @@ class Model:
 
     def call_reserve_granted(self, handle, octets):
         read = journals.read_record(octets)
-        if read is None:
-            raise Status("E_NOT_RECORD")
+        status_if(read is None, "E_NOT_RECORD")
         self.ends[handle].note_durable(read)
 
     def call_journal_header(self, handle, salt):
         return f" {journals.header(salt).hex()}"
 
     def call_journal_compacted(self, handle, journal):
-        if not journals.is_journal(journal):
-            raise Status("E_NOT_JOURNAL", f" 7 {hex_of(bytes([7]) * len(journal))}")
+        status_if(not journals.is_journal(journal), "E_NOT_JOURNAL", f" 7 {hex_of(bytes([7]) * len(journal))}")
         shorter = journals.compacted(journal)
         return f" {len(shorter)} {hex_of(shorter + bytes([7]) * (len(journal) - len(shorter)))}"
 
@@ -315,21 +342,17 @@ class Model:
     # Keys and slots. The frame of a slot that is to be sealed is the protected one.
 
     def end_of(self, handle):
-        if self.ends[handle] is None:
-            raise Status("E_EMPTY")
+        status_if(self.ends[handle] is None, "E_EMPTY")
         return self.ends[handle]
 
     def slot_of(self, slot, *works):
         """A slot whose work is one of these."""
-        if self.slots[slot] is None:
-            raise Status("E_EMPTY")
-        if self.slots[slot].work not in works:
-            raise Status("E_JOB")
+        status_if(self.slots[slot] is None, "E_EMPTY")
+        status_if(self.slots[slot].work not in works, "E_JOB")
         return self.slots[slot]
 
     def call_key_take(self, handle, key, number):
-        if self.keys[key] is not None:
-            raise Status("E_TAKEN")
+        status_if(self.keys[key] is not None, "E_TAKEN")
         end, number = self.end_of(handle), key_number_of(number)
         expected.refuse("NoKey", number not in end.keys)
         expected.refuse("KeyRetired", end.keys[number].retired)
@@ -339,8 +362,7 @@ class Model:
         self.keys[key] = None
 
     def call_slot_new(self, handle, slot):
-        if self.slots[slot] is not None:
-            raise Status("E_TAKEN")
+        status_if(self.slots[slot] is not None, "E_TAKEN")
         self.slots[slot] = Slot()
 
     def call_slot_free(self, handle, slot):
@@ -361,17 +383,14 @@ class Model:
 
     def keyed(self, slot, key, work):
         """A slot with this work, whose key this is."""
-        if self.slots[slot] is None or self.keys[key] is None:
-            raise Status("E_EMPTY")
+        status_if(self.slots[slot] is None or self.keys[key] is None, "E_EMPTY")
         it = self.slot_of(slot, work)
-        if it.key != self.keys[key]:
-            raise Status("E_OTHER_KEY")
+        status_if(it.key != self.keys[key], "E_OTHER_KEY")
         return it
 
     def call_seal_job(self, handle, slot, key, room):
         frame = self.keyed(slot, key, "seal").frame
-        if room < len(frame):
-            raise Status("E_SPACE")
+        status_if(room < len(frame), "E_SPACE")
         self.slots[slot] = Slot()
         return f" {len(frame)} {frame.hex()}"
 
@@ -390,8 +409,7 @@ class Model:
     def call_finish_receive(self, handle, slot, room):
         self.end_of(handle)
         frame = self.slot_of(slot, "open", "finish").frame
-        if room < FRAME_MAX:
-            raise Status("E_SPACE")
+        status_if(room < FRAME_MAX, "E_SPACE")
         self.slots[slot] = Slot()
         return self.call_receive(handle, frame)
 
@@ -418,8 +436,7 @@ class Model:
             ("E_KEY_LENGTH", lengths.get(suite) != length), ("E_PN_RANGE", pn >> (64 if suite > 2 else 32)),
             ("E_FRAME_SHORT", len(frame) < head + 16), ("E_FRAME_LONG", len(frame) > MOST_SEALED),
         ):  # fmt: skip
-            if applies:
-                raise Status(status, f" {hex_of(frame)}")
+            status_if(applies, status, f" {hex_of(frame)}")
         key = expected.Key(octets[:length], offset, SUITES[suite], struct.pack(">I", ssci), salt)
         data = frame[head:-16]
         clear = head + (min(offset, len(data)) if conf else len(data))
@@ -431,12 +448,12 @@ class Model:
     def command(self, handle, keyword, *values):
         self.ends[handle].command(keyword, values)
 
-    def call_install_key(self, handle, octets, salt, ssci, suite, number, length, offset):
+    def call_install_key(self, handle, octets, salt, ssci, suite, number, length, offset, shown=None):
         end = self.ends[handle]
         suite = end.suite if suite == CONSTANTS["SUITE_DEFAULT"] else named(SUITES, suite, "E_NO_SUCH_SUITE")
         number = key_number_of(number)
-        if length not in (16, 32):
-            raise Status("E_NO_SUCH_KEY_OCTETS")
+        status_if(length not in (16, 32), "E_NO_SUCH_KEY_OCTETS")
+        status_if(shown not in (None, number), "E_NO_SUCH_COMMAND")
         self.command(handle, "key", number, octets[:length], offset, suite, struct.pack(">I", ssci), salt)
 
     def call_add_rx_sa(self, handle, sci, an, key, pn, ssci):
@@ -448,12 +465,47 @@ class Model:
         for _, keyword, _, values in commands:
             self.command(handle, keyword, *values)
 
+    def call_parse_line(self, handle, line):
+        """The command of a line that is the second one of a configuration."""
+        _, *commands = parsed(b"end A gcm128 0200000000010001 1518 sci\n" + line, lambda _: shown_command())
+        for _, keyword, _, values in commands:
+            self.met["COMMAND_" + KINDS[keyword]] += 1
+            kind = CONSTANTS["COMMAND_" + KINDS[keyword]]
+            if keyword == "key":
+                return shown_command(sak_of(*values), kind=kind, key=values[0])
+            fields = FIELDS[keyword][: len(values)]
+            return shown_command(
+                kind=kind, **{PLACES[it]: TO_MEMBER.get(it, lambda it: it)(v) for it, v in zip(fields, values)}
+            )
+        self.met["COMMAND_NONE"] += 1
+        return shown_command()
+
+    def call_parse_end(self, handle, line):
+        """The configuration of a line that is the first one of a configuration."""
+        for _, _, _, (_, suite, sci, most, form) in parsed(line, lambda _: UNSHOWN["parse_end"]):
+            suite, form = {name: it for it, name in SUITES.items()}[suite], CONSTANTS["FORM_" + form.upper()]
+            return f" {sci.hex()} {suite} {form} {most}"
+
+    def call_carry_out(self, handle, *row):
+        sak, members = row[: len(NO_SAK)], dict(zip(MEMBERS, row[len(NO_SAK) :]))
+        keywords = {CONSTANTS["COMMAND_" + it]: keyword for keyword, it in KINDS.items()}
+        if members["kind"] == CONSTANTS["COMMAND_NONE"]:
+            return
+        keyword = named(keywords, members["kind"], "E_NO_SUCH_COMMAND")
+        if keyword == "key":
+            self.call_install_key(handle, *sak, members["key"])
+        else:
+            values = [FROM_MEMBER.get(it, lambda it: it)(members[PLACES[it]]) for it in FIELDS[keyword]]
+            self.command(handle, keyword, *values)
+
+    def call_clear_command(self, handle, *row):
+        return shown_command()
+
     def call_answer(self, handle, number, line, room):
         """The text that a script prints for the line, and octets of 7 after it."""
         end, least = self.ends[handle], CONSTANTS["ANSWER_MIN"]
         shown = lambda length, text=b"": f" {length} {hex_of(text + bytes([7]) * (room - len(text)))}"
-        if end is None:
-            raise Status("E_EMPTY", shown(0))
+        status_if(end is None, "E_EMPTY", shown(0))
         fault, keyword, values = asked(line)
         status, text, needed = "OK", b"", least
         if fault:
@@ -461,8 +513,7 @@ class Model:
         elif keyword in ("counters", "numbers"):
             text = expected.text_of(end.counter_lines(number) if keyword == "counters" else end.number_lines(number))
             needed = max(least, len(text))
-        if room < needed:
-            raise Status("E_ANSWER_LONG", shown(needed))
+        status_if(room < needed, "E_ANSWER_LONG", shown(needed))
         if keyword in expected.COMMANDS and not fault:
             result = expected.command_result(end, keyword, values)
             text = f"{number} {result}\n".encode()

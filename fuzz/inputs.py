@@ -1,4 +1,4 @@
-"""The inputs of fuzz.py: altered or generated scripts, configurations, captures and command line arguments.
+"""The inputs of fuzz.py: altered or generated scripts, configurations and captures, and files named `-`.
 
 Input number N of a seed depends only on these two numbers and on the files of this repository that it starts from.
 """
@@ -49,9 +49,8 @@ class Capture:
 
     def octets(self):
         magic, field = (0xA1B23C4D if self.is_nano else 0xA1B2C3D4), self.fields
-        file = struct.pack(
-            self.order + "IHHIIII", magic, *(field[it] for it in ("major", "minor", "zone", "figures", "snap", "link"))
-        )
+        fields = (field[it] for it in ("major", "minor", "zone", "figures", "snap", "link"))
+        file = struct.pack(self.order + "IHHIIII", magic, *fields)
         for seconds, fraction, captured, original, frame in self.records:
             lengths = [(len(frame) + it) % 2**32 for it in (captured, original)]
             file += struct.pack(self.order + "IIII", seconds, fraction, *lengths) + frame
@@ -70,8 +69,8 @@ class Corpus:
             self.add_runs(script, text)
         raised = re.findall(r" (\w+) [1-9]\d*$", (DATA / "each-counter.txt").read_text(), re.M)
         assert {*expected.SECY_COUNTERS, *expected.RX_COUNTERS} <= {*raised}, "each-counter leaves a counter at 0"
-        blocks = re.findall(r"```\n(end A .*?)```", (ROOT / "docs/CAPTURES.md").read_text(), re.S)
-        sender, receiver = (it.encode() for it in blocks)
+        folder = ROOT / "examples/captures"
+        sender, receiver = ((folder / f"{it}.config").read_bytes() for it in ("sender", "receiver"))
         two = Capture([SHORTEST, SHORTEST])
         link = expected.run_capture("protect", sender, two.octets())[3]
         self.runs += [("protect", sender, [SHORTEST] * 2)] * 4
@@ -109,8 +108,9 @@ KEYWORDS += [tuple(it.split()) for it in ALIKE.split(",")]
 EDGES = (
     b"0 1 3 4 30 50 63 64 255 256 4095 4096 1073741823 1073741824 4294967295 4294967296 9248 9249 "
     b"18446744073709551615 18446744073709551616 00000000000000000000 000000000000000000000 ffffffff 100000000 "
-    b"ffffffffffffffff 10000000000000000 00 0g 000 0000000000000000 gcm128 gcm256 xpn128 xpn256 auto sci es scb on off "
+    b"ffffffffffffffff 10000000000000000 00 0g 000 0000000000000000 %b auto sci es scb on off "
     b"int conf check disabled strict # #x A B C end alter pad inject \xff \x00 \x0b"
+    % " ".join(expected.SUITES).encode()
 ).split(b" ")
 
 
@@ -375,37 +375,6 @@ def back_case(rng, _corpus):
     return Case("there and back", [direction, "config", "in", "out"], answer, files=files)
 
 
-def words_case(rng, corpus):
-    """Invalid arguments, names of files that cannot be opened or read, or files with the name `-`."""
-    way = rng.randrange(16)
-    if way < 4:
-        return usage_case(rng, way)
-    return name_case(rng) if way < 7 else dash_case(rng, corpus)
-
-
-def usage_case(rng, way):
-    """Arguments that the program refuses: no file is created or changed."""
-    words = rng.choice((["run", "-"], ["protect", "config", "in", "out"], ["validate", "config", "in", "out"]))
-    if way == 0:
-        words = words[: rng.randrange(len(words))]
-    elif way == 1:
-        words.append(rng.choice(("x", "", "-", "a b", "run", "\udcff")))
-    elif way == 2:
-        option = rng.choice(("--help", "-h", "--version", "-V", "-x", "--x=1"))
-        words.insert(rng.randrange(len(words) + 1), option)
-    else:
-        words[0] = rng.choice(("Run", "runs", "ru", "", "-", "protect ", "validat", "help", "\udcff"))
-    files = small_files()
-    if rng.randrange(2):
-        del files["out"]
-    return Case("words", words, (2, b"", b"macsec: usage\n", None), files["config"], files)
-
-
-def small_files():
-    config = b"end A gcm128 0200000000010001 1518 sci\nA protect off\n"
-    return {"config": config, "in": Capture([SHORTEST]).octets(), "out": b"old"}
-
-
 def dash_case(rng, corpus):
     """A file with the name `-`, and different octets on standard input. Only for SCRIPT does `-` mean standard
     input."""
@@ -425,29 +394,11 @@ def dash_case(rng, corpus):
     files = {names["config"]: config, names["in"]: file, names["out"]: b"old"}
     if rng.randrange(2):
         del files[names["out"]]
-    stdin = rng.choice((b"", config, file, small_files()["config"]))
+    stdin = rng.choice((b"", config, file, b"end A gcm128 0200000000010001 1518 sci\nA protect off\n"))
     return Case("words", words, expected.run_capture(direction, config, file), stdin, files, out=names["out"])
 
 
-def name_case(rng):
-    """One of the names belongs to no file, or to a folder."""
-    files = small_files()
-    words = rng.choice((["run", "-"], ["protect", "config", "in", "out"], ["validate", "config", "in", "out"]))
-    place = rng.randrange(1, len(words))
-    name = rng.choice(("absent", "absent/x", ".", "", "config/x")) if words[0] != "run" else rng.choice(("absent", ""))
-    if place == 3 and name == "absent":
-        name = "absent/x"
-    words[place] = name
-    if name != "." or place == 3:
-        told = b"macsec: cannot open %s\n" % name.encode()
-        return Case("words", words, (1, b"", told, None), files=files)
-    if place == 1:
-        return Case("words", words, (1, b"", b"macsec: Read\n", b""), files=files)
-    text = expected.run_capture(words[0], files["config"], b"")[1]
-    return Case("words", words, (1, text, b"macsec: pcap Read\n", b""), files=files)
-
-
-KINDS = {script_case: 30, made_case: 35, capture_case: 26, back_case: 4, words_case: 5}
+KINDS = {script_case: 30, made_case: 35, capture_case: 26, back_case: 4, dash_case: 3}
 
 
 def case_of(seed, number, corpus):

@@ -94,7 +94,6 @@ class Maker:
         return "B" if end == "A" else "A"
 
     def an_of(self, rows):
-        """The number of an SA, which usually exists."""
         return self.rng.choice([*rows] * 4 + [0, 1, 2, 3])
 
     def int_or_conf(self):
@@ -435,29 +434,11 @@ class Maker:
 
 
 WEIGHTS = {
-    Maker.send: 30,
-    Maker.burst: 7,
-    Maker.deliver: 24,
-    Maker.alter: 9,
-    Maker.pad: 4,
-    Maker.inject: 6,
-    Maker.send_uncontrolled: 2,
-    Maker.validate: 2,
-    Maker.replay: 4,
-    Maker.option: 4,
-    Maker.key: 4,
-    Maker.retire: 2,
-    Maker.widen: 2,
-    Maker.transmit: 4,
-    Maker.remake: 5,
-    Maker.roll: 5,
-    Maker.again: 3,
-    Maker.receive: 4,
-    Maker.raise_lowest: 3,
-    Maker.channels: 2,
-    Maker.reflect: 2,
-    Maker.show: 2,
-}
+    Maker.send: 30, Maker.burst: 7, Maker.deliver: 24, Maker.alter: 9, Maker.pad: 4, Maker.inject: 6,
+    Maker.send_uncontrolled: 2, Maker.validate: 2, Maker.replay: 4, Maker.option: 4, Maker.key: 4, Maker.retire: 2,
+    Maker.widen: 2, Maker.transmit: 4, Maker.remake: 5, Maker.roll: 5, Maker.again: 3, Maker.receive: 4,
+    Maker.raise_lowest: 3, Maker.channels: 2, Maker.reflect: 2, Maker.show: 2,
+}  # fmt: skip
 
 
 def made_script(rng):

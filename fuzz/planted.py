@@ -6,9 +6,8 @@ The rules are expected.py and captures.py.
     python3 fuzz/planted.py [--inputs N] [--seed TEXT]
 
 So it is seen that a program with that mistake would not get past `make fuzz`; and, of the mistakes that break a promise
-of docs/LINK.md, that promises.py finds it broken. No program is run here. The status is 1 if a mistake was not shown, if
-there are fewer mistakes than COUNT says, or if a copy without a mistake seems to have one.
-"""
+of docs/LINK.md, that promises.py finds it broken. No program is run here. The status is 1 if a mistake was not shown,
+if there are fewer mistakes than COUNT says, or if a copy without a mistake seems to have one. """
 
 from __future__ import annotations
 
@@ -97,7 +96,8 @@ PLANTED = [
     (
         "a new association begins with what the channel has counted",
         "        channel.sas[an] = Sa(number, pn, ssci=ssci)\n",
-        "        channel.sas[an] = Sa(number, pn, ssci=ssci)\n        channel.sas[an].counters = dict(channel.counters)\n",
+        "        channel.sas[an] = Sa(number, pn, ssci=ssci)\n"
+        "        channel.sas[an].counters = dict(channel.counters)\n",
     ),
     ("encrypted data are delivered unopened", '            if c:\n                return "NotValid", None, counting\n',
      ""),
@@ -113,8 +113,8 @@ PLANTED = [
     ("a decimal number of 21 digits", "1 <= len(word) <= 20 and", "1 <= len(word) <= 21 and"),
     ("a capture of more octets than the frame had is partial", "place + captured] if captured >= original",
      "place + captured] if captured == original"),
-    ("the captured length comes after the octets", "        if captured > MAX_RECORD:\n            raise",
-     "        if captured > MAX_RECORD and len(file) - place >= captured:\n            raise"),
+    ("the captured length comes after the octets", "        fail(captured > MAX_RECORD, PcapFault",
+     "        fail(captured > MAX_RECORD and len(file) - place >= captured, PcapFault"),
     ("nanoseconds are written as microseconds", "output = captures.write_header(is_nano)",
      "output = captures.write_header(False)"),
     ("another minor version is taken", "(major, minor) != (2, 4)", "major != 2"),

@@ -93,7 +93,6 @@ class Watch:
             self.on_link[octets].append(self.sent[-1])
 
     def shared_keys(self):
-        """The keys with the same bytes at both ends."""
         a, b = (it.keys.values() for it in self.ends.values())
         return [(x, y) for x in a for y in b if x.octets == y.octets]
 

@@ -34,41 +34,42 @@ class Rarely:
 
     def key_line(self, suite, ssci):
         """The line of a key of this suite, with the suite's number as its own."""
-        octets = self.keys[suite][: expected.SUITES[SUITES[suite]][0]]
-        return f"key {suite} {octets.hex()} 0 {ssci:08x} {self.SALT.hex()}"
+        return f"key {suite} {self.key_octets(suite).hex()} 0 {ssci:08x} {self.SALT.hex()}"
+
+    def calls(self, text, handle=2, /, **named):
+        """The calls of a text, one after another. Their arguments are numbers, constants of the header, *N for N octets
+        of 0, and what is named here."""
+        for name, *words in map(str.split, text.split(";")):
+            of_zeros = {it: bytes(int(it[1:])) for it in words if it[0] == "*"}
+            known = {**CONSTANTS, **of_zeros, **named}
+            yield name, (handle, *(known[it] if it in known else int(it) for it in words))
+
+    @staticmethod
+    def each(name, given):
+        for it in given:
+            yield name, (2, *(it if isinstance(it, tuple) else (it,)))
 
     def rarely_reserved(self):
         """What random calls over journals seldom come to."""
         own, other = self.SCIS[2], self.SCIS[0]
-        key = (self.keys[0], self.SALT, 1, 1, 0, 16, 0)
         saved = journals.receiving_name(journals.sending_name(self.JOURNAL_SALT, self.keys[0][:16]), other, 1), 7
         yield "free", (2,)
         for journal in (b"", self.JOURNAL[:63], b"M" + self.JOURNAL[1:], self.JOURNAL[:16] + b"s" + self.JOURNAL[17:]):
-            yield "reserve_open", (2, own, 1, 1, 1518, journal, 0)
-            yield "reserve_configure", (2, self.configuration(own, 1), journal, 1)
-            yield "journal_compacted", (2, journal)
-        yield "reserve_open", (2, own, 1, 1, 63, self.JOURNAL, 1)
-        yield "reserve_wanted", (2, 0, 4)
+            text = self.configuration(own, 1)
+            begin = "reserve_open own 1 1 1518 journal 0; reserve_configure text journal 1; journal_compacted journal"
+            yield from self.calls(begin, own=own, text=text, journal=journal)
+        yield from self.calls("reserve_open own 1 1 63 journal 1; reserve_wanted 0 4", own=own, journal=self.JOURNAL)
         yield "reserve_open", (2, own, 1, 1, 1518, self.JOURNAL + journals.record(saved) + b"torn", 0)
-        yield "install_key", (2, *key)
+        yield "install_key", (2, self.keys[0], self.SALT, 1, 1, 0, 16, 0)
         for number in (0, 1, 4_096):
             yield "reserve_tx_floor", (2, number)
-            for an in (0, 1, 4):
-                yield "reserve_rx_floor", (2, other, an, number)
-        yield "add_rx_sc", (2, other)
-        for pn in (7, 8):
-            yield "add_rx_sa", (2, other, 1, 0, pn, 0)
-        for an in (1, 4):
-            yield "reserve_to_save", (2, other, an)
-        yield "add_tx_sa", (2, 0, 0, 1, 1)
-        yield "enable_tx_sa", (2, 0)
-        yield "send", (2, bytes(60))
-        yield "reserve_wanted", (2, 0, 4)
-        yield "reserve_granted", (2, bytes(64))
+            yield from self.each("reserve_rx_floor", [(other, an, number) for an in (0, 1, 4)])
+        yield from self.calls("add_rx_sc other; add_rx_sa other 1 0 7 0; add_rx_sa other 1 0 8 0", other=other)
+        yield from self.each("reserve_to_save", [(other, 1), (other, 4)])
+        text = "add_tx_sa 0 0 1 1; enable_tx_sa 0; send *60; reserve_wanted 0 4; reserve_granted *64"
+        yield from self.calls(text)
         yield "reserve_granted", (2, journals.record(self.model.ends[2].wanted(0, 4)))
-        yield "reserve_wanted", (2, 0, 4)
-        for _ in range(6):
-            yield "send", (2, bytes(60))
+        yield from self.calls("reserve_wanted 0 4" + "; send *60" * 6)
         yield "journal_compacted", (2, self.JOURNAL + 3 * journals.record(saved) + bytes(64))
 
     def rarely_forgotten(self):
@@ -84,19 +85,17 @@ class Rarely:
             yield from self.refused_again(octets, mark)
             yield "add_tx_sa", (2, 0, 1, 1, 1)
             yield from self.enabled(journal is not None)
-            for _ in range(6):
-                yield "send", (2, bytes(60))
+            yield from self.each("send", [bytes(60)] * 6)
             yield from self.begun(journal)
             yield from self.retired_with_mark(octets, mark)
 
     def begun(self, journal):
-        """An endpoint with this journal, or with none."""
         own = self.SCIS[2]
         yield "free", (2,)
         yield ("new", (2, own, 1, 1, 1518)) if journal is None else ("reserve_open", (2, own, 1, 1, 1518, journal, 0))
 
-    def short_key(self, number, octets):
-        return "install_key", (2, octets + bytes(16), self.SALT, 1, 1, number, 16, 0)
+    def short_keys(self, *keys):
+        yield from self.each("install_key", [(it + bytes(16), self.SALT, 1, 1, number, 16, 0) for number, it in keys])
 
     def enabled(self, reserves):
         """The transmit association, with a reservation if it needs one."""
@@ -107,44 +106,32 @@ class Rarely:
     def retired(self, octets, reserves):
         """Key 0, which has these octets, is retired while its job is planned. Calls name it before and after that."""
         other = self.SCIS[0]
-        for number, its in ((0, octets), (1, self.keys[1][:16])):
-            yield self.short_key(number, its)
-        yield "add_rx_sc", (2, other)
-        yield "add_tx_sa", (2, 0, 0, 9, 1)
-        yield "add_tx_sa", (2, 0, 0, 10, 1)
+        yield from self.short_keys((0, octets), (1, self.keys[1][:16]))
+        yield from self.calls("add_rx_sc other; add_tx_sa 0 0 9 1; add_tx_sa 0 0 10 1", other=other)
         yield from self.enabled(reserves)
-        for made in (("slot_free", 2), ("slot_new", 2), ("key_free", 2)):
-            yield made[0], (0, made[1])
-        yield "key_take", (2, 2, 0)
-        yield "plan_send", (2, 2, bytes(60))
-        yield "delete_tx_sa", (2, 0)
-        for retires in (False, True):
-            if retires:
-                yield "delete_rx_sa", (2, other, 1)
-                yield "retire_key", (2, 0)
-            yield "reserve_tx_floor", (2, 0)
-            yield "reserve_rx_floor", (2, other, 1, 0)
-            yield "add_rx_sa", (2, other, 1, 0, 7, 0)
-            yield "add_tx_sa", (2, 1, 0, 9, 1)
+        yield from self.calls("slot_free 2; slot_new 2; key_free 2", 0)
+        text = "key_take 2 0; plan_send 2 *60; delete_tx_sa 0"
+        named = "reserve_tx_floor 0; reserve_rx_floor other 1 0; add_rx_sa other 1 0 7 0; add_tx_sa 1 0 9 1"
+        yield from self.calls(f"{text}; {named}; delete_rx_sa other 1; retire_key 0; {named}", other=other)
 
     def refused_again(self, octets, mark):
         """The planned job, and the octets of the retired key and its fingerprint, as keys and in lines."""
         yield "seal_job", (0, 2, 2, 400)
-        for number, its in ((2, octets), (2, mark), (0, octets)):
-            yield self.short_key(number, its)
-        for line in (f"A key 2 {octets.hex()} 0", f"A key 2 {octets.hex()} 0 {SUITES[2]}", "A txsa 1 0 9 conf"):
-            yield "command_line", (2, line.encode())
-            yield "answer", (2, 3, line.encode(), 64)
+        yield from self.short_keys((2, octets), (2, mark), (0, octets))
+        key = f"A key 2 {octets.hex()} 0"
+        yield from self.answered(key, f"{key} {SUITES[2]}", "A txsa 1 0 9 conf")
+
+    def answered(self, *lines):
+        """Lines that are carried out, and then answered."""
+        for line in map(str.encode, lines):
+            yield "command_line", (2, line)
+            yield "answer", (2, 3, line, 64)
 
     def retired_with_mark(self, octets, mark):
         """A key and one that is its fingerprint, both retired and installed again."""
-        for number, its in ((0, octets), (1, mark)):
-            yield self.short_key(number, its)
-        for number in (0, 1):
-            yield "retire_key", (2, number)
-            yield "reserve_tx_floor", (2, 0)
-        for number, its in ((2, octets), (3, mark)):
-            yield self.short_key(number, its)
+        yield from self.short_keys((0, octets), (1, mark))
+        yield from self.calls("retire_key 0; reserve_tx_floor 0; retire_key 1; reserve_tx_floor 0")
+        yield from self.short_keys((2, octets), (3, mark))
 
     def rarely_ahead(self):
         """A receiver with a journal, without `ahead` and with it: packet numbers that are reserved, that are not
@@ -188,42 +175,33 @@ class Rarely:
 
     def begun_at(self, suite, *numbers):
         """The association begins at the last of these numbers."""
-        for pn in numbers:
-            yield "add_rx_sa", (2, self.SCIS[0], 1, suite, pn, 1)
+        yield from self.each("add_rx_sa", [(self.SCIS[0], 1, suite, pn, 1) for pn in numbers])
         yield "enable_rx_sa", (2, self.SCIS[0], 1)
 
     def accepted(self, suite, sent):
         """Numbers up to 7 were used by an earlier run, and numbers from 8 to 20 are reserved after the first frames."""
         other = self.SCIS[0]
-        for an in (1, 4):
-            yield "reserve_to_accept", (2, other, an, 4, 0)
+        yield from self.calls("reserve_to_accept other 1 4 0; reserve_to_accept other 4 4 0", other=other)
         yield "install_key", (2, *self.key_of(suite, 2))
         yield "add_rx_sc", (2, other)
         yield from self.begun_at(suite, 7, 8)
-        for frame in (sent(8), sent(8, True), sent(7)):
-            yield "receive", (2, frame)
+        yield from self.each("receive", [sent(8), sent(8, True), sent(7)])
         yield from self.reserved(10, 10)
         yield "reserve_to_accept", (2, other, 1, 12, 0)
-        for pn in (8, 8, 10, 9, 12, 21):
-            yield "receive", (2, sent(pn))
-        for name in ("get_rx_sa", "get_rx_sa_counters"):
-            yield name, (2, other, 1)
-        yield "get_counters", (2,)
+        yield from self.each("receive", map(sent, (8, 8, 10, 9, 12, 21)))
+        yield from self.calls("get_rx_sa other 1; get_rx_sa_counters other 1; get_counters", other=other)
 
     def accepted_in_each_mode(self, sent):
         """Late frames are not dropped, and then an invalid frame is delivered too."""
         yield "set_replay", (2, 0, 0)
-        for pn in (9, 7, 1):
-            yield "receive", (2, sent(pn))
+        yield from self.each("receive", map(sent, (9, 7, 1)))
         for mode in ("CHECK", "DISABLED", "STRICT"):
             yield "set_validation", (2, CONSTANTS["MODE_" + mode])
-            for frame in (sent(7), sent(22), sent(7, True)):
-                yield "receive", (2, frame)
+            yield from self.each("receive", [sent(7), sent(22), sent(7, True)])
 
     def accepted_in_jobs(self, suite, sent):
         """Frames in slots, opened before or not."""
-        for made in ("slot_free", "slot_new", "key_free"):
-            yield made, (0, 2)
+        yield from self.calls("slot_free 2; slot_new 2; key_free 2", 0)
         yield "key_take", (2, 2, suite)
         for pn, is_opened in ((7, 1), (23, 1), (23, 0), (11, 1)):
             yield "plan_receive", (2, 2, sent(pn))
@@ -237,26 +215,21 @@ class Rarely:
         association is forgotten at the next report."""
         other, end = self.SCIS[0], self.model.ends[2]
         lowest = end.rx_sa(other, 1).lowest
-        yield "delete_rx_sa", (2, other, 1)
-        yield "reserve_rx_floor", (2, other, 1, suite)
+        yield from self.calls("delete_rx_sa other 1; reserve_rx_floor other 1 suite", other=other, suite=suite)
         yield from self.begun_at(suite, 1, lowest - 1, lowest)
-        for pn in (lowest - 1, lowest):
-            yield "receive", (2, sent(pn))
+        yield from self.each("receive", map(sent, (lowest - 1, lowest)))
         lowest = end.rx_sa(other, 1).lowest
         yield "delete_rx_sc", (2, other)
-        for line in (f"A rxsa {other.hex()} 1 {suite} {it:x} 00000001".encode() for it in (lowest - 1, lowest, 0)):
-            yield "command_line", (2, line)
-            yield "answer", (2, 3, line, 64)
+        lines = (f"A rxsa {other.hex()} 1 {suite} {it:x} 00000001" for it in (lowest - 1, lowest, 0))
+        yield from self.answered(*lines)
         yield "reserve_granted", (2, journals.record((bytes(32), 9)))
         yield "add_rx_sc", (2, other)
         yield from self.begun_at(suite, lowest - 1, lowest)
         yield "receive", (2, sent(lowest))
         yield from self.reserved(4, lowest)
         yield "receive", (2, sent(lowest))
-        yield "delete_rx_sa", (2, other, 1)
-        yield "retire_key", (2, suite)
-        yield "reserve_rx_floor", (2, other, 1, suite)
-        yield "add_rx_sa", (2, other, 1, suite, 1, 1)
+        text = "delete_rx_sa other 1; retire_key suite; reserve_rx_floor other 1 suite; add_rx_sa other 1 suite 1 1"
+        yield from self.calls(text, other=other, suite=suite)
 
     def configured_ahead(self):
         """A line that creates an association again is refused in a CONFIG too."""
@@ -288,17 +261,12 @@ class Rarely:
 
     def floors(self, *places):
         """The floors of these places. A place is a key, a channel and an association number."""
-        for key, channel, an in places:
-            yield "reserve_rx_floor", (2, self.channel(channel), an, key)
+        yield from self.each("reserve_rx_floor", [(self.channel(channel), an, key) for key, channel, an in places])
 
     def ends_at(self, key, channel, an, last, *others):
         """An association ends at this number, deleted alone or with its channel. Then its floor, and others' floors."""
-        sci = self.channel(channel)
-        yield "add_rx_sc", (2, sci)
-        yield "add_rx_sa", (2, sci, an, key, last + 1, 0)
-        if last % 2:
-            yield "delete_rx_sa", (2, sci, an)
-        yield "delete_rx_sc", (2, sci)
+        text = "add_rx_sc sci; add_rx_sa sci an key first 0" + "; delete_rx_sa sci an" * (last % 2)
+        yield from self.calls(f"{text}; delete_rx_sc sci", sci=self.channel(channel), an=an, key=key, first=last + 1)
         yield from self.floors((key, channel, an), *others)
 
     def rarely_ended(self):
@@ -307,15 +275,12 @@ class Rarely:
         yield "free", (2,)
         yield "reserve_configure", (2, self.ended(1_023, 0), self.JOURNAL, 0)
         yield from self.floors((3, 63, 2), (3, 63, 3), (3, 100, 0), (4, 100, 0))
-        yield "add_rx_sc", (2, self.channel(70))
-        for an, key, pn in ((2, 3, 20_001), (1, 4, 21_001)):
-            yield "add_rx_sa", (2, self.channel(70), an, key, pn, 0)
-        yield "delete_rx_sc", (2, self.channel(70))
+        text = "add_rx_sc sci; add_rx_sa sci 2 3 20001 0; add_rx_sa sci 1 4 21001 0; delete_rx_sc sci"
+        yield from self.calls(text, sci=self.channel(70))
         yield from self.floors((3, 70, 2), (3, 100, 0), (4, 70, 1), (4, 100, 0), (5, 100, 0))
         yield from self.ends_at(4, 0, 2, 20_999, (4, 100, 0))
         yield from self.ends_at(0, 0, 0, 22_001, (0, 100, 0), (0, 0, 1))
-        for key in (4, 0):
-            yield "retire_key", (2, key)
+        yield from self.calls("retire_key 4; retire_key 0")
         yield from self.ends_at(5, 0, 0, 23_000, (5, 100, 0), (4, 100, 0), (0, 0, 0))
         yield from self.ended_for_all()
 
@@ -323,23 +288,22 @@ class Rarely:
         """So many keys have a number that only one more gets one. Associations of further keys share one number."""
         yield "free", (2,)
         yield "reserve_configure", (2, self.ended(1_024, 1_023), self.JOURNAL, 1)
-        yield self.short_key(2_000, bytes(range(16)))
+        yield from self.short_keys((2_000, bytes(range(16))))
         yield from self.ends_at(1_027, 0, 0, 30_000, (1_027, 100, 0), (1_028, 100, 0), (1_026, 100, 0), (0, 100, 0))
         yield from self.ends_at(1_028, 0, 0, 25_000, (2_000, 100, 0), (1_027, 100, 0), (0, 0, 0), (3_000, 0, 0))
         yield from self.ends_at(2_000, 0, 0, 25_001, (4, 100, 0))
-        for key, pn in ((3_000, 25_001), (3_000, 25_002), (2_000, 0)):
-            yield "add_rx_sa", (2, self.channel(100), 0, key, pn, 0)
+        added = ((3_000, 25_001), (3_000, 25_002), (2_000, 0))
+        yield from self.each("add_rx_sa", [(self.channel(100), 0, key, pn, 0) for key, pn in added])
         yield "retire_key", (2, 4)
         yield from self.ends_at(2_000, 1, 1, 26_000, (2_000, 100, 0), (1_028, 100, 0), (4, 0, 0))
         yield "retire_key", (2, 0)
         yield from self.ends_at(1, 100, 0, 27_000, (1, 101, 0), (0, 0, 0))
 
     def crowded(self):
-        yield "free", (2,)
-        yield "new", (2, self.SCIS[0], 1, 0, 1518)
-        for it in range(CONSTANTS["RX_CHANNEL_COUNT"] + 1):
-            yield "add_rx_sc", (2, bytes([6, 0, 0, 0, 0, it, 0, 1]))
-        yield "get_rx_sc", (2, CONSTANTS["RX_CHANNEL_COUNT"] - 1)
+        most = CONSTANTS["RX_CHANNEL_COUNT"]
+        yield from self.calls("free; new own 1 0 1518", own=self.SCIS[0])
+        yield from self.each("add_rx_sc", map(self.channel, range(most + 1)))
+        yield "get_rx_sc", (2, most - 1)
 
     # Texts of configurations, and lines, that random ones seldom are.
     END = "end A gcm128 1215352400000001 1518 sci\n"
@@ -351,125 +315,118 @@ class Rarely:
         f"{END}A txon 0\n{KEY}A txoff 0\n",
     )  # fmt: skip
     WORDS = (
-        ",# A txoff 0,A txoff 0,A txoff 0\r,A txoff,A txoff 4,txoff 0,A txof 0,A txoff 1,A rxsc 0,B txoff 0,A counters,A txon 0,"
-        "A,A txon 4,A counters 0,B counters,A send 00,A sendu 00,A deliver 0,alter 0 0 00,pad 0,inject 00," + END[:-1]
+        ",# A txoff 0,A txoff 0,A txoff 0\r,A txoff,A txoff 4,txoff 0,A txof 0,A txoff 1,A rxsc 0,B txoff 0,A counters,"
+        "A txon 0,A,A txon 4,A counters 0,B counters,A send 00,A sendu 00,A deliver 0,alter 0 0 00,pad 0,inject 00,"
+        + END[:-1]
     )
 
     def rarely_written(self):
         """Texts with each fault, a frame by an endpoint that a text has made, and lines in buffers of each size."""
-        for text in self.TEXTS:
-            yield "free", (2,)
-            yield "configure", (2, text.encode())
-        yield "command_line", (2, b"A txoff 0")
-        yield "free", (2,)
-        yield "command_line", (2, b"A txoff 0")
-        for _ in range(2):
-            yield "configure", (2, self.TEXTS[3].encode())
-        yield "send", (2, bytes(60))
+        for text in map(str.encode, self.TEXTS):
+            yield from self.calls("free; configure text", text=text)
+        text = "command_line off; free; command_line off; configure text; configure text; send *60"
+        yield from self.calls(text, off=b"A txoff 0", text=self.TEXTS[3].encode())
         for line in self.WORDS.encode().split(b","):
-            yield "command_line", (2, line)
-            yield "answer", (2, 2**32 - 1, line, 9_000)
-            yield "get_tx_sa", (2, 0)
+            yield from self.calls("command_line line; answer 4294967295 line 9000; get_tx_sa 0", line=line)
         for line in (b"A txoff 0", b"A numbers", b"A counters", b"A txoff"):
             yield "enable_tx_sa", (2, 0)
             needed = len(expected.text_of(self.model.ends[2].counter_lines(1))) if line == b"A counters" else 64
             for room in (0, needed - 1, needed):
-                yield "answer", (2, 1, line, room)
-                yield "get_tx_sa", (2, 0)
+                yield from self.calls("answer 1 line room; get_tx_sa 0", line=line, room=room)
+
+    # Commands at an endpoint and lines of one, at the limits of each word. Those of parse_end come after them.
+    K16, PEER, OTHER = "000102030405060708090a0b0c0d0e0f", "0200000000020001", "ffFFffFFffFFffFF"
+    KEYS = "0f0e0d0c0b0a09080706050403020100", "ff0e0d0c0b0a09080706050403020100"
+    LINES = f""", \t ,\r,# A txon 0,#A txon,A protect off,A\tprotect\ton\r,A validate disabled,A validate check,
+        A validate strict,A replay off 4294967295,A replay on 4294967296,A replay on 18446744073709551615,
+        A replay on 18446744073709551616,A replay on 000000000000000000000,A replay on 00000000000000000000,A tag auto,
+        A tag es,A tag scb,A tag sci,A key 0 {K16} 0,A key 0 {K16}{KEYS[0]} 0 gcm256,A key 1 {K16} 0,
+        A key 1 {2 * K16} 0,A key 1 {2 * K16} 50 gcm256,A key 2 {2 * K16} 255 gcm256,A key 2 {2 * K16} 256 gcm256,
+        A key 4095 {K16}{KEYS[1]} 0 xpn256 ffffffff {"a0" * 12},A key 4096 {K16} 0,
+        A key 3 {KEYS[0]} 0 00000001 {"a0" * 12},A key 5 {KEYS[0]} 0 xpn128,A key 5 {KEYS[1]} 0 xpn128,A key 6 0f0e0d 0,
+        A key 6 {K16} 0 00000001,A retire 6,A retire 5,A retire 5,A retire 4096,A txsa 0 0 1 int,
+        A txsa 3 1 00000000FFFFffff conf,A txsa 1 3 0 conf,A txsa 1 3 100000000 conf,
+        A txsa 1 4095 ffffffffffffffff conf,A txsa 2 4095 10000000000000000 conf,A txsa 4 1 1 conf,A txsa 3 3 1 conf,
+        A txon 3,A txon 2,A txon 0,A txoff 0,A txoff 4,A txdel 3,A txdel 3,A retire 0,A rxsc {PEER},A rxsc {PEER},
+        A rxsc 0200000000010001,A rxsc {OTHER},A rxsc 02000000000200,A rxsa {PEER} 0 0 1,
+        A rxsa {PEER} 3 4095 7 FFFFffff,A rxsa {PEER} 3 4095 7 00000007,A rxsa {OTHER} 3 3 ffffffff,
+        A rxsa {OTHER} 4 3 1,A rxsa 0000000000000000 0 3 1,A rxon {PEER} 0,A rxon {PEER} 1,A rxon {OTHER} 3,
+        A rxoff {PEER} 0,A rxlow {PEER} 3 ffffffffffffffff,A rxlow {PEER} 3 8,A rxlow {PEER} 0 100000000,
+        A rxdel {PEER} 3,A rxdel {PEER} 3,A rxscdel {PEER},A rxscdel {PEER},A,A on,txon 0,A TXON 0,A txon,A txon 0 0,
+        A txon -1,A txon 0\r\r,A protect yes,A counters,A send 00,B txon 0,pad 0,end A gcm128 0200000000010001 1518 sci,
+        A txsa 2 1 5 conf"""
+    ENDS = """end A gcm128 0200000000010001 64 auto,end A gcm256 0200000000010002 09248 sci,
+        end\tA xpn128 0200000000010001 1518 es\r,end A xpn256 0a0B000000010000 1518 scb,
+        end A gcm128 0200000000010002 1518 es,end A gcm128 0200000000010001 63 sci,
+        end A gcm128 0200000000010001 9249 sci,end A gcm128 02 1518 sci,end A gcm 0200000000010001 1518 sci,
+        end A gcm128 0200000000010001 1518,end B gcm128 0200000000010001 1518 sci,A txon 0"""
+
+    def rarely_limited(self):
+        """Each line is carried out at handle 2. At handle 1 it is parsed, and its command is carried out as a struct:
+        both endpoints then show the same numbers, and at the end the same counters and options."""
+        own, ends = self.SCIS[0], self.ENDS.replace("\n        ", "").encode().split(b",")
+        for handle in (1, 2):
+            yield from self.calls("free; new own 1 1 1518", handle, own=own)
+        for line in self.LINES.replace("\n        ", "").encode().split(b","):
+            yield "command_line", (2, line)
+            yield "parse_line", (1, line)
+            *shown, _, status = self.model.answer("parse_line", 1, line).split()[1:]
+            if status == str(CONSTANTS["OK"]):
+                octets = (0, 1, 8)  # the key's octets, its salt, and the SCI
+                yield "carry_out", (1, *(bytes.fromhex(it) if at in octets else int(it) for at, it in enumerate(shown)))
+            for handle in (1, 2):
+                yield "answer", (handle, 1, b"A numbers", 9_000)
+        for handle in (1, 2):
+            yield from self.calls("answer 1 line 9000; get_options; keys_left", handle, line=b"A counters")
+        yield from self.each("parse_end", ends)
 
     def rarely_refused(self):
         """What random calls seldom come to."""
         own, other = self.SCIS[2], self.SCIS[0]
-        key = lambda number, octets, suite: (2, self.keys[octets], self.SALT, 1, suite, number, 16, 0)
-        yield "free", (2,)
-        yield "new", (2, other, 1, CONSTANTS["FORM_ES"], 1518)
-        yield "get_options", (2,)
-        yield "free", (2,)
-        yield "new", (2, own, 1, CONSTANTS["FORM_ES"], 1518)
-        yield "new", (2, own, 1, CONSTANTS["FORM_SCB"], 64)
-        yield "get_options", (2,)
-        yield "set_tag_form", (2, CONSTANTS["FORM_ES"])
-        for number, octets, suite in ((0, 0, "DEFAULT"), (1, 0, "DEFAULT"), (3, 3, "GCM_AES_XPN_128")):
-            yield "install_key", key(number, octets, CONSTANTS[f"SUITE_{suite}"])
-        yield "add_rx_sc", (2, other)
-        for number, ssci, pn in ((3, 1, 1), (0, 0, 9), (0, 0, 9)):
-            yield "add_rx_sa", (2, other, 0, number, pn, ssci)
-        for pn in (8, 2**32):
-            yield "set_lowest_pn", (2, other, 0, pn)
-        yield "add_tx_sa", (2, 0, 0, 2**32 - 1, 1)
-        yield "enable_tx_sa", (2, 0)
-        yield "send", (2, bytes(34))
-        yield "send", (2, bytes(14))
-        yield "enable_tx_sa", (2, 0)
-        yield "get_tx_sa", (2, 0)
-        yield "send_uncontrolled", (2, bytes(CONSTANTS["FRAME_MAX"] + 1))
-        yield "delete_tx_sa", (2, 0)
-        yield "add_tx_sa", (2, 0, 0, 1, 1)
-        yield "enable_rx_sa", (2, other, 0)
-        yield "set_validation", (2, CONSTANTS["MODE_CHECK"])
-        # A tagged frame with E and C clear, and an ICV of zeros.
-        yield "receive", (2, bytes(12) + bytes.fromhex("88e5200000000009") + other + bytes(64))
-        yield "delete_rx_sa", (2, other, 0)
-        yield "retire_key", (2, 0)
-        yield "add_tx_sa", (2, 0, 0, 1, 1)
-        yield "free", (2,)
-        yield "configure", (2, b"\n" * 65_537)
-        yield "configure", (2, b"#" * 20_001)
-        yield "new", (2, own, 1, CONSTANTS["FORM_AUTO"], 63)
+        key = lambda number, octets, suite: (self.keys[octets], self.SALT, 1, suite, number, 16, 0)
+        text = """free; new other 1 FORM_ES 1518; get_options; free; new own 1 FORM_ES 1518; new own 1 FORM_SCB 64;
+            get_options; set_tag_form FORM_ES"""
+        yield from self.calls(text, own=own, other=other)
+        suites = CONSTANTS["SUITE_DEFAULT"], CONSTANTS["SUITE_GCM_AES_XPN_128"]
+        yield from self.each("install_key", [key(0, 0, suites[0]), key(1, 0, suites[0]), key(3, 3, suites[1])])
+        # The frame is a tagged one with E and C clear, and an ICV of zeros.
+        frame = bytes(12) + bytes.fromhex("88e5200000000009") + other + bytes(64)
+        text = """add_rx_sc other; add_rx_sa other 0 3 1 1; add_rx_sa other 0 0 9 0; add_rx_sa other 0 0 9 0;
+            set_lowest_pn other 0 8; set_lowest_pn other 0 4294967296; add_tx_sa 0 0 4294967295 1; enable_tx_sa 0;
+            send *34; send *14; enable_tx_sa 0; get_tx_sa 0; send_uncontrolled *9249; delete_tx_sa 0; add_tx_sa 0 0 1 1;
+            enable_rx_sa other 0; set_validation MODE_CHECK; receive frame; delete_rx_sa other 0; retire_key 0;
+            add_tx_sa 0 0 1 1; free; configure lines; configure long; new own 1 FORM_AUTO 63"""
+        yield from self.calls(text, own=own, other=other, frame=frame, lines=b"\n" * 65_537, long=b"#" * 20_001)
 
     def rarely_made(self):
         """Calls, modes and verdicts that some seeds would not come to."""
-        yield "free", (2,)
-        yield "new", (2, self.SCIS[2], 5, CONSTANTS["FORM_AUTO"], 1518)
-        yield "new", (2, self.SCIS[2], 1, CONSTANTS["FORM_AUTO"], 1518)
+        yield from self.calls("free; new own 5 FORM_AUTO 1518; new own 1 FORM_AUTO 1518", own=self.SCIS[2])
         yield from self.rarely_received()
         yield from self.rarely_sent()
-        for line in (b"A rxsc 0g", b"A rxsc", b"A rxon 0000000000000001 4", b"A frob", b"B txon 0", b"#" * 20_001):
-            yield "command_line", (2, line)
+        lines = b"A rxsc 0g", b"A rxsc", b"A rxon 0000000000000001 4", b"A frob", b"B txon 0", b"#" * 20_001
+        yield from self.each("command_line", lines)
 
     def rarely_received(self):
         """Keys and receive associations, and frames in each mode of validation."""
         own, other = self.SCIS[2], self.SCIS[0]
         # A tagged frame of integrity alone with this TCI, packet number 9 or another, and an ICV of zeros.
         tagged = lambda tci, pn=9: bytes(12) + b"\x88\xe5" + bytes([tci, 0]) + struct.pack(">I", pn) + other + bytes(64)
-        yield "set_validation", (2, CONSTANTS["MODE_DISABLED"])
-        yield "get_options", (2,)
+        named = {"own": own, "other": other, "next": tagged(0x20), "late": tagged(0x20, 8)}
+        yield from self.calls("set_validation MODE_DISABLED; get_options")
         for length, offset in ((16, 31), (17, 0), (32, 0), (16, 0), (16, 0)):
             yield "install_key", (2, self.keys[5], self.SALT, 1, 1, 0, length, offset)
-        for sci in (own, other, other):
-            yield "add_rx_sc", (2, sci)
-        for number in (1, 0):
-            yield "add_rx_sa", (2, other, 0, number, 9, 0)
-        yield "receive", (2, tagged(0x20))
-        yield "enable_rx_sa", (2, other, 0)
-        yield "receive", (2, tagged(0x20))
-        yield "receive", (2, tagged(0x20, 8))
-        yield "set_replay", (2, 0, 0)
-        for frame in (tagged(0x20, 8), tagged(0x28), tagged(0x2C), tagged(0xA0), bytes(60)):
-            yield "receive", (2, frame)
-        yield "set_validation", (2, CONSTANTS["MODE_CHECK"])
-        yield "get_options", (2,)
-        yield "set_validation", (2, CONSTANTS["MODE_STRICT"] + 1)
-        yield "set_validation", (2, CONSTANTS["MODE_STRICT"])
-        yield "receive", (2, bytes(60))
-        yield "disable_rx_sa", (2, other, 0)
-        yield "receive", (2, tagged(0x20))
-        yield "delete_rx_sa", (2, other, 0)
-        yield "delete_rx_sc", (2, other)
-        yield "delete_rx_sc", (2, other)
+        text = """add_rx_sc own; add_rx_sc other; add_rx_sc other; add_rx_sa other 0 1 9 0; add_rx_sa other 0 0 9 0;
+            receive next; enable_rx_sa other 0; receive next; receive late; set_replay 0 0"""
+        yield from self.calls(text, **named)
+        yield from self.each("receive", [named["late"], *map(tagged, (0x28, 0x2C, 0xA0)), bytes(60)])
+        text = """set_validation MODE_CHECK; get_options; set_validation 3; set_validation MODE_STRICT; receive *60;
+            disable_rx_sa other 0; receive next; delete_rx_sa other 0; delete_rx_sc other; delete_rx_sc other"""
+        yield from self.calls(text, **named)
 
     def rarely_sent(self):
         """Options of sending, transmit associations, and frames of the shortest length and below."""
-        yield "set_tag_form", (2, CONSTANTS["FORM_SCB"] + 1)
-        yield "set_tag_form", (2, CONSTANTS["FORM_ES"])
-        yield "set_replay", (2, 1, 2**32)
-        yield "enable_tx_sa", (2, 0)
-        for an, number in ((4, 0), (0, 4096), (0, 0), (1, 0)):
-            yield "add_tx_sa", (2, an, number, 1, 0)
-        yield "retire_key", (2, 0)
-        yield "disable_tx_sa", (2, 0)
-        yield "send", (2, bytes(60))
-        yield "send", (2, bytes(13))
-        yield "set_protect", (2, 0)
-        yield "send", (2, bytes(60))
-        yield "get_rx_sc", (2, 0)
+        yield from self.calls(
+            """set_tag_form 4; set_tag_form FORM_ES; set_replay 1 4294967296; enable_tx_sa 0;
+            add_tx_sa 4 0 1 0; add_tx_sa 0 4096 1 0; add_tx_sa 0 0 1 0; add_tx_sa 1 0 1 0; retire_key 0;
+            disable_tx_sa 0; send *60; send *13; set_protect 0; send *60; get_rx_sc 0"""
+        )

@@ -9,8 +9,8 @@ Of each input it asks: the command ends within 3 seconds of processor time, or 2
 memory at most, by one of its statuses and not by an exception; what it prints has no control characters, and what it
 says on standard error no key; beside OUT no file is left. Input number N of a seed is the same on every machine.
 
-It needs the library for C (--library, build/libmacsec.so.1) and Linux. From 2,000 inputs on, each command must also have
-ended in each of its ways (WAYS). The status is 1 if anything is wrong.
+It needs the library for C (--library, build/libmacsec.so.1) and Linux. From 2,000 inputs on, each command must also
+have ended in each of its ways (WAYS). The status is 1 if anything is wrong.
 """
 
 from __future__ import annotations
@@ -39,6 +39,7 @@ from typing import NamedTuple
 
 sys.dont_write_bytecode = True
 import blocks
+import captures
 
 ROOT = pathlib.Path(__file__).resolve().parent.parent
 # Without it the commands take no CAK.
@@ -69,12 +70,15 @@ SHOWN = [
         "ifname": "macsec0", "protect": True, "validate": "strict", "encrypt": True, "send_sci": True, "replay": True,
         "window": 32, "cipher_suite": "GCM-AES-128", "sci": "0200000000010001", "encoding_sa": 0,
         "sa_list": [{"an": 0, "pn": 1, "active": True, "key": "0" * 32}],
-        "rx_sc": [{"sci": "0200000000020001", "active": True, "sa_list": [{"an": 1, "pn": 7, "ssci": 1, "key": "0" * 32}]}],
+        "rx_sc": [
+            {"sci": "0200000000020001", "active": True, "sa_list": [{"an": 1, "pn": 7, "ssci": 1, "key": "0" * 32}]}
+        ],
     }
 ]  # fmt: skip
 ODD = [
     "", "-1", "0", "0x", "4294967296", "18446744073709551616", "9" * 5000, "f" * 40, "\x1b]0,a\x07", "\x9b", "\x00",
-    "\u0663", "\xff", "'", '"', "\\", "#", ";", "[" * 3000, "{" * 3000, "a" * 9000, "(" * 9000, KEY, f"{KEY}x", "/dev/null",
+    "\u0663", "\xff", "'", '"', "\\", "#", ";", "[" * 3000, "{" * 3000, "a" * 9000, "(" * 9000, KEY, f"{KEY}x",
+    "/dev/null",
 ]  # fmt: skip
 
 
@@ -114,7 +118,6 @@ def altered(rng: random.Random, octets: bytes) -> bytes:
 
 
 def text_of(rng: random.Random, text: str) -> bytes:
-    """A text with some words and lines changed."""
     lines = text.split("\n")
     for _ in range(rng.choice((0, 1, 1, 2, 4, 8))):
         at = rng.randrange(len(lines))
@@ -143,23 +146,9 @@ def text_of(rng: random.Random, text: str) -> bytes:
 
 
 def odd_value(rng: random.Random, depth: int = 3) -> object:
-    simple: list[object] = [
-        None,
-        True,
-        -1,
-        2**70,
-        1.5,
-        float("inf"),
-        "",
-        "x",
-        "\x1b[2J",
-        "f" * 40,
-        "0" * 32,
-        KEY,
-        "on",
-    ]
+    odd: list[object] = [None, True, -1, 2**70, 1.5, float("inf"), "", "x", "\x1b[2J", "f" * 40, "0" * 32, KEY, "on"]
     if not depth or rng.randrange(4):
-        return rng.choice(simple)
+        return rng.choice(odd)
     return [odd_value(rng, depth - 1)] if rng.randrange(2) else {"an": odd_value(rng, depth - 1)}
 
 
@@ -192,12 +181,7 @@ def capture_of(rng: random.Random, files: list[tuple[str, bytes]]) -> bytes:
     """A capture file, most of them with frames of the examples."""
     octets = rng.choice(files)[1]
     if rng.randrange(2):
-        frames = []
-        at = 24
-        while at < len(octets):
-            size = int.from_bytes(octets[at + 8 : at + 12], "little")
-            frames.append(octets[at + 16 : at + 16 + size])
-            at += 16 + size
+        frames = [frame for *_, frame in captures.read_records(octets, "<") if frame is not None]
         octets = blocks.made_file(rng, frames, bool(rng.randrange(2)))
         if rng.randrange(3) == 0:
             return octets + short_block(rng)
@@ -208,8 +192,6 @@ def capture_of(rng: random.Random, files: list[tuple[str, bytes]]) -> bytes:
 
 
 class Corpus:
-    """What inputs are made from."""
-
     def __init__(self) -> None:
         self.captures = [(it.name, it.read_bytes()) for it in sorted(CAPTURES.glob("*.pcap"))]
         self.configs = [it.read_text() for it in sorted(CAPTURES.glob("*.config"))]
@@ -224,9 +206,8 @@ class Corpus:
         key = rng.choice((KEY, KEY, f"{KEY}:{SALT}", f"/0={KEY}"))
         config = text_of(rng, rng.choice(self.configs))
         if way == "decrypt":
-            keys = (
-                text_of(rng, f"# a key\n{key}\n\n{KEY}:{SALT}:00000001\n") if rng.randrange(2) else f"{key}\n".encode()
-            )
+            several = f"# a key\n{key}\n\n{KEY}:{SALT}:00000001\n"
+            keys = text_of(rng, several) if rng.randrange(2) else f"{key}\n".encode()
             words = ["decrypt", "IN", "OUT", "--keys", "TEXT", *rng.choice(([], ["--json"], ["--only-opened"]))]
             return Input(way, words, {"IN": capture_of(rng, self.captures), "TEXT": keys})
         if way == "--cak-file":
@@ -380,10 +361,8 @@ def main() -> int:
     for number, way, _, fault in wrong[:20]:
         print(f"input {number} of seed {asked.seed}, {way}: {fault}")
     ended = Counter((way, status) for _, way, status, _ in told)
-    missed = [
-        f"{way}: no input ended with status {it}" for way, all_ in WAYS.items() for it in all_ if not ended[way, it]
-    ]
-    missed = missed if asked.inputs >= 2000 else []
+    unmet = [(way, it) for way, all_ in WAYS.items() for it in all_ if not ended[way, it]]
+    missed = [f"{way}: no input ended with status {it}" for way, it in unmet] if asked.inputs >= 2000 else []
     print("\n".join([*missed, f"readers: {len(told)} inputs, {len(wrong)} wrong"]))
     return 1 if wrong or missed or len(told) != asked.inputs else 0
 

@@ -49,27 +49,33 @@ class Options(ctypes.Structure):
 
 
 class Counters(ctypes.Structure):
+    # made: endpoint-counters of tools/families.json
     _fields_ = [
         ("in_pkts_untagged", c_uint64), ("in_pkts_no_tag", c_uint64), ("in_pkts_bad_tag", c_uint64),
         ("in_pkts_reserved", c_uint64), ("in_pkts_no_sa", c_uint64), ("in_pkts_no_sa_error", c_uint64),
         ("in_octets_validated", c_uint64), ("in_octets_decrypted", c_uint64), ("out_pkts_untagged", c_uint64),
         ("out_pkts_too_long", c_uint64), ("out_pkts_no_sa", c_uint64), ("reserved", c_uint64 * 5),
     ]  # fmt: skip
+    # end
 
 
 class TxCounters(ctypes.Structure):
+    # made: tx-counters of tools/families.json
     _fields_ = [
         ("out_pkts_protected", c_uint64), ("out_pkts_encrypted", c_uint64), ("out_octets_protected", c_uint64),
         ("out_octets_encrypted", c_uint64), ("reserved", c_uint64 * 4),
     ]  # fmt: skip
+    # end
 
 
 class RxCounters(ctypes.Structure):
+    # made: rx-counters of tools/families.json
     _fields_ = [
         ("in_pkts_ok", c_uint64), ("in_pkts_unchecked", c_uint64), ("in_pkts_delayed", c_uint64),
         ("in_pkts_late", c_uint64), ("in_pkts_invalid", c_uint64), ("in_pkts_not_valid", c_uint64),
         ("reserved", c_uint64 * 10),
     ]  # fmt: skip
+    # end
 
 
 class TxSa(ctypes.Structure):

@@ -7,16 +7,11 @@ from collections.abc import Iterator, Sequence
 
 from .endpoint_of_config import Configuration, KeyLine
 from .frames import SecTag
-from .names import Suite
+from .names import SUITES, suite_of
 from .settings import Change, Option, Setting
 from .trial import Key, KeyArgument
 
-_TWINS = {
-    Suite.gcm128: Suite.xpn128,
-    Suite.xpn128: Suite.gcm128,
-    Suite.gcm256: Suite.xpn256,
-    Suite.xpn256: Suite.gcm256,
-}
+_TWINS = {it: suite_of(it.key_octets, not it.is_extended) for it in SUITES}
 UPPER_HALVES, _FEW_UPPER_HALVES = 256, 8
 SSCIS, _FEW_SSCIS, _FEW_SCIS = 16, 4, 8
 WIDE, _TOGETHER = 65_536, 2_048
@@ -27,7 +22,7 @@ _BROADCAST = b"\xff" * 6
 
 @dataclasses.dataclass
 class Shown:
-    """What a capture and the options show: SCIs, addresses, SSCIs and upper halves, each in the order in which it came."""
+    """What a capture and the options show: SCIs, addresses, SSCIs and upper halves, each in the order of its coming."""
 
     scis: dict[bytes, None] = dataclasses.field(default_factory=dict)
     addresses: dict[bytes, None] = dataclasses.field(default_factory=dict)
@@ -92,7 +87,10 @@ class Alternatives:
                 (Change("key", f"{it.name} in place of {base.key.name}", line), {"key": it})
                 for it in self.keys(base.an) if it.octets != base.key.octets
             ],
-            "sci": [(_sci(it, base, line), {"sci": it}) for it in self._scis(base, frame, tag)[:most] if it != base.sci],
+            "sci": [
+                (_sci(it, base, line), {"sci": it})
+                for it in self._scis(base, frame, tag)[:most] if it != base.sci
+            ],
             "suite": [
                 (Change("suite", f"suite {twin.name}, not {base.key.suite.name}", of_key), {"suite": twin})
             ],
@@ -165,8 +163,8 @@ def _sci(sci: bytes, base: Setting, line: int | None) -> Change:
 
 def _iv_sci(sci: bytes, base: Setting, tag: SecTag) -> Change:
     bit = "ES" if tag.tci & 0x40 else "SCB"
-    text = f"the IV has SCI {sci.hex()}, the tag means {base.sci.hex()} by {bit}: no receiver opens it; send the SCI in the tag"
-    return Change("iv-sci", text)
+    text = f"the IV has SCI {sci.hex()}, the tag means {base.sci.hex()} by {bit}: no receiver opens it"
+    return Change("iv-sci", f"{text}; send the SCI in the tag")
 
 
 def _upper(upper: int, base: Setting, line: int | None) -> Change:

@@ -7,7 +7,7 @@ from typing import NamedTuple
 
 from .errors import Refused, UsageError, error
 from .grammar import Command, parse
-from .names import Suite
+from .names import SUITES, Suite, suite_of
 from .secy import Received, RxSa, SecY
 
 
@@ -36,9 +36,7 @@ class Refusal(NamedTuple):
     message: str
 
 
-_OTHER_LENGTH = {
-    Suite.gcm128: Suite.gcm256, Suite.gcm256: Suite.gcm128, Suite.xpn128: Suite.xpn256, Suite.xpn256: Suite.xpn128,
-}  # fmt: skip
+_OTHER_LENGTH = {it: suite_of(32 if it.key_octets == 16 else 16, it.is_extended) for it in SUITES}
 
 
 def key_line(command: Command, default: Suite) -> KeyLine:

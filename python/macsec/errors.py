@@ -7,6 +7,7 @@ import re
 from .names import Status
 
 MEANINGS = {
+    # made: meanings of tools/families.json
     Status.KeyLength: "the key has another length than its suite's keys",
     Status.Offset: "the suite's keys have no such confidentiality offset",
     Status.KeyNumberUsed: "a key of this number was installed before",
@@ -54,6 +55,8 @@ MEANINGS = {
     Status.Job: "the slot has no such job, or it has a frame already",
     Status.OtherKey: "the key is not the one that the job needs",
     Status.Space: "the buffer is too small for the frame",
+    Status.NoSuchCommand: "the number names no kind of command",
+    # end
 }
 
 

@@ -10,6 +10,7 @@ import difflib
 from collections.abc import Sequence
 from typing import Any, Callable, NamedTuple
 
+from . import names
 from .errors import without_keys
 
 MOST_OCTETS, MOST_LINES, LONGEST_LINE = 1_048_576, 65_536, 20_000
@@ -48,10 +49,7 @@ class _Wrong(Exception):
 
 Reader = Callable[[str, int], Any]
 
-_OTHER_NAMES = {
-    "gcm-aes-128": "gcm128", "gcm-aes-256": "gcm256", "gcm-aes-xpn-128": "xpn128", "gcm-aes-xpn-256": "xpn256",
-    "default": "gcm128",
-}  # fmt: skip
+_OTHER_NAMES = {**{it.in_ip: it.name for it in names.SUITES}, "default": "gcm128"}
 
 
 def _quoted(word: str) -> str:
@@ -109,11 +107,8 @@ def _packet_number(word: str, at: int) -> int:
     return int(word, 16)
 
 
-SUITES, FORMS, MODES = (
-    ("gcm128", "gcm256", "xpn128", "xpn256"),
-    ("auto", "sci", "es", "scb"),
-    ("disabled", "check", "strict"),
-)
+SUITES = tuple(it.name for it in names.SUITES)
+FORMS, MODES = ("auto", "sci", "es", "scb"), ("disabled", "check", "strict")
 _SWITCH, _SUITE, _FORM = _one_of("on", "off"), _one_of(*SUITES), _one_of(*FORMS)
 _AN, _N, _SCI, _SSCI, _SALT = _decimal(0, 3), _decimal(0, 4095), _hex(8), _hex(4), _hex(12)
 _KEY = (_N, _hex(16, 32), _decimal(0, 255))

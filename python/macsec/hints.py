@@ -1,4 +1,4 @@
-"""What was tried for the frames that do not open, what was not, and what to give: a hint for each sender and tag form."""
+"""What was tried for the frames that do not open, what was not, and what to give: hints by sender and tag form."""
 
 from __future__ import annotations
 
@@ -7,14 +7,14 @@ from collections.abc import Sequence
 
 from . import attempts
 from .attempts import Frame, Keys
-from .names import Suite
+from .names import SUITES, Suite, suite_of
 from .summary import frames_text, ranges
 from .trial import Key, KeyArgument
 
 _MALFORMED = ("BadTag", "Reserved", "Short", "Long")
 _KEY_OR_SALT = "another key or salt"
 _MOST_GROUPS, _MOST_LINES = 256, 16
-_XPN_OF = {Suite.gcm128: Suite.xpn128, Suite.gcm256: Suite.xpn256}
+_XPN_OF = {it: suite_of(it.key_octets, True) for it in SUITES if not it.is_extended}
 
 
 @dataclasses.dataclass

@@ -9,15 +9,12 @@ from collections.abc import Sequence
 from typing import Any
 
 from .errors import UsageError, without_keys
-from .names import Suite
+from .names import SUITES, Suite
 from .plan import Plan, PlannedSa
 from .trial import KeyArgument
 
-CIPHERS = {
-    "default": Suite.gcm128, "gcm-aes-128": Suite.gcm128, "gcm-aes-256": Suite.gcm256,
-    "gcm-aes-xpn-128": Suite.xpn128, "gcm-aes-xpn-256": Suite.xpn256,
-}  # fmt: skip
-_NAMES = {suite: name for name, suite in CIPHERS.items() if name != "default"}
+CIPHERS = {"default": Suite.gcm128, **{it.in_ip: it for it in SUITES}}
+_NAMES = {it: it.in_ip for it in SUITES}
 # What a text of others can raise that is not as it should be. RecursionError: JSON that is nested too deeply.
 _FAULTS = (ValueError, LookupError, TypeError, AttributeError, OverflowError, RecursionError)
 # No command of `ip` has more characters. The time that shlex takes for a word grows with the square of its length.

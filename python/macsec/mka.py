@@ -6,7 +6,7 @@ from __future__ import annotations
 from typing import NamedTuple
 
 from .frames import vlan_octets
-from .names import Suite
+from .names import SUITES, Suite
 
 EAPOL = b"\x88\x8e"
 ICV_OCTETS = 16
@@ -15,11 +15,7 @@ AGILITY = bytes.fromhex("0080c201")
 _HEAD, _PACKET_TYPE, _BASIC_OCTETS, _PEER_OCTETS = 18, 5, 28, 16
 _LIVE, _SAK_USE, _DISTRIBUTED_SAK, _XPN, _ICV = 1, 3, 4, 8, 255
 # The identifiers of 802.1AE-2018, Table 14-1, and the one of 802.1AE-2006, which wpa_supplicant sends.
-_SUITES = {
-    bytes.fromhex("0080c20001000001"): Suite.gcm128, bytes.fromhex("0080c20001000002"): Suite.gcm256,
-    bytes.fromhex("0080c20001000003"): Suite.xpn128, bytes.fromhex("0080c20001000004"): Suite.xpn256,
-    bytes.fromhex("0080020001000001"): Suite.gcm128,
-}  # fmt: skip
+_SUITES = {**{it.identifier: it for it in SUITES}, bytes.fromhex("0080020001000001"): Suite.gcm128}
 # The confidentiality offset by its number; 0 is integrity alone.
 _OFFSETS = (0, 0, 30, 50)
 

@@ -27,6 +27,7 @@ class _Number(IntEnum):
 class Status(_Number):
     """Why the library did nothing. 1 to 20 are the refusals of commands."""
 
+    # made: statuses of tools/families.json
     OK = 0
     KeyLength = 1
     Offset = 2
@@ -75,26 +76,61 @@ class Status(_Number):
     Job = 56
     OtherKey = 57
     Space = 58
+    NoSuchCommand = 59
+    # end
 
 
 class Suite(IntEnum):
     """A cipher suite (clause 14). `default` is the suite of the endpoint, for keys alone."""
 
+    # made: suites of tools/families.json
     default = 0
     gcm128 = 1
     gcm256 = 2
     xpn128 = 3
     xpn256 = 4
+    # end
 
     @property
     def is_extended(self) -> bool:
         """Do its packet numbers have 64 bits?"""
-        return self in (Suite.xpn128, Suite.xpn256)
+        return bool(self) and _OF_SUITES[self][1]
 
     @property
     def key_octets(self) -> int:
         """The length of its keys."""
-        return 32 if self in (Suite.gcm256, Suite.xpn256) else 16
+        return _OF_SUITES[self][0] if self else 16
+
+    @property
+    def in_ip(self) -> str:
+        """Its name in `ip macsec`."""
+        return _OF_SUITES[self][2]
+
+    @property
+    def identifier(self) -> bytes:
+        """Its identifier in key agreements (802.1AE-2018, Table 14-1)."""
+        return bytes.fromhex(_OF_SUITES[self][3])
+
+
+# Each suite's octets of a key, whether its packet numbers are extended, its name in `ip` and its identifier.
+# made: of-suites of tools/families.json
+_OF_SUITES = {
+    Suite.gcm128: (16, False, "gcm-aes-128", "0080c20001000001"),
+    Suite.gcm256: (32, False, "gcm-aes-256", "0080c20001000002"),
+    Suite.xpn128: (16, True, "gcm-aes-xpn-128", "0080c20001000003"),
+    Suite.xpn256: (32, True, "gcm-aes-xpn-256", "0080c20001000004"),
+}
+# end
+SUITES = tuple(_OF_SUITES)
+
+
+def suite_of(key_octets: int, is_extended: bool) -> Suite:
+    """The suite with keys of this length whose packet numbers are extended or not.
+
+    >>> suite_of(16, True)
+    <Suite.xpn128: 3>
+    """
+    return next(it for it in SUITES if (it.key_octets, it.is_extended) == (key_octets, is_extended))
 
 
 class Form(IntEnum):
@@ -117,11 +153,13 @@ class Mode(IntEnum):
 class Fate(_Number):
     """What becomes of a client frame (10.5)."""
 
+    # made: fates of tools/families.json
     Protected = 1
     Plain = 2
     NoSA = 3
     TooLong = 4
     NoReservation = 5
+    # end
 
 
 class Verdict(_Number):
@@ -131,6 +169,7 @@ class Verdict(_Number):
     frame whose packet number is not reserved yet (`NoReservation`), or that an earlier run had reserved (`EarlierRun`).
     """
 
+    # made: verdicts of tools/families.json
     Untagged = 1
     NoTag = 2
     BadTag = 3
@@ -145,12 +184,15 @@ class Verdict(_Number):
     OK = 12
     NoReservation = 13
     EarlierRun = 14
+    # end
 
 
 # The order of each structure of counters in include/macsec.h.
+# made: counters of tools/families.json
 ENDPOINT_COUNTERS = (
     "InPktsUntagged", "InPktsNoTag", "InPktsBadTag", "InPktsReserved", "InPktsNoSA", "InPktsNoSAError",
     "InOctetsValidated", "InOctetsDecrypted", "OutPktsUntagged", "OutPktsTooLong", "OutPktsNoSA",
 )  # fmt: skip
 TX_COUNTERS = ("OutPktsProtected", "OutPktsEncrypted", "OutOctetsProtected", "OutOctetsEncrypted")
 RX_COUNTERS = ("InPktsOK", "InPktsUnchecked", "InPktsDelayed", "InPktsLate", "InPktsInvalid", "InPktsNotValid")
+# end

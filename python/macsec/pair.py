@@ -23,7 +23,8 @@ _FILE = """\
 # The keys were made for these two files. Never use them elsewhere, nor with a journal that was lost or restored.
 """
 _COMMANDS = """\
-# {name}, whose peer is {peer}: the macsec device of Linux, made by `ip -batch {name}.batch`. Run that once: run again, or
+# {name}, whose peer is {peer}: the macsec device of Linux, made by `ip -batch {name}.batch`. Run that once: \
+run again, or
 # after a restart of this host, it would use packet numbers again under the same key, which breaks AES-GCM. Make a new
 # pair then.
 """
@@ -59,10 +60,9 @@ def plan_of_pair(one: End, other: End, suite: Suite = Suite.gcm128, mtu: int = 1
     """The first of two ends. It has a random key for each direction, and encrypts."""
     if one.name == other.name or one.address == other.address:
         raise UsageError("--pair: the two ends need different names and addresses")
-    length = 32 if suite in (Suite.gcm256, Suite.xpn256) else 16
     salt = secrets.token_bytes(12) if suite.is_extended else bytes(12)
     own, peer = (1, 2) if suite.is_extended else (0, 0)
-    keys = [PlannedKey(secrets.token_bytes(length), salt=salt, ssci=own) for _ in range(2)]
+    keys = [PlannedKey(secrets.token_bytes(suite.key_octets), salt=salt, ssci=own) for _ in range(2)]
     plan = Plan(one.sci, suite, "sci", mtu + 14, encrypt=True, keys=keys, encoding=0)
     plan.tx[0] = PlannedSa(0, ssci=own)
     plan.rx[other.sci] = {0: PlannedSa(1, ssci=peer)}

@@ -6,7 +6,7 @@ import itertools
 from typing import NamedTuple
 
 from .errors import MacsecError, UsageError
-from .names import Suite, Verdict
+from .names import Suite, Verdict, suite_of
 from .secy import Received, SecY
 
 # Verdicts on frames that were opened: the ICV is valid.
@@ -106,13 +106,13 @@ def of_iv(key: Key, sci: bytes) -> Key:
     '020000010001000500000000'
     """
     assert not key.suite.is_extended and not key.offset
-    suite = Suite.xpn128 if key.suite == Suite.gcm128 else Suite.xpn256
+    suite = suite_of(key.suite.key_octets, True)
     return key._replace(suite=suite, salt=bytes([*sci[:3], sci[3] ^ 1, *sci[4:], 0, 0, 0, 0]))
 
 
 class IvTrial(Trial):
-    """A trial for tags with ES or SCB whose IVs have another SCI. No receiver of the standard opens such frames. Each is
-    opened as a first one: packet numbers have 32 bits."""
+    """A trial for tags with ES or SCB whose IVs have another SCI. No receiver of the standard opens such frames. Each
+    is opened as a first one: packet numbers have 32 bits."""
 
     def __init__(self, key: Key, sci: bytes, meant: bytes, an: int) -> None:
         super().__init__(of_iv(key, sci), meant, an, 1)
@@ -190,9 +190,8 @@ class KeyArgument(NamedTuple):
             return (self.suite,) if asked in (None, self.suite) else ()
         if asked is not None:
             return (asked,) if asked.key_octets == len(self.octets) else ()
-        if len(self.octets) == 16:
-            return (Suite.gcm128,) if self.salt is None else (Suite.xpn128, Suite.gcm128)
-        return (Suite.gcm256,) if self.salt is None else (Suite.xpn256, Suite.gcm256)
+        octets = 16 if len(self.octets) == 16 else 32
+        return tuple(suite_of(octets, it) for it in ((False,) if self.salt is None else (True, False)))
 
 
 def _hex(text: str, what: str, *lengths: int) -> bytes:

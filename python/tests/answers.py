@@ -5,6 +5,7 @@ fuzz/calls.py gives it random calls, and compares the answers with those that it
 
 from __future__ import annotations
 
+import pathlib
 import sys
 from typing import Callable
 
@@ -12,6 +13,11 @@ from macsec import MacsecError, SecY, journal_compacted, journal_header, sealing
 from macsec.errors import error
 from macsec.names import ENDPOINT_COUNTERS, RX_COUNTERS, TX_COUNTERS
 from macsec.secy import sak_of
+
+sys.path.insert(0, str(pathlib.Path(__file__).resolve().parents[2] / "fuzz"))
+from handles import UNSHOWN  # noqa: E402
+
+sys.path.pop(0)
 
 handles: list[SecY | None] = [None] * 4
 EMPTY, TAKEN, NOT_FOUND, MEMORY, ANSWER_LONG = 32, 33, 40, 41, 55
@@ -54,14 +60,6 @@ def shown_record(record: bytes | None) -> str:
     return f" {record.hex()}"
 
 
-def wanted(it: SecY, an: str, amount: str) -> str:
-    return shown_record(it.reserve_wanted(int(an), int(amount)))
-
-
-def to_accept(it: SecY, sci: str, an: str, amount: str, pn: str) -> str:
-    return shown_record(it.reserve_to_accept(sci, int(an), int(amount), int(pn)))
-
-
 def seal(*words: str) -> tuple[str, int]:
     key, salt, ssci, suite, number, length, offset, sci, pn, conf, head, frame = words
     sak = sak_of(
@@ -100,16 +98,6 @@ def rx_sa(it: SecY, sci: str, an: str) -> str:
     return f" {wide(sa.next)} {wide(sa.lowest)} {sa.ssci} {sa.key} {int(sa.on)}"
 
 
-def done(call: Callable[..., object]) -> Callable[..., str]:
-    """A call that shows nothing."""
-
-    def made(*arguments: object) -> str:
-        call(*arguments)
-        return ""
-
-    return made
-
-
 def answered(it: SecY | None, number: str, line: str, room: str) -> tuple[str, int]:
     """The answer to a line, with octets of 7 where nothing is written."""
     size = int(room)
@@ -120,28 +108,28 @@ def answered(it: SecY | None, number: str, line: str, room: str) -> tuple[str, i
     return f" {length} {hex_of(text + bytes([7]) * (size - len(text)))}", status
 
 
+# The calls that show nothing, and their arguments.
+PLAIN = """send_uncontrolled octets; set_protect flag; set_validation int; set_replay flag int; set_tag_form int;
+    retire_key int; add_tx_sa int int int flag; enable_tx_sa int; disable_tx_sa int; delete_tx_sa int; add_rx_sc str;
+    delete_rx_sc str; add_rx_sa str int int int int; enable_rx_sa str int; disable_rx_sa str int;
+    set_lowest_pn str int int; delete_rx_sa str int; reserve_granted octets"""
+READ: dict[str, Callable[[str], object]] = {"int": int, "str": str, "octets": octets, "flag": lambda it: it != "0"}
+
+
+def plain(name: str, kinds: list[str]) -> Callable[..., str]:
+    def call(it: SecY, *words: str) -> str:
+        getattr(it, name)(*(READ[kind](word) for kind, word in zip(kinds, words)))
+        return ""
+
+    return call
+
+
 CALLS: dict[str, Callable[..., str]] = {
+    **{name: plain(name, kinds) for name, *kinds in map(str.split, PLAIN.split(";"))},
     "send": send,
     "receive": receive,
-    "send_uncontrolled": done(lambda it, frame: it.send_uncontrolled(octets(frame))),
-    "command_line": done(lambda it, line: it.command(octets(line))),
-    "set_protect": done(lambda it, on: it.set_protect(on != "0")),
-    "set_validation": done(lambda it, mode: it.set_validation(int(mode))),
-    "set_replay": done(lambda it, on, window: it.set_replay(on != "0", int(window))),
-    "set_tag_form": done(lambda it, form: it.set_tag_form(int(form))),
+    "command_line": lambda it, line: it.command(octets(line)) or "",
     "install_key": install_key,
-    "retire_key": done(lambda it, key: it.retire_key(int(key))),
-    "add_tx_sa": done(lambda it, an, key, pn, conf: it.add_tx_sa(int(an), int(key), int(pn), conf != "0")),
-    "enable_tx_sa": done(lambda it, an: it.enable_tx_sa(int(an))),
-    "disable_tx_sa": done(lambda it, an: it.disable_tx_sa(int(an))),
-    "delete_tx_sa": done(lambda it, an: it.delete_tx_sa(int(an))),
-    "add_rx_sc": done(lambda it, sci: it.add_rx_sc(sci)),
-    "delete_rx_sc": done(lambda it, sci: it.delete_rx_sc(sci)),
-    "add_rx_sa": done(lambda it, sci, an, key, pn, ssci: it.add_rx_sa(sci, int(an), int(key), int(pn), int(ssci))),
-    "enable_rx_sa": done(lambda it, sci, an: it.enable_rx_sa(sci, int(an))),
-    "disable_rx_sa": done(lambda it, sci, an: it.disable_rx_sa(sci, int(an))),
-    "set_lowest_pn": done(lambda it, sci, an, pn: it.set_lowest_pn(sci, int(an), int(pn))),
-    "delete_rx_sa": done(lambda it, sci, an: it.delete_rx_sa(sci, int(an))),
     "get_options": options,
     "keys_left": lambda it: f" {it.keys_left()}",
     "get_counters": lambda it: counters(it.counters(), ENDPOINT_COUNTERS),
@@ -152,10 +140,9 @@ CALLS: dict[str, Callable[..., str]] = {
     "get_rx_sc": lambda it, place: f" {it.rx_sc(int(place)).hex()}",
     "get_tx_sa": tx_sa,
     "get_rx_sa": rx_sa,
-    "reserve_wanted": wanted,
-    "reserve_to_accept": to_accept,
+    "reserve_wanted": lambda it, an, amount: shown_record(it.reserve_wanted(int(an), int(amount))),
+    "reserve_to_accept": lambda it, sci, *numbers: shown_record(it.reserve_to_accept(sci, *map(int, numbers))),
     "reserve_to_save": lambda it, sci, an: f" {it.reserve_to_save(sci, int(an)).hex()}",
-    "reserve_granted": done(lambda it, record: it.reserve_granted(octets(record))),
     "reserve_tx_floor": lambda it, key: f" {it.reserve_tx_floor(int(key))}",
     "reserve_rx_floor": lambda it, sci, an, key: f" {it.reserve_rx_floor(sci, int(an), int(key))}",
 }
@@ -165,17 +152,6 @@ FREE_CALLS: dict[str, Callable[..., tuple[str, int]]] = {
     "journal_header": lambda salt: (f" {journal_header(octets(salt)).hex()}", 0),
     "journal_compacted": compacted,
 }
-# What fuzz/calls.c shows if a call does nothing: the values before it.
-UNSHOWN = {
-    "send": " 0 0 -", "receive": f" 0 0 {'00' * 8} 0 0 0 -", "get_options": " 7 7 7 0 0", "keys_left": " 7",
-    "get_counters": " 7" * 11, "get_tx_counters": " 7" * 4, "get_rx_counters": " 7" * 6, "get_rx_sa_counters": " 7" * 6,
-    "get_removed_counters": " 7" * 6, "get_rx_sc": " " + "07" * 8, "get_tx_sa": f" {wide(7 << 64 | 7)} 7 0 0",
-    "get_rx_sa": f" {wide(7 << 64 | 7)} {wide(7 << 64 | 7)} 7 7 0", "reserve_wanted": " " + "07" * 64,
-    "reserve_to_accept": " " + "07" * 64, "reserve_to_save": " " + "07" * 64, "reserve_tx_floor": " 7",
-    "reserve_rx_floor": " 7",
-}  # fmt: skip
-
-
 MAKES = ("new", "configure", "reserve_open", "reserve_configure")
 
 

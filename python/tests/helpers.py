@@ -11,10 +11,10 @@ import unittest
 from collections.abc import Iterator, Sequence
 from typing import Callable
 
-from macsec import SecY, Suite, capture
+from macsec import capture
 
 ROOT = pathlib.Path(__file__).resolve().parent.parent.parent
-CAPTURES = ROOT / "examples" / "captures"
+CAPTURES, DATA = ROOT / "examples" / "captures", ROOT / "python" / "tests" / "data"
 SENDER, OTHER, RECEIVER = "0200000000010001", "0200000000020001", "0200000000030001"
 KEYS = [bytes.fromhex(it) for it in (
     "ad7a2bd03eac835a6f620fdcb506b345", "000102030405060708090a0b0c0d0e0f", "101112131415161718191a1b1c1d1e1f",
@@ -23,31 +23,6 @@ KEYS = [bytes.fromhex(it) for it in (
 LONG_KEY = bytes(range(64, 96))
 SALT = bytes.fromhex("a0a1a2a3a4a5a6a7a8a9aaab")
 START = 1_700_000_000 * 10**9
-
-
-def client_frames(count: int, source: str = SENDER, length: int = 100) -> list[bytes]:
-    """Frames of a client, all different. The EtherType is one for experiments."""
-    head = bytes.fromhex("02000000000f") + bytes.fromhex(source)[:6] + b"\x88\xb5"
-    return [head + bytes([number]) * (length - 14) for number in range(count)]
-
-
-def sender(
-    suite: Suite = Suite.gcm128, sci: str = SENDER, key: bytes = KEYS[0], an: int = 0, pn: int = 1, offset: int = 0,
-    ssci: int = 1, form: str = "sci", conf: bool = True,
-) -> SecY:  # fmt: skip
-    """An endpoint that sends."""
-    it = SecY(sci, suite, form)
-    extended = {"ssci": ssci, "salt": SALT} if suite.is_extended else {}
-    it.install_key(0, key, offset=offset, **extended)  # type: ignore[arg-type]
-    it.add_tx_sa(an, 0, pn, conf)
-    it.enable_tx_sa(an)
-    return it
-
-
-def protected(frames: Sequence[bytes], **how: object) -> list[bytes]:
-    """What a sender sends for some frames."""
-    with sender(**how) as it:  # type: ignore[arg-type]
-        return [sent.frame for sent in map(it.send, frames) if sent.frame is not None]
 
 
 def main_of(main: Callable[[Sequence[str]], int], *words: object) -> tuple[int, str, str]:
@@ -62,8 +37,6 @@ def main_of(main: Callable[[Sequence[str]], int], *words: object) -> tuple[int, 
 
 
 class InFolder(unittest.TestCase):
-    """A test with its own folder."""
-
     def setUp(self) -> None:
         room = tempfile.TemporaryDirectory()
         self.addCleanup(room.cleanup)
@@ -87,7 +60,6 @@ class InFolder(unittest.TestCase):
 
 @contextlib.contextmanager
 def environment(**values: str) -> Iterator[None]:
-    """Variables of the environment for a while."""
     before = dict(os.environ)
     os.environ.update(values)
     try:

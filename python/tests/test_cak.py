@@ -18,9 +18,9 @@ from macsec.cak import Cak, KeyAgreements, cak_of, caks_of_file, derived, salt_o
 from macsec.cli import config, decrypt
 from macsec.mka import read_mkpdu
 
-from .helpers import KEYS, OTHER, ROOT, SALT, InFolder, client_frames, main_of, protected
+from .frames import client_frames, protected
+from .helpers import DATA, KEYS, OTHER, SALT, InFolder, main_of
 
-DATA = ROOT / "python" / "tests" / "data"
 HAS_CRYPTOGRAPHY = importlib.util.find_spec("cryptography") is not None
 NEEDS = unittest.skipUnless(HAS_CRYPTOGRAPHY, "the Python package cryptography is not installed")
 CAK, CKN = bytes(range(16)), bytes(range(32, 64))
@@ -68,7 +68,6 @@ class Member:
         self._kek, self._ick = (derived(tag_of, cak, it, ckn) for it in (b"IEEE8021 KEK", b"IEEE8021 ICK"))
 
     def frame(self, *sets: bytes) -> bytes:
-        """An MKPDU with these parameter sets."""
         basic = self.sci + self.mi + bytes.fromhex("000000010080c201") + self.ckn
         head = bytes([3, 16]) + (0xF000 | len(basic)).to_bytes(2, "big")
         body = head + basic + bytes(-len(basic) % 4) + b"".join(sets)
@@ -77,11 +76,9 @@ class Member:
         return covered + self._tag_of(self._ick, covered)
 
     def live(self, *others: Member, ssci: int = 0) -> bytes:
-        """A list of live peers."""
         return _set(1, ssci, b"".join(it.mi + bytes([0, 0, 0, 1]) for it in others))
 
     def sak(self, key: bytes, suite: Suite, an: int = 0, number: int = 1) -> bytes:
-        """A Distributed SAK parameter set."""
         identifier = b"" if suite == Suite.gcm128 else self.IDENTIFIERS[suite]
         return _set(4, an << 6 | 0x10, number.to_bytes(4, "big") + identifier + self._wrap(self._kek, key))
 
@@ -107,9 +104,8 @@ class Distribution(InFolder):
             (cak,) = caks_of_file(str(DATA / f"{name}.cak"))
             it = learned(frames_of(name), cak)
             found = re.search(r"KEK (\w+), ICK (\w+)", (DATA / f"{name}.keys").read_text())
-            self.assertEqual(
-                [tuple(key.hex() for key in pair) for pair in it._keys.values()], [found and found.groups()]
-            )
+            pairs = [tuple(key.hex() for key in pair) for pair in it._keys.values()]
+            self.assertEqual(pairs, [found and found.groups()])
 
     def test_names_of_caks(self) -> None:
         (cak,) = caks_of_file(str(DATA / "cak-256.cak"))
@@ -159,9 +155,8 @@ class Distribution(InFolder):
         """wpa_supplicant 2.10 has none of them: these MKPDUs are made here."""
         server, peer = Member("0200000000010001"), Member("0200000000020001")
         for suite, key in ((Suite.xpn128, bytes(16)), (Suite.xpn256, bytes(range(32)))):
-            it = learned(
-                [peer.frame(), server.frame(server.live(peer), server.sak(key, suite, 2, 0x01020304))], Cak(CAK, CKN)
-            )
+            distributed = server.frame(server.live(peer), server.sak(key, suite, 2, 0x01020304))
+            it = learned([peer.frame(), distributed], Cak(CAK, CKN))
             ((_, argument, number, sci, _),) = it.saks
             self.assertEqual((argument.octets, argument.suite, argument.an), (key, suite, 2))
             self.assertEqual((number, sci.hex()), (0x01020304, "0200000000010001"))
@@ -193,7 +188,7 @@ class Distribution(InFolder):
         self.assertLess(time.process_time() - begun, 30)
 
     def test_many_parameter_sets(self) -> None:
-        """The longest EAPOL frames that there can be, of the shortest sets of an unknown type, with a SAK at the end."""
+        """The longest EAPOL frame that there can be, of the shortest sets of an unknown type, with a SAK at the end."""
         server = Member("0200000000010001")
         frame = server.frame(b"\x09\x00\x00\x00" * 16_000, server.sak(CAK, Suite.gcm128))
         self.assertEqual(len(learned([frame], Cak(CAK)).saks), 1)
@@ -203,14 +198,8 @@ class Distribution(InFolder):
         for text in (f"# one\n{CAK.hex()} {CKN.hex()}\n", settings):
             self.assertEqual(caks_of_file(self.put("FILE", text)), [Cak(CAK, CKN)])
         self.assertEqual(caks_of_file(self.put("FILE", CAK.hex())), [Cak(CAK)])
-        for text in (
-            "",
-            "00",
-            "00 00 00",
-            f"{CAK.hex()}0 01",
-            f"{CAK.hex()} " + "00" * 33,
-            f"mka_cak={CAK.hex()[2:]}\nmka_ckn=01",
-        ):
+        too_long, short = f"{CAK.hex()} " + "00" * 33, f"mka_cak={CAK.hex()[2:]}\nmka_ckn=01"
+        for text in ("", "00", "00 00 00", f"{CAK.hex()}0 01", too_long, short):
             with self.assertRaises(UsageError) as why:
                 caks_of_file(self.put("FILE", text))
             self.assertNotIn(CAK.hex()[2:], str(why.exception))
@@ -218,12 +207,12 @@ class Distribution(InFolder):
 
     @unittest.skipIf(shutil.which("tshark") is None, "tshark is not installed")
     def test_the_grammar_is_that_of_tshark(self) -> None:
-        names = "mka.sci mka.actor_mi mka.cak_name mka.icv mka.peer_mi mka.key_number mka.distributed_an mka.aes_key_wrap_sak"
+        names = "sci actor_mi cak_name icv peer_mi key_number distributed_an aes_key_wrap_sak"
         server, peer = Member("0200000000010001"), Member("0200000000020001")
         made = [server.frame(server.live(peer, ssci=2), server.sak(bytes(32), Suite.xpn256, 3, 9)), peer.frame()]
         for frames in ([it for name, *_ in CAPTURES for it in frames_of(name)], made):
             words = ["tshark", "-r", self.put("IN", frames), "-Y", "mka", "-T", "fields", "-E", "aggregator=,"]
-            words += [word for name in names.split() for word in ("-e", name)]
+            words += [word for name in names.split() for word in ("-e", f"mka.{name}")]
             shown = subprocess.run(words, capture_output=True, text=True, check=True).stdout.splitlines()
             found = [it for it in map(read_mkpdu, frames) if it]
             self.assertEqual(len(shown), len(found))
@@ -245,11 +234,8 @@ class Commands(InFolder):
         (self.folder / "OUT").unlink(missing_ok=True)
         status, out, error = main_of(decrypt.main, path, self.folder / "OUT", "--json", *words)
         self.assertEqual(error, "")
-        return (
-            status,
-            list(map(json.loads, out.splitlines())),
-            [it.frame for it in capture.read(str(self.folder / "OUT"))],
-        )
+        frames = [it.frame for it in capture.read(str(self.folder / "OUT"))]
+        return status, list(map(json.loads, out.splitlines())), frames
 
     def test_a_cak_opens_what_the_logged_keys_open(self) -> None:
         for name, suite, offset, count in CAPTURES:
@@ -260,9 +246,8 @@ class Commands(InFolder):
                 saks = [it["sak"] for it in shown if "sak" in it]
                 self.assertEqual([it["key_number"] for it in saks], list(range(1, count + 1)))
                 self.assertEqual({(it["suite"], it["offset"]) for it in saks}, {(suite.name, offset)})
-                self.assertEqual(
-                    {it.get("key") for it in shown if it.get("state") == "opened"}, {it["name"] for it in saks}
-                )
+                named = {it.get("key") for it in shown if it.get("state") == "opened"}
+                self.assertEqual(named, {it["name"] for it in saks})
                 self.assertFalse([it for it in logged(name) if it in json.dumps(shown)])
 
     def words_of(self, name: str) -> list[str]:
@@ -306,15 +291,11 @@ class Commands(InFolder):
 
     def test_hints(self) -> None:
         (cak,) = caks_of_file(str(DATA / "cak-256.cak"))
-        later = self.put("LATER", frames_of("cak-256")[5:9])
+        whole, later = DATA / "cak-256.pcap", self.put("LATER", frames_of("cak-256")[5:9])
         for path, words, text in (
-            (
-                DATA / "cak-256.pcap",
-                ("--key", "00" * 16),
-                "the capture has 6 MKPDUs: with the CAK, --cak takes the keys",
-            ),
-            (DATA / "cak-256.pcap", ("--cak", "00" * 16), "6 MKPDUs with another ICV: another CAK, or altered"),
-            (DATA / "cak-256.pcap", ("--cak", "00" * 16, "--ckn", "01"), "6 MKPDUs of another CAK name"),
+            (whole, ("--key", "00" * 16), "the capture has 6 MKPDUs: with the CAK, --cak takes the keys"),
+            (whole, ("--cak", "00" * 16), "6 MKPDUs with another ICV: another CAK, or altered"),
+            (whole, ("--cak", "00" * 16, "--ckn", "01"), "6 MKPDUs of another CAK name"),
             (later, ("--cak", cak.octets.hex()), "the capture has no MKPDU"),
         ):
             status, shown, _ = self.decrypted(path, *words)
@@ -323,12 +304,8 @@ class Commands(InFolder):
 
     def test_options(self) -> None:
         path = DATA / "cak-256.pcap"
-        for words in (
-            ("--cak", "00"),
-            ("--ckn", "01"),
-            ("--cak", "00" * 16, "--ckn", "0"),
-            ("--cak-file", self.put("E", "")),
-        ):
+        empty = self.put("E", "")
+        for words in (("--cak", "00"), ("--ckn", "01"), ("--cak", "00" * 16, "--ckn", "0"), ("--cak-file", empty)):
             for command in ((decrypt.main, path, self.folder / "OUT"), (config.main, "--capture", path)):
                 status, out, error = main_of(command[0], *command[1:], *words)
                 self.assertEqual((status, out), (2, ""), words)
@@ -348,7 +325,3 @@ class Missing(unittest.TestCase):
             self.assertEqual(learned(frames_of("cak-256")).seen, 6)
         self.assertIn("python3-cryptography", str(why.exception))
         self.assertIn("pip install cryptography", str(why.exception))
-
-
-if __name__ == "__main__":
-    unittest.main()

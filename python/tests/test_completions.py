@@ -45,7 +45,6 @@ printf '%s\\n' "${{COMPREPLY[@]}}"
 
 
 def in_python() -> list[str]:
-    """The names of the commands in Python."""
     return re.findall("^(macsec-[a-z]+) = ", (ROOT / "python/pyproject.toml").read_text(), re.M)
 
 
@@ -83,7 +82,8 @@ class Completions(unittest.TestCase):
     def test_every_request_is_there(self) -> None:
         """Offered are the requests of requests.c, the `A` of lines for the endpoint, `load`, and macsecctl's own."""
         answered = (ROOT / "device/requests.c").read_text()
-        names = set(re.findall(r'words_(?:is\(w, 0|are\(w, 2), "(\w+)"', answered)) | {"A", "load", "watch", "help"}
+        form = r'(?:words_(?:is|are)\(w, 0, |\{ (?="\w+", answer_))"(\w+)'
+        names = set(re.findall(form, answered)) | {"A", "load", "watch", "help"}
         text = (self.folder / "share/bash-completion/completions/macsecctl").read_text()
         (offered,) = re.findall(r'compgen -W "([\w ]+)"', text)
         self.assertEqual((set(offered.split()), len(names) > 10), (names, True))
@@ -103,9 +103,8 @@ class Completions(unittest.TestCase):
             file = self.folder / "share/fish/vendor_completions.d" / f"{typed.split()[0]}.fish"
             words = ["fish", "--no-config", "-c", f"source {file}; complete -C '{typed}'"]
             told = subprocess.run(words, cwd=self.work, capture_output=True, text=True)
-            self.assertEqual(
-                ({it.split("\t")[0] for it in told.stdout.splitlines()}, told.stderr), (offered, ""), typed
-            )
+            found = {it.split("\t")[0] for it in told.stdout.splitlines()}
+            self.assertEqual((found, told.stderr), (offered, ""), typed)
 
     @unittest.skipIf(shutil.which("zsh") is None, "zsh is not installed")
     def test_zsh(self) -> None:
@@ -142,7 +141,3 @@ class Completions(unittest.TestCase):
             if len(last) > 1 and any(it.startswith(before) and text.strip() in it for it in last[-2:]):
                 return shown
         return shown
-
-
-if __name__ == "__main__":
-    unittest.main()

@@ -16,9 +16,9 @@ from macsec import MacsecError, SecY, Suite, capture, grammar
 from macsec.cli.config import main
 from macsec.endpoint_of_config import Configuration
 
-from .helpers import CAPTURES, KEYS, OTHER, ROOT, SALT, SENDER, InFolder, client_frames, main_of, protected
+from .frames import client_frames, protected
+from .helpers import CAPTURES, DATA, KEYS, OTHER, ROOT, SALT, SENDER, InFolder, main_of
 
-DATA = ROOT / "python" / "tests" / "data"
 LONG_KEY = bytes.fromhex("e3c08a8f06c6e3ad95a70557b23f75483ce33021a9c72b7025666204c69c0b72")
 IP_COMMANDS = """
 ip link set eth0 address 02:00:00:00:00:02
@@ -145,11 +145,8 @@ class Ip(Made):
     def test_key_for_a_name(self) -> None:
         """A key in the place of a device's name is in no message."""
         key = KEYS[0].hex()
-        for text in (
-            IP_COMMANDS.replace("eth0 macsec0 type", f"{key} macsec0 type"),
-            IP_COMMANDS.replace("macsec0", key),
-        ):
-            status, _, error = main_of(main, "--ip", self.put("commands", text))
+        for old, new in (("eth0 macsec0 type", f"{key} macsec0 type"), ("macsec0", key)):
+            status, _, error = main_of(main, "--ip", self.put("commands", IP_COMMANDS.replace(old, new)))
             self.assertEqual((status, key in error), (2, False), error)
 
     def test_faults(self) -> None:
@@ -234,11 +231,11 @@ class Lint(Made):
     def test_where_and_what(self) -> None:
         good = f"end A gcm128 {SENDER} 1546 sci\nA key 0 {KEYS[0].hex()} 0\nA txsa 0 0 1 conf\nA txon 0\n"
         self.assertEqual(self.config("--lint", self.put("CONFIG", good)), "")
-        suites = "gcm128, gcm256, xpn128 or xpn256"
+        suites = " or ".join((", ".join(grammar.SUITES[:-1]), grammar.SUITES[-1]))
         alone = "a comment needs a line of its own"
         refused = "line 3: refused: 5 NoKey: there is no such key\n"
         refused += "line 4: refused: 13 NoSa: there is no such association\n"
-        other, where = f"end B gcm128 {OTHER} 99 sci", "line 4: every line after the first has to be a command at A\n"
+        other, where = (f"end B gcm128 {OTHER} 99 sci", "line 4: every line after the first has to be a command at A\n")
         for old, new, expected in (
             ("345 0", "345f 0", "line 2, argument 4: 33 digits, 32 or 64 expected\n"),
             (KEYS[0].hex(), KEYS[0].hex(":"), "line 2, argument 4: ':' is no hex digit: leave them out\n"),
@@ -267,7 +264,7 @@ class Lint(Made):
         try:
             import calls
         finally:
-            sys.path.pop(0)
+            sys.path.remove(str(ROOT / "fuzz"))
         source, met = calls.Calls(str(random.random())), collections.Counter()
         for _ in range(1500):
             text = source.text()
@@ -290,13 +287,8 @@ class Next(Made):
         path = self.put("CONFIG", config)
         made = self.config("--next", self.put("TEXT", text), path)
         self.assertEqual(made, config.replace("fffffffa", "fffffffc"))
-        wrong = {
-            "end OutPktsEncrypted 2\n": "",
-            "2 done": "2 refused 5 NoKey",
-            "2 done\n": "",
-            "Encrypted 2": "Encrypted 3",
-        }
-        for old, new in wrong.items():
+        deleted = [("end OutPktsEncrypted 2\n", ""), ("2 done\n", "")]
+        for old, new in (*deleted, ("2 done", "2 refused 5 NoKey"), ("Encrypted 2", "Encrypted 3")):
             self.assertEqual(main_of(main, "--next", self.put("TEXT", text.replace(old, new)), path)[0], 2)
         long = text.replace("record 0 link 74\n", "".join(f"record {n} link 74\n" for n in range(5)))
         long = long.replace("Encrypted 2", "Encrypted 6")
@@ -317,7 +309,3 @@ class Next(Made):
             config = self.folder / f"{run}.config"
             config.write_text(made)
         self.assertEqual([int.from_bytes(it, "big") for it in numbers], list(range(1, 10)))
-
-
-if __name__ == "__main__":
-    unittest.main()

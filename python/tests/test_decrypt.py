@@ -8,26 +8,13 @@ import os
 import shutil
 import subprocess
 import unittest
-import zlib
 from collections.abc import Iterator
 
 from macsec import Suite, capture
 from macsec.cli.decrypt import main
 
-from .helpers import (
-    CAPTURES,
-    KEYS,
-    LONG_KEY,
-    OTHER,
-    ROOT,
-    SALT,
-    SENDER,
-    START,
-    InFolder,
-    client_frames,
-    main_of,
-    protected,
-)
+from .frames import altered, client_frames, protected, vlan, with_fcs
+from .helpers import CAPTURES, DATA, KEYS, LONG_KEY, OTHER, SALT, SENDER, START, InFolder, main_of
 
 
 def mixed(*parts: list[bytes]) -> Iterator[bytes]:
@@ -112,22 +99,19 @@ class Decrypt(Opening):
     def test_vlan_tags_are_put_back(self) -> None:
         (frame,), (link,) = client_frames(1), protected(client_frames(1))
         for tags in ("81000064", "88a8000a81000064"):
-            octets = bytes.fromhex(tags)
-            opened = self.opened([link[:12] + octets + link[12:]], *self.keys(0))
-            self.assertEqual(opened, [frame[:12] + octets + frame[12:]])
+            self.assertEqual(self.opened([vlan(link, tags)], *self.keys(0)), [vlan(frame, tags)])
 
     def test_check_sequences_are_cut_off(self) -> None:
         frames = client_frames(2, length=30) + client_frames(2)
         link = protected(frames)
-        right = [it + zlib.crc32(it).to_bytes(4, "little") for it in link]
-        self.assertEqual(self.opened(right, *self.keys(0)), frames)
+        self.assertEqual(self.opened(map(with_fcs, link), *self.keys(0)), frames)
         self.assertEqual(self.opened([it + b"\xde\xad\xbe\xef" for it in link], *self.keys(0)), frames)
         plain = client_frames(1)[0]
-        self.assertEqual(self.opened([plain + zlib.crc32(plain).to_bytes(4, "little")], *self.keys(0)), [plain])
+        self.assertEqual(self.opened([with_fcs(plain)], *self.keys(0)), [plain])
 
     def test_what_is_not_opened_is_kept(self) -> None:
         link = protected(client_frames(3)) + protected(client_frames(1), key=KEYS[1])
-        link[1] = link[1][:-1] + bytes([link[1][-1] ^ 1])
+        link[1] = altered(link[1])
         opened = self.opened([*link, bytes(60)], *self.keys(0), status=3)
         self.assertEqual(opened, [client_frames(1)[0], link[1], client_frames(3)[2], link[3], bytes(60)])
         self.assertIn("2 frames opened; 2 frames not opened; 1 frame not protected", self.text)
@@ -166,9 +150,8 @@ class Linux(Opening):
     """A link of Linux 6.1 whose five keys wpa_supplicant 2.10 agreed on; the fifth returns to association number 0."""
 
     def test_key_agreement(self) -> None:
-        data = ROOT / "python" / "tests" / "data"
         for log in ("mka-server.log", "mka-peers.log"):
-            opened = self.opened(data / "mka.pcap", "--wpa", data / log)
+            opened = self.opened(DATA / "mka.pcap", "--wpa", DATA / log)
             self.assertEqual(self.text.count("under"), 5)
             # The client sent frames with the numbers of their run and of their place in it.
             self.assertEqual([it[14:16] for it in opened], [bytes([run, n]) for run in range(5) for n in range(6)])
@@ -234,7 +217,3 @@ class Files(Opening):
         shown = subprocess.run(words, capture_output=True, text=True, check=True).stdout.splitlines()
         self.assertEqual(shown[2], "1700000000.001000000\t1\tmacsec: OK, SCI 0200000000010001, AN 0, PN 0x1f5, key 1")
         self.assertEqual(shown[5].split("\t")[2], "macsec: not protected")
-
-
-if __name__ == "__main__":
-    unittest.main()

@@ -12,9 +12,11 @@ from typing import Any, Callable
 import macsec
 from macsec import SecY, Suite, Verdict, capture, device_trial, hostile, script_frames, seal
 from macsec.cli import forge
+from macsec.names import SUITES
 from macsec.number_file import NumberFile
 
-from .helpers import KEYS, LONG_KEY, RECEIVER, ROOT, SALT, SENDER, InFolder, client_frames, main_of, protected
+from .frames import altered, client_frames, protected
+from .helpers import KEYS, LONG_KEY, RECEIVER, ROOT, SALT, SENDER, InFolder, main_of
 
 SCI = bytes.fromhex(SENDER)
 CONFIG = (
@@ -58,7 +60,7 @@ class Sealed(unittest.TestCase):
             self.assertEqual(frame.hex(), (head + data).hex() + icv)
 
     def test_as_an_endpoint_sends(self) -> None:
-        for suite in (Suite.gcm128, Suite.gcm256, Suite.xpn128, Suite.xpn256):
+        for suite in SUITES:
             for offset in (0,) if suite.is_extended else (0, 30, 50):
                 of, frames = source(suite, offset=offset), client_frames(3)
                 sent = protected(frames, suite=suite, key=of.key, pn=5, offset=offset)
@@ -80,7 +82,7 @@ class Sealed(unittest.TestCase):
 
 class Judged(unittest.TestCase):
     def test_each_frame_gets_its_verdict(self) -> None:
-        for suite in (Suite.gcm128, Suite.gcm256, Suite.xpn128, Suite.xpn256):
+        for suite in SUITES:
             for name, (given, expected) in verdicts(source(suite)).items():
                 self.assertEqual(given, expected, f"{suite.name}, {name}")
 
@@ -243,7 +245,7 @@ class Numbers(InFolder):
             file.reserve(2)
         text = (self.folder / "numbers").read_text()
         self.assertNotIn(KEYS[0].hex(), text)
-        others = {"key": KEYS[1]}, {"sci": bytes(8)}, {"ssci": 9}, {"salt": SALT}, {"suite": Suite.xpn128}
+        others = ({"key": KEYS[1]}, {"sci": bytes(8)}, {"ssci": 9}, {"salt": SALT}, {"suite": Suite.xpn128})
         for it in others:
             with self.assertRaisesRegex(macsec.UsageError, "of another key"):
                 NumberFile(self.path(), source()._replace(**it))  # type: ignore[arg-type]
@@ -308,7 +310,7 @@ class OnAWire(InFolder):
         opened = {it.name for it, _ in hostile.hostile_list(source()) if it.verdict == Verdict.OK}
         for change, told in (
             (lambda it: [], "dropped"), (lambda it: [it, it], "delivered 2 times"),
-            (lambda it: [it[:-1] + bytes([it[-1] ^ 1])], "delivered 58, other"), (lambda it: [it + b"\1"], "delivered 59, other"),
+            (lambda it: [altered(it)], "delivered 58, other"), (lambda it: [it + b"\1"], "delivered 59, other"),
         ):  # fmt: skip
             found, others = self.run_of(change)
             self.assertEqual((set(found) | {"one-octet"}, found["ordinary"], others), (opened, told, 0))
@@ -341,7 +343,3 @@ class OnAWire(InFolder):
         ended, printed, error = main_of(forge.main, *to, *config, *state)
         self.assertEqual((ended, printed), (1, ""))
         self.assertRegex(error, r"^macsec-forge: no-such-1: [^\n]*\n$")
-
-
-if __name__ == "__main__":
-    unittest.main()

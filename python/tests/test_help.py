@@ -10,7 +10,6 @@ import re
 import shlex
 import shutil
 import subprocess
-import unittest
 from collections.abc import Iterator
 
 from .helpers import CAPTURES, KEYS, ROOT, InFolder, main_of
@@ -21,7 +20,6 @@ NAMES = re.findall("^macsec-([a-z]+) = ", (ROOT / "python/pyproject.toml").read_
 
 @contextlib.contextmanager
 def within(folder: pathlib.Path) -> Iterator[None]:
-    """Runs in a folder."""
     before = os.getcwd()
     os.chdir(folder)
     try:
@@ -37,15 +35,8 @@ class Help(InFolder):
                 main = importlib.import_module(f"macsec.cli.{name}").main
                 status, text, error = main_of(main, "--help")
                 self.assertEqual((status, error), (0, ""))
-                order = [
-                    f"usage: macsec-{name} ",
-                    "\noptions:\n",
-                    "--version",
-                    "\nexit status: 0",
-                    "\nexamples:\n",
-                    "Manual: man",
-                ]
-                found = [text.find(it) for it in order]
+                order = "\noptions:\n", "--version", "\nexit status: 0", "\nexamples:\n", "Manual: man"
+                found = [text.find(it) for it in (f"usage: macsec-{name} ", *order)]
                 self.assertEqual((found, found[0]), (sorted(found), 0), text)
                 self.assertEqual(main_of(main, "--version"), (0, f"macsec-{name} {(ROOT / 'VERSION').read_text()}", ""))
 
@@ -85,7 +76,3 @@ class Help(InFolder):
                 environment = {"PATH": os.environ["PATH"], "MACSEC_LIBRARY": os.environ["MACSEC_LIBRARY"]}
                 told = subprocess.run([path, "--version"], cwd="/", capture_output=True, text=True, env=environment)
                 self.assertEqual(told.stdout, f"macsec-{name} {(ROOT / 'VERSION').read_text()}", told.stderr)
-
-
-if __name__ == "__main__":
-    unittest.main()

@@ -14,15 +14,15 @@ import struct
 import subprocess
 import sys
 import time
-import unittest
 from collections.abc import Callable, Sequence
 from unittest import mock
 
 from macsec import capture
 from macsec.cli import config, decrypt, forge, reading, why
-from macsec.wpalog import keys_of, lines_of, plan_of_log
+from macsec.wpalog import keys_of, lines_of
 
-from .helpers import KEYS, SENDER, InFolder, client_frames, main_of, protected
+from .frames import client_frames, protected
+from .helpers import KEYS, SENDER, InFolder, main_of
 
 KEY = KEYS[0].hex()
 CONFIG = f"end A gcm128 02ffffffffff0001 9248 sci\nA key 0 {KEY} 0\nA rxsc {SENDER}\nA rxsa {SENDER} 0 0 1\n"
@@ -230,37 +230,6 @@ class Shown(InFolder):
             with self.subTest(option=option, text=text):
                 self.assertNotIn(KEY[:16], self.told(config.main, option, self.put("FILE", text)))
 
-    def test_json_at_fault(self) -> None:
-        sa = {"an": 0, "pn": 1, "key": "0" * 32}
-        whole = {"ifname": "a", "sci": "1", "sa_list": [sa]}
-        for text in (
-            "[" * 100_000, "1", '"a"', "null", "[1]", '[{"ifname": 1}]', "[{}]", "{", "[" + "9" * 9000 + "]",
-            json.dumps([{**whole, "sci": "f" * 40}]), json.dumps([{**whole, "window": "x"}]),
-            json.dumps([{**whole, "sa_list": 1}]), json.dumps([{**whole, "sa_list": [{**sa, "an": {}}]}]),
-            json.dumps([{**whole, "sa_list": [{**sa, "pn": "x"}]}]), json.dumps([{**whole, "rx_sc": [[]]}]),
-        ):  # fmt: skip
-            with self.subTest(text=text[:60]):
-                path = self.put("FILE", text)
-                status, out, error = main_of(config.main, "--ip-json", path, "--key", KEY)
-                self.assertEqual((status, out, error.count("\n")), (2, "", 1), error)
-
-    def test_values_of_commands_at_fault(self) -> None:
-        start = "ip link add link eth0 macsec0 type macsec "
-        for text in (
-            f"{start}sci {'f' * 20}", f"{start}sci 1 window x", f"{start}sci 1 window {'9' * 9000}",
-            f"{start}sci 1\nip macsec add macsec0 tx sa 0 pn x key 0 00", f"{start}port 70000 address 02:00:00:00:00:01",
-            f"{start}sci 1\nip macsec add macsec0 tx sa 0 pn 1 key 0 00",
-        ):  # fmt: skip
-            with self.subTest(text=text[:90]):
-                status, out, error = main_of(config.main, "--ip", self.put("FILE", text))
-                self.assertEqual((status, out, error.count("\n")), (2, "", 1), error)
-
-    def test_a_damaged_log(self) -> None:
-        for text in ("create_transmit_sa -> 9 on ::::::::::::::::: (next_pn=1)", "Distributed AN: \u0663", "\x00" * 99):
-            self.assertEqual(keys_of([text]), [])
-            with self.assertRaisesRegex(Exception, "no create_transmit_sa"):
-                plan_of_log([text])
-
     def test_a_plan_for_ip_has_no_key_among_arguments(self) -> None:
         """The lines are read by ip -batch, so that no list of processes shows a key."""
         _, text, _ = main_of(config.main, "--to-ip", self.put("CONFIG", CONFIG), "--dev", "eth1", "--name", "m.1")
@@ -384,7 +353,3 @@ class Ends(InFolder):
 
         with mock.patch.object(reading, "_PATIENCE", 0.05), mock.patch.object(why.Run, "_add", wait):
             self.assertRegex(slow(*words), "^\rmacsec-why: [0-9]+ records?, [0-9]+ %, 0 s\x1b\\[K(.|\r)*\r\x1b\\[K$")
-
-
-if __name__ == "__main__":
-    unittest.main()

@@ -7,7 +7,6 @@ import json
 import os
 import subprocess
 import unittest
-import zlib
 from collections.abc import Sequence
 from typing import NamedTuple
 from unittest import mock
@@ -18,7 +17,8 @@ from macsec.frames import read_tag
 from macsec.ivs import UsedIvs, lines_of
 from macsec.trial import Key
 
-from .helpers import KEYS, LONG_KEY, OTHER, RECEIVER, SALT, SENDER, InFolder, client_frames, main_of, protected
+from .frames import altered, client_frames, protected, vlan, with_fcs
+from .helpers import KEYS, LONG_KEY, OTHER, RECEIVER, SALT, SENDER, InFolder, main_of
 
 
 class Link(NamedTuple):
@@ -37,13 +37,12 @@ class Link(NamedTuple):
         return f"A key 0 {self.key.hex()} 0" + (f" 00000001 {SALT.hex()}" if self.suite.is_extended else "")
 
     def sends(self) -> str:
-        """A CONFIG of the sender."""
         end = f"end A {self.suite.name} {SENDER} 1546 sci"
         return f"{end}\n{self.key_line}\nA txsa 0 0 {self.pn:x} {self.conf}\nA txon 0\n"
 
     def receives(self, replay: str = "off", more: str = "") -> str:
         """A CONFIG of the receiver, whose SSCI is another one."""
-        key, ssci = self.key_line.replace(" 00000001 ", " 00000009 "), " 00000001" if self.suite.is_extended else ""
+        key, ssci = (self.key_line.replace(" 00000001 ", " 00000009 "), " 00000001" if self.suite.is_extended else "")
         lowest = f"{self.pn >> 32:x}00000001" if self.pn >> 32 else "1"
         return "\n".join([
             f"end A {self.suite.name} {RECEIVER} 1546 sci", f"A replay {replay} 0", key, f"A rxsc {SENDER}",
@@ -61,10 +60,8 @@ class Case(InFolder):
         objects = [json.loads(it) for it in out.splitlines()]
         count = len(list(itertools.takewhile(lambda it: "iv used twice" in it, objects)))
         self.assertFalse([it for it in objects[count:] if "iv used twice" in it])
-        return [
-            (it["records"], it["key"], it["sci"], it["pn"])
-            for it in (each["iv used twice"] for each in objects[:count])
-        ]
+        twice = (each["iv used twice"] for each in objects[:count])
+        return [(it["records"], it["key"], it["sci"], it["pn"]) for it in twice]
 
     def why(self, text: str, frames: Sequence[bytes], *words: str) -> tuple[int, str]:
         """The status and the text of macsec-why."""
@@ -180,38 +177,31 @@ class Frames(Case):
         (third,) = protected(client_frames(8)[7:], pn=2)
         frames = [*self.first, self.again, third, self.again]
         for words, key in ((("--json",), "key 0"), ((), "key 1")):
-            made = self.why(Link().receives(), frames, *words) if words else self.decrypt(
-                frames, "--json", *Link().words()
-            )  # fmt: skip
-            self.assertEqual(self.used_twice(made[1]), [([1, 4, 5], key, SENDER, 2)])
+            by_key = self.decrypt(frames, "--json", *Link().words()) if not words else None
+            _, out = by_key or self.why(Link().receives(), frames, *words)
+            self.assertEqual(self.used_twice(out), [([1, 4, 5], key, SENDER, 2)])
         self.assertIn("IV USED TWICE", self.comments[6])
         self.assertIn("records 1, 4-5, key 0", self.why(Link().receives(), frames)[1])
 
     def test_what_is_around_a_frame_does_not_count(self) -> None:
         short = protected(client_frames(1, length=30))
-        vlan = self.first[1][:12] + bytes.fromhex("81000064") + self.first[1][12:]
-        fcs = self.first[2] + zlib.crc32(self.first[2]).to_bytes(4, "little")
-        self.named(Link(), [*self.first, vlan], {}, status=3)
-        self.named(Link(), [*self.first, fcs], {}, status=3)
+        for each in (vlan(self.first[1]), with_fcs(self.first[2])):
+            self.named(Link(), [*self.first, each], {}, status=3)
         self.named(Link(), [short[0], short[0] + bytes(6)], {})
 
     def test_frames_with_a_vlan_tag_or_a_check_sequence(self) -> None:
-        vlan = self.again[:12] + bytes.fromhex("81000064") + self.again[12:]
-        fcs = self.again + zlib.crc32(self.again).to_bytes(4, "little")
-        for each in (vlan, fcs):
+        for each in (vlan(self.again), with_fcs(self.again)):
             self.named(Link(), [*self.first, each], {2: [1, 4]})
 
     def test_a_late_frame_that_does_not_open(self) -> None:
-        forged = self.again[:-1] + bytes([self.again[-1] ^ 1])
-        status, out = self.why(Link().receives("on"), [*self.first, forged], "--json")
+        status, out = self.why(Link().receives("on"), [*self.first, altered(self.again)], "--json")
         self.assertEqual((status, self.used_twice(out)), (3, []))
 
     def test_late_frames_that_are_not_checked(self) -> None:
         """With `validate disabled` a late frame is Delayed whatever its ICV is."""
         first, again = (protected(client_frames(9)[it : it + 1], pn=2, conf=False)[0] for it in (1, 8))
-        forged = again[:-1] + bytes([again[-1] ^ 1])
         text = Link().receives(more="A validate disabled").replace(" 0 0 1", " 0 0 7")
-        for other, expected in ((again, [([0, 1], "key 0", SENDER, 2)]), (forged, [])):
+        for other, expected in ((again, [([0, 1], "key 0", SENDER, 2)]), (altered(again), [])):
             status, out = self.why(text, [first, other], "--json")
             self.assertEqual((status, self.used_twice(out)), (3 if expected else 0, expected))
             self.assertIn('"verdicts": {"Delayed": 2}', out)
@@ -270,9 +260,8 @@ class Rekeys(Case):
 
     def test_a_key_that_is_not_given(self) -> None:
         """Nobody knows whether the keys differ."""
-        status, out = self.why(
-            Link().receives(), protected(client_frames(3)) + protected(client_frames(3), key=KEYS[1])
-        )
+        frames = protected(client_frames(3)) + protected(client_frames(3), key=KEYS[1])
+        status, out = self.why(Link().receives(), frames)
         self.assertEqual(status, 3)
         self.assertIn("a number again with other octets in record 3-5", out)
         self.assertNotIn("rekey", out)
@@ -323,7 +312,3 @@ class Many(Case):
         self.assertEqual(lines[8], "IV USED TWICE: 2992 more, records 8-2999, 3008-5999")
         self.assertTrue(lines[9].startswith("  whoever has both frames"))
         self.assertEqual(lines_of([]), [])
-
-
-if __name__ == "__main__":
-    unittest.main()

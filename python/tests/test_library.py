@@ -24,12 +24,8 @@ def names_in(function: str) -> dict[str, int]:
 
 class Library(unittest.TestCase):
     def test_names(self) -> None:
-        for function, kind in (
-            ("status", names.Status),
-            ("verdict", names.Verdict),
-            ("fate", names.Fate),
-            ("suite", names.Suite),
-        ):
+        for kind in (names.Status, names.Verdict, names.Fate, names.Suite):
+            function = kind.__name__.lower()
             expected = {name: number for name, number in names_in(function).items() if name != "None"}
             # A later library can have more after these.
             found = {it.name: int(it) for it in kind}
@@ -69,7 +65,3 @@ class Library(unittest.TestCase):
     def test_version(self) -> None:
         number = re.search(r"MACSEC_VERSION_NUMBER (\d+)", HEADER)
         self.assertEqual(macsec.version(), int(number[1]) if number else 0)
-
-
-if __name__ == "__main__":
-    unittest.main()

@@ -6,15 +6,12 @@ from __future__ import annotations
 import collections
 import json
 import shutil
-import unittest
 from collections import Counter
 
 from macsec import capture
 from macsec.cli import config, decrypt, why
 
-from .helpers import ROOT, InFolder, main_of
-
-DATA = ROOT / "python" / "tests" / "data"
+from .helpers import DATA, InFolder, main_of
 
 
 class Linux(InFolder):
@@ -67,7 +64,3 @@ class Linux(InFolder):
     def test_two_tags_and_a_frame_check_sequence(self) -> None:
         """Of a short frame, as ARP's, SL says where the ICV is: its frame check sequence is no fault."""
         self.opened("twice-fcs", "88a8000a81000064", {("vlan",): 4, ("vlan", "fcs"): 24})
-
-
-if __name__ == "__main__":
-    unittest.main()

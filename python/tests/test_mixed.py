@@ -1,7 +1,4 @@
-"""Captures in which the frames of one association have different causes: macsec-why names no false one.
-
-In python/, `python3 -m tests.test_mixed 200 1` makes 200 captures of seed 1 and prints figures.
-"""
+"""Captures in which the frames of one association have different causes: macsec-why names no false one."""
 
 from __future__ import annotations
 
@@ -10,9 +7,6 @@ import json
 import random
 import re
 import struct
-import sys
-import time
-import zlib
 from collections.abc import Sequence
 from typing import Any, Callable, Counter, NamedTuple
 from unittest import mock
@@ -21,6 +15,7 @@ from macsec import SecY, Suite, causes, seal
 from macsec.causes import Search
 from macsec.cli.why import main
 
+from .frames import ip_packet, vlan, with_fcs
 from .helpers import LONG_KEY, OTHER, RECEIVER, SALT, SENDER, InFolder, main_of
 
 SCI, PEER = bytes.fromhex(SENDER), bytes.fromhex(OTHER)[:6]
@@ -30,18 +25,14 @@ OURS, SECOND, GIVEN, UNKNOWN = range(4)
 
 def packet(rng: random.Random, length: int) -> bytes:
     """An IPv4 packet with so many octets of data, sometimes after a VLAN tag."""
-    head = struct.pack(
-        "!BBHHHBBH8s", 0x45, 0, 20 + length, rng.getrandbits(16), 0, 64, 17, 0, b"\x0a\x09\0\1\x0a\x09\0\2"
-    )
-    total = sum(struct.unpack("!10H", head))
-    total = (total & 0xFFFF) + (total >> 16)
-    head = head[:10] + ((total & 0xFFFF) + (total >> 16) ^ 0xFFFF).to_bytes(2, "big") + head[12:]
-    return rng.choice((b"", b"", b"", b"\x81\x00\0\x05")) + b"\x08\x00" + head + rng.randbytes(length)
+    made = ip_packet(rng.getrandbits(16), rng.randbytes(length))
+    return rng.choice((b"", b"", b"", b"\x81\x00\0\x05")) + made
 
 
 class Link:
     """A sender, and the CONFIG of its receiver, which can lack the association. `first` is the whole packet number of
-    the first frame; under an extended suite the upper half can change within a capture."""
+    the first frame; under an extended suite the upper half can change within a capture.
+    """
 
     def __init__(self, rng: random.Random) -> None:
         self.rng = rng
@@ -92,13 +83,9 @@ class Link:
         return self.rng.choice(self.accepted) if self.accepted else b""
 
 
-def with_fcs(frame: bytes) -> bytes:
+def fcs(frame: bytes) -> bytes:
     """With a frame check sequence, if that is not taken for padding."""
-    return b"" if not frame or frame[15] else frame + zlib.crc32(frame).to_bytes(4, "little")
-
-
-def vlan(frame: bytes, tags: str = "81000064") -> bytes:
-    return frame[:12] + bytes.fromhex(tags) + frame[12:]
+    return b"" if not frame or frame[15] else with_fcs(frame)
 
 
 def padded(frame: bytes) -> bytes:
@@ -111,7 +98,8 @@ class Cause(NamedTuple):
     `OK`. A pattern of their texts. For which links it is.
 
     `unknown` is an empty set: of such a frame nothing can be known, since its key or salt is not given, or since its
-    packet number was altered, which is in the IV. `tag`: its SecTAG is no sender's, for which no cause is named."""
+    packet number was altered, which is in the IV. `tag`: its SecTAG is no sender's, for which no cause is named.
+    """
 
     make: Callable[[Link, int], bytes]
     right: str
@@ -136,7 +124,7 @@ CAUSES = {
     "key of CONFIG": Cause(lambda it, pn: it.frame(pn, SECOND), "key", "key 1"),
     "unknown key": Cause(lambda it, pn: it.frame(pn, UNKNOWN), "unknown"),
     "numbers again": Cause(lambda it, pn: it.frame(it.upper << 32 | 1 + pn % 32, GIVEN), "key", "--key 1"),
-    "FCS": Cause(lambda it, pn: with_fcs(it.frame(pn, is_long=True)), "fcs"),
+    "FCS": Cause(lambda it, pn: fcs(it.frame(pn, is_long=True)), "fcs"),
     "trailer": Cause(lambda it, pn: it.frame(pn, is_long=True) + it.rng.randbytes(7), "padding", "last 7 octets"),
     "longer trailer": Cause(lambda it, pn: it.frame(pn, is_long=True) + it.rng.randbytes(51), "padding", "last 51 "),
     "cut": Cause(lambda it, pn: it.frame(pn, is_long=True)[: -it.rng.randrange(1, 50)], "cut", "cut off"),
@@ -151,16 +139,17 @@ CAUSES = {
     "version set": Cause(lambda it, pn: it.frame(pn)[:14] + b"\xac" + it.frame(pn)[15:], "tag"),
     "offset 30": Cause(lambda it, pn: it.frame(pn, offset=30, is_long=True), "offset", "offset 30", plain),
     "offset 50": Cause(lambda it, pn: it.frame(pn, offset=50, is_long=True), "offset", "offset 50", plain),
-    "offset 30, FCS": Cause(lambda it, pn: with_fcs(it.frame(pn, offset=30, is_long=True)), "fcs offset", "offset 30", plain),
+    "offset 30, FCS": Cause(lambda it, pn: fcs(it.frame(pn, offset=30, is_long=True)), "fcs offset", "offset 30",
+                            plain),
     "integrity alone, E and C": Cause(lambda it, pn: it.frame(pn, conf=False, is_long=True), "bits", "integrity alone"),
     "encrypted, E clear": Cause(lambda it, pn: it.frame(pn, tci=0x20), "bits", "E is clear"),
     "integrity alone, altered": Cause(lambda it, pn: it.altered(it.frame(pn, tci=0x20, conf=False)), "unknown"),
     "VLAN tag": Cause(lambda it, pn: vlan(it.frame(pn)), "vlan", "81000064"),
     "two VLAN tags": Cause(lambda it, pn: vlan(it.frame(pn), "88a8000a81000064"), "vlan", "88a8000a81000064"),
-    "VLAN tag, FCS": Cause(lambda it, pn: vlan(with_fcs(it.frame(pn, is_long=True))), "fcs vlan"),
+    "VLAN tag, FCS": Cause(lambda it, pn: vlan(fcs(it.frame(pn, is_long=True))), "fcs vlan"),
     "VLAN tag, altered": Cause(lambda it, pn: vlan(it.altered(it.frame(pn))), "altered vlan", "right"),
     "repeated": Cause(lambda it, pn: it.repeated(), "replay", "", strict),
-    "repeated, FCS": Cause(lambda it, pn: with_fcs(it.repeated()), "fcs replay", "", strict),
+    "repeated, FCS": Cause(lambda it, pn: fcs(it.repeated()), "fcs replay", "", strict),
     "late": Cause(lambda it, pn: it.frame(it.highest - 1) if it.accepted else b"", "replay", "", strict),
     "SSCI": Cause(lambda it, pn: it.frame(pn, ssci=3), "ssci", "SSCI 00000003", extended),
     "salt reversed": Cause(lambda it, pn: it.frame(pn, salt=SALT[::-1]), "salt", "", extended),
@@ -170,7 +159,7 @@ CAUSES = {
     "another AN": Cause(lambda it, pn: it.frame(pn, an=3), "an", "AN 3 .*opens under key 0"),
     "another AN and key": Cause(lambda it, pn: it.frame(pn, GIVEN, an=3), "an|an key", "AN 3 .*--key 1"),
     "rewritten address": Cause(lambda it, pn: b"\x02\x77\0\0\0\x09" + it.frame(pn)[6:], "address", PEER.hex()),
-    "another key, FCS": Cause(lambda it, pn: with_fcs(it.frame(pn, GIVEN, is_long=True)), "fcs key", "--key 1"),
+    "another key, FCS": Cause(lambda it, pn: fcs(it.frame(pn, GIVEN, is_long=True)), "fcs key", "--key 1"),
     "another key, altered": Cause(lambda it, pn: it.altered(it.frame(pn, GIVEN)), "altered key", "--key 1"),
     "padding of a short frame": Cause(lambda it, pn: padded(it.frame(pn)), "OK"),
 }  # fmt: skip
@@ -181,9 +170,8 @@ def right_of(it: Link, cause: Cause) -> list[set[str]]:
     found = [set(one.split()) for one in cause.right.split("|")]
     if not it.has_an:
         # CONFIG lacks the association, and this can say under which key a frame opens.
-        found = [
-            one if one & {"tag", "sci"} else {"an", *one} - {"OK", *left} for one in found for left in ((), ("key",))
-        ]
+        with_an = lambda one, left: one if one & {"tag", "sci"} else {"an", *one} - {"OK", *left}
+        found = [with_an(one, left) for one in found for left in ((), ("key",))]
     return [one - {"unknown", "tag"} for one in found]
 
 
@@ -236,9 +224,8 @@ class Figures:
         for record, name in enumerate(it.causes):
             found = named.get(record)
             cause = CAUSES[name] if name else Cause(lambda *_: b"", "OK")
-            names = (
-                {"OK"} if found is None else {one["cause"].replace("rekey", "key").replace("own-", "") for one in found}
-            )
+            kinds = [one["cause"].replace("rekey", "key").replace("own-", "") for one in found or ()]
+            names = {"OK"} if found is None else set(kinds)
             right = right_of(it.link, cause)
             if names in right and (not found or re.search(cause.text, " ".join(one["text"] for one in found))):
                 self.found[name] += 1
@@ -250,13 +237,11 @@ class Figures:
 
 class Case(InFolder):
     def explained(self, config: str, frames: Sequence[bytes], *words: str) -> list[dict[str, Any]]:
-        """What macsec-why names."""
         status, out, error = main_of(main, self.put("CONFIG", config), self.put("IN", frames), "--json", *words)
         self.assertEqual((error, status in (0, 3)), ("", True))
         return [it["unopened"] for it in map(json.loads, out.splitlines()) if "unopened" in it]
 
     def figures(self, count: int, seed: str) -> Figures:
-        """Of so many captures."""
         found = Figures()
         for number in range(count):
             it = mixed(number, seed)
@@ -295,7 +280,7 @@ class Mixed(Case):
     def test_altered_frames_take_few_calls(self) -> None:
         """A frame is received, tried as it is, and sealed to see its data: so 2,000 of them take a second."""
         link = Link(random.Random("1"))
-        link.suite, link.has_an, link.keys = Suite.gcm128, True, [it[:16] for it in link.keys]
+        link.suite, link.has_an, link.keys = (Suite.gcm128, True, [it[:16] for it in link.keys])
         frames = [link.altered(link.frame(pn)) for pn in range(1, 401)]
         with mock.patch.object(SecY, "receive", autospec=True, side_effect=SecY.receive) as received:
             with mock.patch.object(causes, "data_under", side_effect=causes.data_under) as shown:
@@ -304,14 +289,3 @@ class Mixed(Case):
         self.assertEqual(len(group["records"]), 400)
         self.assertLess((received.call_count - causes._MOST_ADDRESSES) / 400, 3)
         self.assertLess(shown.call_count / 400, 2)
-
-
-if __name__ == "__main__":
-    case, began = Case(), time.process_time()
-    case.setUp()
-    made = case.figures(int(sys.argv[1]), sys.argv[2])
-    print("".join(f"{it}\n" for it in made.wrong), end="")
-    found, unnamed = sum(made.found.values()), sum(made.unnamed.values())
-    print(f"{sys.argv[1]} captures, {found + unnamed + len(made.wrong)} frames: {len(made.wrong)} false causes, {unnamed} "
-          f"without a cause that is known {dict(made.unnamed)}; {time.process_time() - began:.1f} s of processor")  # fmt: skip
-    case.doCleanups()

@@ -10,13 +10,13 @@ from macsec.cli.config import main
 from macsec.endpoint_of_config import Configuration
 from macsec.iproute import Devices
 
-from .helpers import InFolder, client_frames, main_of
+from .frames import client_frames
+from .helpers import InFolder, main_of
 
 ENDS = "alice=02:00:00:00:01:00@eth1", "bob=02-00-00-00-02-00"
 
 
 def endpoint_of(text: str) -> Configuration:
-    """The endpoint of a file of macsecd."""
     return Configuration("".join(it for it in text.splitlines(True) if not it.startswith("device ")).encode())
 
 

@@ -3,7 +3,6 @@
 from __future__ import annotations
 
 import fcntl
-import io
 import json
 import os
 import pathlib
@@ -13,7 +12,7 @@ import subprocess
 import sys
 import termios
 import time
-import unittest
+from typing import Callable
 from unittest import mock
 
 from macsec import Suite, capture, opener
@@ -25,12 +24,12 @@ from macsec.ivs import UsedIvs
 from macsec.lint import lint
 from macsec.trial import Key, KeyArgument
 
-from .helpers import CAPTURES, KEYS, OTHER, ROOT, SALT, SENDER, InFolder, client_frames, environment, main_of, protected
+from .frames import client_frames, protected
+from .helpers import CAPTURES, KEYS, OTHER, ROOT, SALT, SENDER, InFolder, environment, main_of
 
 KEY = KEYS[0].hex()
 RECEIVER = (CAPTURES / "receiver.config").read_text()
 EXTCAP = ROOT / "integrations/wireshark/macsec-extcap"
-WITHIN = 0.2
 
 
 def command(name: str, *words: object) -> list[str]:
@@ -67,48 +66,22 @@ class Pipes(InFolder):
         status, printed, error = self.piped(whole[:-1], "why", CAPTURES / "receiver.config", "-")
         self.assertEqual((status, b"OK 2" in printed), (1, True), error)
 
-    def test_each_frame_comes_at_once(self) -> None:
-        """A frame is at the other end of the pipe before the next one comes."""
-        frames = client_frames(5)
-        it = subprocess.Popen(command("decrypt", "-", "-", "--key", KEY), stdin=subprocess.PIPE, stdout=subprocess.PIPE,
-                              stderr=subprocess.DEVNULL)  # fmt: skip
-        self.addCleanup(it.communicate)
-        self.addCleanup(it.kill)
-        assert it.stdin is not None and it.stdout is not None
-        it.stdin.write(capture.pcap_header())
-        it.stdin.flush()
-        os.set_blocking(it.stdout.fileno(), False)
-        # The headers come first, so that a reader learns the link type.
-        found = self.read_until(it.stdout.fileno(), 60, lambda octets: len(octets) > 28)
-        times = []
-        for number, frame in enumerate(protected(frames)):
-            it.stdin.write(capture.pcap_record(0, frame))
-            it.stdin.flush()
-            began = time.monotonic()
-            found += self.read_until(it.stdout.fileno(), 60, lambda octets, n=number: frames[n] in octets)  # type: ignore[misc]
-            times.append(time.monotonic() - began)
-        self.assertEqual([one.frame for one in capture.read(io.BytesIO(found))], frames)
-        # Others use the machine too, so two frames may be late.
-        self.assertLess(sorted(times)[-3], WITHIN)
-
     def test_what_happens_is_said_at_once(self) -> None:
         """The key of a sender, and an IV that is used twice with what that means; the counts at the end."""
         frames = protected(client_frames(2)) + protected(client_frames(9)[8:], pn=2)
-        it = subprocess.Popen(command("decrypt", "-", "-", "--key", KEY), stdin=subprocess.PIPE, stdout=subprocess.DEVNULL,
-                              stderr=subprocess.PIPE)  # fmt: skip
+        words = command("decrypt", "-", "-", "--key", KEY)
+        it = subprocess.Popen(words, stdin=subprocess.PIPE, stdout=subprocess.DEVNULL, stderr=subprocess.PIPE)
         self.addCleanup(it.communicate)
         self.addCleanup(it.kill)
         assert it.stdin is not None and it.stderr is not None
-        key, first = (
-            f"record 0: SCI {SENDER} AN 0 under key 1\n",
-            f"IV USED TWICE: records 1 and 2, key 1, SCI {SENDER}, PN 0x2\n",
-        )
+        key = f"record 0: SCI {SENDER} AN 0 under key 1\n"
+        first = f"IV USED TWICE: records 1 and 2, key 1, SCI {SENDER}, PN 0x2\n"
         written = capture.pcap_header()
         for octets, expected in ((frames[0], key), (frames[1], ""), (frames[2], first)):
             it.stdin.write(written + capture.pcap_record(0, octets))
             it.stdin.flush()
             written = b""
-            said = self.read_until(it.stderr.fileno(), 60, lambda text, e=expected: text.endswith(b"\n") or not e)  # type: ignore[misc]
+            said = self.read_until(it.stderr.fileno(), lambda text, e=expected: text.endswith(b"\n") or not e)
             self.assertTrue(said.decode().startswith(expected), said)
         said += it.communicate()[1]
         lost, counts = said.decode().splitlines()[1:]
@@ -116,9 +89,9 @@ class Pipes(InFolder):
         self.assertIn("reads the XOR of their data, and can forge frames under the key. Stop using it", lost)
 
     @staticmethod
-    def read_until(file: int, seconds: float, is_there: object) -> bytes:
-        found, until = b"", time.monotonic() + seconds
-        while not is_there(found) and time.monotonic() < until:  # type: ignore[operator]
+    def read_until(file: int, is_there: Callable[..., bool]) -> bytes:
+        found, until = b"", time.monotonic() + 60
+        while not is_there(found) and time.monotonic() < until:
             if select.select([file], [], [], 0.05)[0]:
                 found += os.read(file, 65536)
         return found
@@ -190,9 +163,8 @@ class Pipes(InFolder):
 class Configs(InFolder):
     def test_keys_of_a_config(self) -> None:
         found = keys_of_config((CAPTURES / "xpn.config").read_bytes())
-        self.assertEqual([(it.salt, it.ssci, it.sci and it.sci.hex(), it.an, it.id) for it in found], [
-            (SALT, 1, SENDER, 1, "key 0"), (SALT, None, None, None, "key 0"),
-        ])  # fmt: skip
+        told = [(it.salt, it.ssci, it.sci and it.sci.hex(), it.an, it.id) for it in found]
+        self.assertEqual(told, [(SALT, 1, SENDER, 1, "key 0"), (SALT, None, None, None, "key 0")])
         found = keys_of_config((CAPTURES / "sender.config").read_bytes())
         self.assertEqual([(it.sci and it.sci.hex(), it.an) for it in found], [(SENDER, 0), (None, None)])
 
@@ -212,9 +184,8 @@ class Configs(InFolder):
                 status, text, error = main_of(decrypt.main, *words)
                 self.assertEqual((status, error, [it.frame for it in capture.read(str(out))]), (0, "", frames))
                 self.assertIn("under key 0", text)
-        told = main_of(
-            decrypt.main, words[0], self.folder / "NEW", "--config", self.put("CONFIG", "device link a\nend B\n")
-        )
+        config = self.put("CONFIG", "device link a\nend B\n")
+        told = main_of(decrypt.main, words[0], self.folder / "NEW", "--config", config)
         self.assertEqual((told[0], "line 2: " in told[2]), (2, True), told)
         with self.assertRaises(UsageError):
             keys_of_config(b"")
@@ -234,9 +205,8 @@ class Extcap(InFolder):
         def asked(*words: str) -> list[str]:
             return subprocess.run([EXTCAP, *words], capture_output=True, text=True, check=True).stdout.splitlines()
 
-        self.assertIn(
-            "interface {value=macsec}{display=MACsec, opened}", asked("--extcap-interfaces", "--extcap-version=4.0")
-        )
+        interfaces = asked("--extcap-interfaces", "--extcap-version=4.0")
+        self.assertIn("interface {value=macsec}{display=MACsec, opened}", interfaces)
         of = ("--extcap-interface", "macsec")
         self.assertEqual(asked("--extcap-dlts", *of), ["dlt {number=1}{name=EN10MB}{display=Ethernet}"])
         options = asked("--extcap-config", *of)
@@ -301,15 +271,8 @@ class Extcap(InFolder):
 
     def test_faults(self) -> None:
         for words, text in (
-            (["--capture"], "macsec-extcap: --capture needs --device and --fifo\n"),
-            (
-                ["--capture", "--device", "eth0", "--fifo", "/f"],
-                "macsec-extcap: dumpcap of Wireshark is not on the PATH\n",
-            ),
+            (["--capture"], "--capture needs --device and --fifo"),
+            (["--capture", "--device", "eth0", "--fifo", "/f"], "dumpcap of Wireshark is not on the PATH"),
         ):
             told = subprocess.run([sys.executable, EXTCAP, *words], capture_output=True, text=True, env={"PATH": ""})
-            self.assertEqual((told.returncode in (1, 2), told.stderr), (True, text))
-
-
-if __name__ == "__main__":
-    unittest.main()
+            self.assertEqual((told.returncode in (1, 2), told.stderr), (True, f"macsec-extcap: {text}\n"))

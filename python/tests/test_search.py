@@ -4,7 +4,6 @@ from __future__ import annotations
 
 import json
 import time
-import unittest
 from collections.abc import Sequence
 from unittest import mock
 
@@ -12,7 +11,8 @@ from macsec import Suite, capture, seal
 from macsec.cli import config, why
 from macsec.cli.decrypt import main
 
-from .helpers import KEYS, LONG_KEY, OTHER, SALT, SENDER, InFolder, client_frames, main_of, protected
+from .frames import client_frames, protected
+from .helpers import KEYS, LONG_KEY, OTHER, SALT, SENDER, InFolder, main_of
 
 KEY, LONG, SALTED = KEYS[0].hex(), LONG_KEY.hex(), f"{KEYS[0].hex()}:{SALT.hex()}"
 LONG_SALTED = f"{LONG}:{SALT.hex()}"
@@ -36,8 +36,7 @@ def sealed(
 
 
 def xpn(upper: int, suite: Suite = Suite.xpn128, ssci: int = 1, low: int = 1, **how: object) -> list[bytes]:
-    """Frames under extended packet numbers."""
-    key = LONG_KEY if suite == Suite.xpn256 else KEYS[0]
+    key = LONG_KEY if suite.key_octets == 32 else KEYS[0]
     return protected(client_frames(3), suite=suite, key=key, pn=upper << 32 | low, ssci=ssci, **how)
 
 
@@ -167,7 +166,6 @@ class Width(Decrypted):
 
 class Hints(Decrypted):
     def lines(self, frames: Sequence[bytes], *keys: str) -> list[str]:
-        """The hints, one in each line."""
         return self.hint(frames, *keys).splitlines()
 
     def test_what_is_missing_is_named_and_opens_it(self) -> None:
@@ -213,20 +211,16 @@ class Hints(Decrypted):
         """One hint for each tag form, the largest group first; senders with the same text share one."""
         frames = protected(client_frames(2), key=KEYS[1]) + sealed(ES, OTHER_PORT, key=KEYS[1])
         first, second = self.hint(frames, KEY).splitlines()
-        self.assertTrue(
-            first.startswith("3 frames not opened, SCI 0200000000010001 AN 0, ES E C, from record 2: "), first
-        )
-        self.assertTrue(
-            second.startswith("2 frames not opened, SCI 0200000000010001 AN 0, SC E C, from record 0: "), second
-        )
+        for line, count, bits, record in ((first, 3, "ES E C", 2), (second, 2, "SC E C", 0)):
+            begin = f"{count} frames not opened, SCI {SENDER} AN 0, {bits}, from record {record}: "
+            self.assertTrue(line.startswith(begin), line)
         many = [it for n in range(40) for it in protected(client_frames(1), key=KEYS[1], sci=f"02000000{n:04x}0001")]
         many += [it for n in range(30) for it in protected(client_frames(1), an=3, sci=f"02010000{n:04x}0001")]
         keys = [f"{0x0200000000000001 + (n << 16):016x}/0={KEYS[2].hex()}" for n in range(20)]
         lines = self.hint(many, *keys).splitlines()
         self.assertEqual(len(lines), 17)
-        self.assertTrue(
-            lines[0].startswith("30 frames not opened, SCI 0201000000000001 AN 3 and 29 more senders"), lines[0]
-        )
+        begin = "30 frames not opened, SCI 0201000000000001 AN 3 and 29 more senders"
+        self.assertTrue(lines[0].startswith(begin), lines[0])
 
     def test_the_time_grows_with_keys_and_frames(self) -> None:
         """200 keys whose salts do not fit, over 90 frames."""
@@ -247,15 +241,7 @@ class Hints(Decrypted):
     def test_many_keys_in_any_order(self) -> None:
         """60 rekeys under XPN, with the keys in another order: each is found, although all searches together are more
         than a run may try."""
-        octets = [bytes([number]) * 16 for number in range(1, 61)]
-        frames = [
-            it for place in range(60) for it in protected(
-                client_frames(1), suite=Suite.xpn128, key=octets[place * 7 % 60], an=place % 4
-            )
-        ]  # fmt: skip
+        octets, how = [bytes([number]) * 16 for number in range(1, 61)], {"suite": Suite.xpn128}
+        frames = [protected(client_frames(1), key=octets[n * 7 % 60], an=n % 4, **how)[0] for n in range(60)]
         status, shown = self.shown(frames, *(f"{it.hex()}:{SALT.hex()}" for it in octets))
         self.assertEqual((status, sum(it.get("state") == "opened" for it in shown)), (0, 60))
-
-
-if __name__ == "__main__":
-    unittest.main()

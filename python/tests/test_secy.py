@@ -9,9 +9,10 @@ import threading
 import unittest
 
 import macsec
-from macsec import Fate, Mode, SecY, Suite, Verdict
+from macsec import Fate, Mode, SecY, Verdict
 
-from .helpers import KEYS, LONG_KEY, OTHER, RECEIVER, SALT, SENDER, client_frames, protected, sender
+from .frames import altered, client_frames, protected, sender
+from .helpers import KEYS, OTHER, RECEIVER, SENDER
 
 try:
     from scapy.all import Ether, raw
@@ -19,10 +20,9 @@ except ImportError:
     Ether = None
 
 
-def receiver(suite: Suite, key: bytes) -> SecY:
-    it = SecY(RECEIVER, suite)
-    extended = {"ssci": 2, "salt": SALT} if suite.is_extended else {}
-    it.install_key(0, key, **extended)  # type: ignore[arg-type]
+def receiver() -> SecY:
+    it = SecY(RECEIVER)
+    it.install_key(0, KEYS[0])
     it.add_rx_sc(SENDER)
     it.add_rx_sa(SENDER, 0, 0, 1, ssci=1)
     it.enable_rx_sa(SENDER, 0)
@@ -30,19 +30,6 @@ def receiver(suite: Suite, key: bytes) -> SecY:
 
 
 class Frames(unittest.TestCase):
-    def test_each_suite_there_and_back(self) -> None:
-        for suite in (Suite.gcm128, Suite.gcm256, Suite.xpn128, Suite.xpn256):
-            key = LONG_KEY if suite.key_octets == 32 else KEYS[0]
-            frames = client_frames(3)
-            with receiver(suite, key) as b:
-                for link, client in zip(protected(frames, suite=suite, key=key), frames):
-                    self.assertNotEqual(link, client)
-                    self.assertEqual(b.receive(link), (Verdict.OK, client, bytes.fromhex(SENDER), 0, None))
-                self.assertEqual(b.rx_counters(SENDER)["InPktsOK"], 3)
-                self.assertEqual(b.rx_counters(SENDER, 0)["InPktsOK"], 3)
-                self.assertEqual(b.rx_sa(SENDER, 0).next, 4)
-                self.assertEqual(b.rx_scs(), [bytes.fromhex(SENDER)])
-
     def test_what_a_frame_can_be(self) -> None:
         class Packet:
             def __bytes__(self) -> bytes:
@@ -61,7 +48,7 @@ class Frames(unittest.TestCase):
     @unittest.skipIf(Ether is None, "scapy is not installed")
     def test_a_packet_of_scapy(self) -> None:
         packet = Ether(dst="02:00:00:00:00:0f", src="02:00:00:00:00:01", type=0x88B5) / (b"\x01" * 50)
-        with sender() as a, receiver(Suite.gcm128, KEYS[0]) as b:
+        with sender() as a, receiver() as b:
             link = Ether(a.send(packet).frame)
             self.assertEqual(b.receive(link).frame, raw(packet))
 
@@ -158,31 +145,6 @@ class Errors(unittest.TestCase):
 
 
 class Journals(unittest.TestCase):
-    """What a file would hold is a list of octets here."""
-
-    def test_no_packet_number_twice(self) -> None:
-        journal, frames, numbers, last = macsec.journal_header(bytes(range(24))), client_frames(9), [], 0
-        for _ in range(2):
-            with SecY(SENDER, journal=journal) as a:
-                a.install_key(0, KEYS[0])
-                if last:
-                    with self.assertRaises(macsec.Refused) as why:
-                        a.add_tx_sa(0, 0, last, True)
-                    self.assertEqual(why.exception.name, "PnFloor")
-                a.add_tx_sa(0, 0, last + 1, True)
-                a.enable_tx_sa(0)
-                self.assertEqual(a.send(frames[0]), (Fate.NoReservation, None, None))
-                record = a.reserve_wanted(0, 4)
-                assert record is not None
-                journal += record
-                a.reserve_granted(record)
-                self.assertIsNone(a.reserve_wanted(0, 4))
-                numbers += [it.frame[16:20] for it in map(a.send, frames) if it.frame is not None]
-                last = a.tx_sa(0).next - 1
-        self.assertEqual(numbers, [it.to_bytes(4, "big") for it in range(1, last + 1)])
-        self.assertGreaterEqual(last, 8)
-        self.assertEqual(len(macsec.journal_compacted(journal)), 128)
-
     def test_faults(self) -> None:
         journal = macsec.journal_header(bytes(24))
         config = f"end A gcm128 {SENDER} 1546 sci\n"
@@ -195,18 +157,6 @@ class Journals(unittest.TestCase):
             self.assertRaises(macsec.JournalFault, call)
         self.assertRaises(ValueError, macsec.journal_header, bytes(23))
 
-    def test_to_save(self) -> None:
-        with receiver(Suite.gcm128, KEYS[0]) as b:
-            for link in protected(client_frames(3)):
-                b.receive(link)
-            record = b.reserve_to_save(SENDER, 0)
-            self.assertRaises(macsec.NotFound, b.reserve_to_save, SENDER, 1)
-        with SecY(RECEIVER, journal=macsec.journal_header(bytes(24)) + record) as b:
-            b.install_key(0, KEYS[0])
-            b.add_rx_sc(SENDER)
-            self.assertRaises(macsec.Refused, b.add_rx_sa, SENDER, 0, 0, 3)
-            b.add_rx_sa(SENDER, 0, 0, 4)
-
     def test_ahead_is_an_option_of_a_journal(self) -> None:
         config = f"end A gcm128 {RECEIVER} 1546 sci\n"
         self.assertRaises(ValueError, lambda: SecY(RECEIVER, ahead=True))
@@ -216,85 +166,23 @@ class Journals(unittest.TestCase):
 
 
 class Ahead(unittest.TestCase):
-    """Receivers with a journal, and frames that come again."""
-
-    def setUp(self) -> None:
-        self.journal = macsec.journal_header(bytes(range(24)))
-        self.frames = client_frames(6)
-        self.links = protected(self.frames)
-
-    def beside(self, pn: int = 1, ahead: bool = True) -> SecY:
-        """A receiver with the journal as it is now."""
-        lines = f"A key 0 {KEYS[0].hex()} 0\nA rxsc {SENDER}\nA rxsa {SENDER} 0 0 {pn:x}\nA rxon {SENDER} 0\n"
-        it = SecY.configure(f"end A gcm128 {RECEIVER} 1546 sci\n{lines}", self.journal, ahead=ahead)
-        self.addCleanup(it.close)
-        return it
-
-    def reserve(self, it: SecY, amount: int, pn: int = 0) -> None:
-        """Writes a record, and reports it."""
-        record = it.reserve_to_accept(SENDER, 0, amount, pn)
-        assert record is not None
-        self.journal += record
-        it.reserve_granted(record)
-
     def test_numbers_are_reserved_before_they_are_accepted(self) -> None:
-        sci = bytes.fromhex(SENDER)
-        with self.beside() as b:
+        frames, sci, journal = (client_frames(6), bytes.fromhex(SENDER), macsec.journal_header(bytes(range(24))))
+        links = protected(frames)
+        lines = f"A key 0 {KEYS[0].hex()} 0\nA rxsc {SENDER}\nA rxsa {SENDER} 0 0 1\nA rxon {SENDER} 0\n"
+        with SecY.configure(f"end A gcm128 {RECEIVER} 1546 sci\n{lines}", journal, ahead=True) as b:
             before = b.counters(), b.rx_counters(SENDER), b.rx_sa(SENDER, 0)
             for _ in range(2):
-                self.assertEqual(b.receive(self.links[1]), (Verdict.NoReservation, None, sci, 0, 2))
+                self.assertEqual(b.receive(links[1]), (Verdict.NoReservation, None, sci, 0, 2))
             self.assertEqual((b.counters(), b.rx_counters(SENDER), b.rx_sa(SENDER, 0)), before)
-            self.reserve(b, 2, 2)
+            record = b.reserve_to_accept(SENDER, 0, 2, 2)
+            assert record is not None
+            b.reserve_granted(record)
             self.assertIsNone(b.reserve_to_accept(SENDER, 0, 2, 2))
             self.assertIsNone(b.reserve_to_accept(SENDER, 1, 2))
-            self.assertEqual(b.receive(self.links[1]), (Verdict.OK, self.frames[1], sci, 0, None))
-            self.assertEqual(b.receive(self.links[4]), (Verdict.NoReservation, None, sci, 0, 5))
-            altered = self.links[4][:-1] + bytes([self.links[4][-1] ^ 1])
-            self.assertEqual(b.receive(altered), (Verdict.NotValid, None, sci, 0, None))
-
-    def test_what_an_earlier_run_accepted_is_not_accepted_again(self) -> None:
-        with self.beside() as b:
-            self.reserve(b, 3)
-            self.assertEqual([b.receive(it).verdict for it in self.links[:4]], [Verdict.OK] * 4)
-        for ahead, verdict in ((True, Verdict.EarlierRun), (False, Verdict.Delayed)):
-            with self.assertRaises(macsec.Refused) as why:
-                self.beside(4, ahead)
-            self.assertEqual((why.exception.name, why.exception.line), ("PnFloor", 4))
-            with self.beside(5, ahead) as b:
-                self.assertEqual(b.reserve_rx_floor(SENDER, 0, 0), 4)
-                self.assertEqual(b.receive(self.links[0]).verdict, Verdict.Late)
-                b.set_replay(False)
-                wanted = b.reserve_to_accept(SENDER, 0, 8)
-                for number, link in enumerate(self.links[:4], 1):
-                    received = b.receive(link)
-                    self.assertEqual((received.verdict, received.pn), (verdict, number if ahead else None))
-                    self.assertEqual(received.frame is None, ahead)
-                self.assertEqual(b.reserve_to_accept(SENDER, 0, 8), wanted)
-
-    def test_a_deleted_association_does_not_begin_again(self) -> None:
-        for ahead in (False, True):
-            with self.beside(ahead=ahead) as b:
-                if ahead:
-                    self.reserve(b, 9)
-                self.assertEqual(b.receive(self.links[0]).verdict, Verdict.OK)
-                b.delete_rx_sa(SENDER, 0)
-                self.assertEqual(b.reserve_rx_floor(SENDER, 0, 0), 1)
-                for again in (lambda: b.add_rx_sa(SENDER, 0, 0, 1), lambda: b.command(f"A rxsa {SENDER} 0 0 1")):
-                    with self.assertRaises(macsec.Refused) as why:
-                        again()
-                    self.assertEqual(why.exception.name, "PnFloor")
-                b.delete_rx_sc(SENDER)
-                with self.assertRaises(macsec.Refused) as first:
-                    b.add_rx_sa(SENDER, 0, 0, 1)
-                self.assertEqual(first.exception.name, "PnFloor")
-                b.add_rx_sc(SENDER)
-                b.add_rx_sa(SENDER, 0, 0, 2)
-                b.enable_rx_sa(SENDER, 0)
-                self.assertEqual([b.receive(it).verdict for it in self.links[:2]], [Verdict.Late, Verdict.OK])
-                b.delete_rx_sa(SENDER, 0)
-                b.retire_key(0)
-                self.assertEqual(b.reserve_rx_floor(SENDER, 0, 0), 0)
-            self.journal = macsec.journal_header(bytes(range(24)))
+            self.assertEqual(b.receive(links[1]), (Verdict.OK, frames[1], sci, 0, None))
+            self.assertEqual(b.receive(links[4]), (Verdict.NoReservation, None, sci, 0, 5))
+            self.assertEqual(b.receive(altered(links[4])), (Verdict.NotValid, None, sci, 0, None))
 
 
 class Options(unittest.TestCase):
@@ -324,7 +212,7 @@ class Life(unittest.TestCase):
                 thread.start()
             for thread in threads:
                 thread.join()
-        with receiver(Suite.gcm128, KEYS[0]) as b:
+        with receiver() as b:
             b.set_replay(False)
             verdicts = {b.receive(link).verdict for link in sent}
         self.assertEqual(len({link[16:20] for link in sent}), len(frames) * each)
@@ -339,7 +227,3 @@ class Life(unittest.TestCase):
         with open("/proc/self/status", encoding="ascii") as file:
             size = next(int(it.split()[1]) for it in file if it.startswith("VmSize"))
         self.assertLess(size, 2_000_000)
-
-
-if __name__ == "__main__":
-    unittest.main()

@@ -9,7 +9,8 @@ from macsec import Suite
 from macsec.names import Verdict
 from macsec.trial import Key, Trial
 
-from .helpers import KEYS, SALT, SENDER, client_frames, protected
+from .frames import client_frames, protected
+from .helpers import KEYS, SALT, SENDER
 
 SCI = bytes.fromhex(SENDER)
 
@@ -40,7 +41,3 @@ class Beginning(unittest.TestCase):
                 met.add(verdict)
             trial.close()
         self.assertEqual(met, {Verdict.OK, Verdict.NotValid})
-
-
-if __name__ == "__main__":
-    unittest.main()
