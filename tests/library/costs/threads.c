@@ -6,7 +6,7 @@
  * two seal at the same time, then the first three, up to all. Before each time the main thread plans frames of so many
  * octets of data, encrypted under a 128-bit key with an explicit SCI, in SLOTS slots of each thread that is to seal.
  * Only the sealing is timed, in each thread from the moment when all of them may begin until it has sealed its own
- * frames. The other threads sleep. No lock and no memory is shared while they seal.
+ * frames. No lock and no memory is shared while they seal.
  *
  * For each time and thread it prints how many threads sealed, the thread, and its nanoseconds.
  *
@@ -15,7 +15,6 @@
 #include "macsec.h"
 #include <pthread.h>
 #include <sched.h>
-#include <semaphore.h>
 #include <stdatomic.h>
 #include <stdio.h>
 #include <stdlib.h>
@@ -29,9 +28,9 @@ struct own {
     macsec_slot slots[SLOTS];
     uint8_t out[MACSEC_FRAME_MAX];
     pthread_t thread;
-    sem_t called;
+    pthread_attr_t on_processor;
     double took;
-    bool failed, ends;
+    bool failed;
 };
 
 static struct own owns[THREADS];
@@ -39,7 +38,6 @@ static unsigned threads;
 /* How many threads seal now, and how many of them are ready. */
 static unsigned called;
 static _Alignas(64) _Atomic unsigned ready;
-static _Alignas(64) sem_t sealed;
 #ifdef ONE_LOCK
 static pthread_mutex_t lock = PTHREAD_MUTEX_INITIALIZER;
 #endif
@@ -57,7 +55,13 @@ static void must(bool good, const char *what) {
     }
 }
 
-static void seal_all(struct own *it) {
+/* Seals its frames once all threads that are called are ready. */
+static void *work(void *own) {
+    struct own *it = own;
+    atomic_fetch_add(&ready, 1);
+    while (atomic_load(&ready) < called)
+        __builtin_ia32_pause();
+    double began = now();
     for (unsigned i = 0; i < SLOTS; i++) {
         size_t written;
 #ifdef ONE_LOCK
@@ -68,115 +72,70 @@ static void seal_all(struct own *it) {
         pthread_mutex_unlock(&lock);
 #endif
     }
-}
-
-/* Seals its frames each time that it is called, once all that are called are ready. */
-static void *work(void *own) {
-    struct own *it = own;
-    for (;;) {
-        double began;
-        must(sem_wait(&it->called) == 0, "a thread cannot wait");
-        if (it->ends)
-            return NULL;
-        atomic_fetch_add(&ready, 1);
-        while (atomic_load(&ready) < called)
-            __builtin_ia32_pause();
-        began = now();
-        seal_all(it);
-        it->took = now() - began;
-        must(sem_post(&sealed) == 0, "a thread cannot say that it has ended");
-    }
-}
-
-static void plan_all(macsec_endpoint *e, struct own *it, const uint8_t *frame, size_t length) {
-    for (unsigned i = 0; i < SLOTS; i++) {
-        macsec_planned planned;
-        must(macsec_plan_send(e, &it->slots[i], frame, length, &planned) == MACSEC_OK && planned.job, "no plan");
-    }
+    it->took = now() - began;
+    return NULL;
 }
 
 /* Has some threads seal at the same time, and prints what each took. */
 static void seal_at_once(macsec_endpoint *e, unsigned first, unsigned count, const uint8_t *frame, size_t length) {
-    for (unsigned i = first; i < first + count; i++)
-        plan_all(e, &owns[i], frame, length);
+    for (unsigned i = first; i < first + count; i++) {
+        for (unsigned s = 0; s < SLOTS; s++) {
+            macsec_planned planned;
+            must(macsec_plan_send(e, &owns[i].slots[s], frame, length, &planned) == MACSEC_OK && planned.job,
+                 "no plan");
+        }
+    }
     called = count;
     atomic_store(&ready, 0);
     for (unsigned i = first; i < first + count; i++)
-        must(sem_post(&owns[i].called) == 0, "a thread cannot be called");
+        must(pthread_create(&owns[i].thread, &owns[i].on_processor, work, &owns[i]) == 0, "no thread");
     for (unsigned i = first; i < first + count; i++)
-        must(sem_wait(&sealed) == 0, "no wait for the threads");
+        must(pthread_join(owns[i].thread, NULL) == 0 && !owns[i].failed, "a frame was not sealed");
     for (unsigned i = first; i < first + count; i++)
         printf("%u %u %.0f\n", count, i, owns[i].took);
 }
 
-/* Starts each thread on another processor, of those that this process may run on. */
-static void start_all(void) {
-    cpu_set_t all;
-    int processor = -1;
-    must(sched_getaffinity(0, sizeof all, &all) == 0 && (unsigned)CPU_COUNT(&all) >= threads, "too few processors");
-    for (unsigned i = 0; i < threads; i++) {
-        pthread_attr_t attributes;
-        cpu_set_t one;
-        do
-            processor++;
-        while (!CPU_ISSET(processor, &all));
-        CPU_ZERO(&one);
-        CPU_SET(processor, &one);
-        must(sem_init(&owns[i].called, 0, 0) == 0 && pthread_attr_init(&attributes) == 0 &&
-                 pthread_attr_setaffinity_np(&attributes, sizeof one, &one) == 0 &&
-                 pthread_create(&owns[i].thread, &attributes, work, &owns[i]) == 0 &&
-                 pthread_attr_destroy(&attributes) == 0,
-             "no thread");
-    }
-}
-
+/* Gives each thread another processor, of those that this process may run on, a key and slots. */
 static void open_all(macsec_endpoint *e) {
     static const char text[] = "end A gcm128 1215352400000001 9000 sci\n"
                                "A key 0 ad7a2bd03eac835a6f620fdcb506b345 0\n"
                                "A txsa 0 0 1 conf\n"
                                "A txon 0\n";
     uint32_t line;
+    cpu_set_t all;
+    int processor = -1;
     must(macsec_configure(e, (const uint8_t *)text, sizeof text - 1, &line) == MACSEC_OK, "no endpoint");
+    must(sched_getaffinity(0, sizeof all, &all) == 0 && (unsigned)CPU_COUNT(&all) >= threads, "too few processors");
     for (unsigned i = 0; i < threads; i++) {
+        cpu_set_t one;
+        do
+            processor++;
+        while (!CPU_ISSET(processor, &all));
+        CPU_ZERO(&one);
+        CPU_SET(processor, &one);
+        must(pthread_attr_init(&owns[i].on_processor) == 0 &&
+                 pthread_attr_setaffinity_np(&owns[i].on_processor, sizeof one, &one) == 0,
+             "no processor");
         must(macsec_key_take(&owns[i].key, e, 0) == MACSEC_OK, "no key");
         for (unsigned s = 0; s < SLOTS; s++)
             must(macsec_slot_new(&owns[i].slots[s]) == MACSEC_OK, "no slot");
     }
 }
 
-static void close_all(macsec_endpoint *e) {
-    for (unsigned i = 0; i < threads; i++) {
-        owns[i].ends = true;
-        must(sem_post(&owns[i].called) == 0 && pthread_join(owns[i].thread, NULL) == 0, "a thread does not end");
-        must(!owns[i].failed, "a frame was not sealed");
-        for (unsigned s = 0; s < SLOTS; s++)
-            macsec_slot_free(&owns[i].slots[s]);
-        macsec_key_free(&owns[i].key);
-        sem_destroy(&owns[i].called);
-    }
-    macsec_free(e);
-}
-
 int main(int count, char **words) {
     static uint8_t frame[9000] = { 2, 0, 0, 0, 0, 2, 2, 0, 0, 0, 0, 1, 8, 0 };
     macsec_endpoint e = MACSEC_ENDPOINT_INIT;
-    size_t length;
-    unsigned rounds;
     must(count == 4, "usage: threads THREADS OCTETS ROUNDS");
     threads = (unsigned)strtoul(words[1], NULL, 10);
-    length = strtoul(words[2], NULL, 10) + 12; /* the addresses are no data */
-    rounds = (unsigned)strtoul(words[3], NULL, 10);
+    size_t length = strtoul(words[2], NULL, 10) + 12; /* the addresses are no data */
+    unsigned rounds = (unsigned)strtoul(words[3], NULL, 10);
     must(threads > 0 && threads <= THREADS && length <= sizeof frame, "too many threads or octets");
-    must(sem_init(&sealed, 0, 0) == 0, "no semaphore");
     open_all(&e);
-    start_all();
     for (unsigned round = 0; round < rounds; round++) {
         for (unsigned i = 0; i < threads; i++)
             seal_at_once(&e, i, 1, frame, length);
         for (unsigned at_once = 2; at_once <= threads; at_once++)
             seal_at_once(&e, 0, at_once, frame, length);
     }
-    close_all(&e);
-    sem_destroy(&sealed);
     return 0;
 }

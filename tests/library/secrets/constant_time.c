@@ -10,6 +10,7 @@
  * Memcheck reports each branch and each address that depends on an undefined value. What an attacker sees in any case
  * is marked as defined again: the status of each call, what it answers, and each frame once it is on the link.
  */
+#include "../suites.h"
 #include "macsec.h"
 #include <stdio.h>
 #include <stdlib.h>
@@ -63,16 +64,14 @@ static void open_endpoint(macsec_endpoint *e, const uint8_t sci[8], uint32_t sui
         must("new", macsec_new(e, &config), MACSEC_OK);
 }
 
-static bool is_xpn(uint32_t suite) {
-    return suite == MACSEC_SUITE_GCM_AES_XPN_128 || suite == MACSEC_SUITE_GCM_AES_XPN_256;
-}
-
 static macsec_sak sak(uint16_t number, uint32_t suite, uint8_t offset, uint32_t ssci, unsigned seed) {
-    macsec_sak key = { .number = number, .suite = suite, .offset = offset, .ssci = is_xpn(suite) ? ssci : 0 };
-    key.length = suite == MACSEC_SUITE_GCM_AES_256 || suite == MACSEC_SUITE_GCM_AES_XPN_256 ? 32 : 16;
+    macsec_sak key = {
+        .number = number, .suite = suite, .offset = offset, .ssci = suite_is_extended(suite) ? ssci : 0
+    };
+    key.length = suite_key_octets(suite);
     for (unsigned i = 0; i < key.length; i++)
         key.bytes[i] = (uint8_t)(i * 37 + 11 + seed * 101);
-    for (unsigned i = 0; is_xpn(suite) && i < sizeof key.salt; i++)
+    for (unsigned i = 0; suite_is_extended(suite) && i < sizeof key.salt; i++)
         key.salt[i] = (uint8_t)(i + seed);
     return key;
 }
@@ -85,12 +84,11 @@ static size_t hex(char *to, const uint8_t *octets, size_t count) {
 
 /* The words of a key after `key`, in a line of a script and in a CONFIG. */
 static size_t key_words(char line[300], const macsec_sak *key, const char *before) {
-    static const char *const names[] = { "", "gcm128", "gcm256", "xpn128", "xpn256" };
     size_t at = (size_t)sprintf(line, "%skey %u ", before, key->number);
     char *digits = line + at;
     at += hex(digits, key->bytes, key->length);
-    at += (size_t)sprintf(line + at, " %u %s", key->offset, names[key->suite]);
-    if (is_xpn(key->suite)) {
+    at += (size_t)sprintf(line + at, " %u %s", key->offset, macsec_suite_name(key->suite));
+    if (suite_is_extended(key->suite)) {
         at += (size_t)sprintf(line + at, " %08x ", key->ssci);
         at += hex(line + at, key->salt, sizeof key->salt);
         line[at] = 0;
@@ -100,12 +98,24 @@ static size_t key_words(char line[300], const macsec_sak *key, const char *befor
     return at;
 }
 
+/* Carries out a line as it is, or parses it first. */
+static uint32_t take_line(macsec_endpoint *e, const char *line, size_t length, bool parses) {
+    if (!parses)
+        return macsec_command_line(e, (const uint8_t *)line, length);
+    macsec_command command;
+    uint32_t status = macsec_parse_line((const uint8_t *)line, length, &command);
+    if (status == MACSEC_OK)
+        status = macsec_carry_out(e, &command);
+    macsec_clear_command(&command);
+    return status;
+}
+
 static void install_as(macsec_endpoint *e, macsec_sak key, uint16_t number, uint32_t wanted) {
     char line[300];
     key.number = number;
     if (text) {
         size_t length = key_words(line, &key, "A ");
-        must("key line", macsec_command_line(e, (const uint8_t *)line, length), wanted);
+        must("key line", take_line(e, line, length, number % 2 != 0), wanted);
         return;
     }
     if (keys)
@@ -295,7 +305,7 @@ static void run(uint32_t suite, uint8_t offset, bool encrypts, unsigned seed) {
         reserve(&a);
     must("enable", macsec_enable_tx_sa(&a, 0), MACSEC_OK);
     must("rxsc", macsec_add_rx_sc(&b, own), MACSEC_OK);
-    must("rxsa", macsec_add_rx_sa(&b, own, 0, 0, 1, is_xpn(suite) ? 1 : 0), MACSEC_OK);
+    must("rxsa", macsec_add_rx_sa(&b, own, 0, 0, 1, suite_is_extended(suite) ? 1 : 0), MACSEC_OK);
     must("rxon", macsec_enable_rx_sa(&b, own, 0), MACSEC_OK);
     open_slots(&a, &b);
     for (size_t i = 0; i < COUNT(lengths); i++) {
@@ -370,8 +380,8 @@ int main(int words, char **word) {
     if (text)
         configure();
     unsigned seed = 1;
-    for (uint32_t suite = 1; suite <= 4; suite++)
-        for (uint8_t offset = 0; offset <= (is_xpn(suite) ? 0 : 50); offset = offset == 0 ? 30 : offset + 20)
+    for (uint32_t suite = 1; suite <= LAST_SUITE; suite++)
+        for (uint8_t offset = 0; offset <= (suite_is_extended(suite) ? 0 : 50); offset = offset == 0 ? 30 : offset + 20)
             for (int encrypts = 0; encrypts < 2; encrypts++, seed += 2)
                 run(suite, offset, encrypts, seed);
     must_be("frames that were not reserved", ahead ? unreserved > frames / 4 : unreserved, ahead);

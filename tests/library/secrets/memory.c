@@ -1,15 +1,17 @@
 /* Takes keys, uses them, and frees them, and stops after each step: tests/library/keys-in-memory reads its memory then.
  *
- * usage: memory WAY SUITE KEYS: SUITE is 1 to 4. WAY is struct, line or config, and KEYS how many keys come one after
- * another. Or, as with struct: rekeys, and KEYS is how many changes of keys there are; beside, and a third endpoint
- * lives on; locked, and the memory is locked; journal, and the endpoints have a journal; ahead, and they also reserve
- * packet numbers ahead of receiving; jobs, and the frames pass in slots; kept, and no key is retired.
+ * usage: memory WAY SUITE KEYS: SUITE is 1 to 4. WAY is struct, line, parsed (lines that are parsed, and then carried
+ * out) or config, and KEYS how many keys come one after another. Or, as with struct: rekeys, and KEYS is how many
+ * changes of keys there are; beside, and a third endpoint lives on; locked, and the memory is locked; journal, and the
+ * endpoints have a journal; ahead, and they also reserve packet numbers ahead of receiving; jobs, and the frames pass
+ * in slots; kept, and no key is retired.
  *
  * Its standard input has the octets of the first key, for each of two rounds, those of the next one for each change of
  * keys, and an octet for each step. The octets of a key are in no variable when a step is announced. The endpoints of
  * the second round take memory that those of the first have freed.
  */
 #define _GNU_SOURCE
+#include "../suites.h"
 #include "macsec.h"
 #include <stdio.h>
 #include <stdlib.h>
@@ -45,22 +47,21 @@ static void step(const char *name) {
 }
 
 static bool is_xpn(void) {
-    return suite == MACSEC_SUITE_GCM_AES_XPN_128 || suite == MACSEC_SUITE_GCM_AES_XPN_256;
+    return suite_is_extended(suite);
 }
 
 static uint8_t key_length(void) {
-    return suite == MACSEC_SUITE_GCM_AES_128 || suite == MACSEC_SUITE_GCM_AES_XPN_128 ? 16 : 32;
+    return suite_key_octets(suite);
 }
 
 /* The line of a script that installs a key. */
 static size_t key_line(char line[200], const macsec_sak *key, const char *before) {
-    static const char *const names[] = { "", "gcm128", "gcm256", "xpn128", "xpn256" };
     size_t at = (size_t)sprintf(line, "%sA key %u ", before, key->number);
     for (unsigned i = 0; i < key->length; i++) {
         line[at++] = "0123456789abcdef"[key->bytes[i] >> 4];
         line[at++] = "0123456789abcdef"[key->bytes[i] & 15];
     }
-    at += (size_t)sprintf(line + at, " 0 %s", names[suite]);
+    at += (size_t)sprintf(line + at, " 0 %s", macsec_suite_name(suite));
     if (is_xpn())
         at += (size_t)sprintf(line + at, " %08x 000000000000000000000000", key->ssci);
     return at;
@@ -70,14 +71,29 @@ static bool is_way(const char *name) {
     return strcmp(way, name) == 0;
 }
 
+static bool is_by_line(void) {
+    return is_way("line") || is_way("parsed");
+}
+
+static void take_line(macsec_endpoint *e, const char *line, size_t length) {
+    if (is_way("line")) {
+        must("line", macsec_command_line(e, (const uint8_t *)line, length));
+        return;
+    }
+    macsec_command command;
+    must("parse", macsec_parse_line((const uint8_t *)line, length, &command));
+    must("carry out", macsec_carry_out(e, &command));
+    macsec_clear_command(&command);
+}
+
 static void install(macsec_endpoint *e, const macsec_sak *key) {
-    if (!is_way("line")) {
+    if (!is_by_line()) {
         must("install", macsec_install_key(e, key));
         return;
     }
     char line[200];
     size_t length = key_line(line, key, "");
-    must("key line", macsec_command_line(e, (const uint8_t *)line, length));
+    take_line(e, line, length);
     explicit_bzero(line, sizeof line);
 }
 
@@ -147,9 +163,9 @@ static void associate(macsec_endpoint *a, macsec_endpoint *b, uint8_t an, uint16
 
 static void retire(macsec_endpoint *e, uint16_t number) {
     char line[20];
-    if (is_way("line")) {
+    if (is_by_line()) {
         size_t length = (size_t)sprintf(line, "A retire %u", number);
-        must("retire line", macsec_command_line(e, (const uint8_t *)line, length));
+        take_line(e, line, length);
     } else if (!is_way("kept")) {
         must("retire", macsec_retire_key(e, number));
     }
