@@ -64,7 +64,7 @@ EXPECTED = {
     "verdict": tables.VERDICTS,
     "refusal": [f"refused {number} {name}" for number, name in enumerate(tables.REFUSALS, 1)],
     "fault": ["fault 1 Short", "fault 2 NoFrame", "fault 4 AlterRange", "fault 5 Short"],
-    "outcome": ["done", "frame", "link", "partial", "dropped NoSA", "dropped TooLong"],
+    "outcome": ["done", "frame", "link", "partial", *(f"dropped {it}" for it in tables.DROPS)],
     "promise": promises.PROMISES,
 }
 

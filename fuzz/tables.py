@@ -21,3 +21,5 @@ RX_COUNTERS = families.names("counters", of="rx")
 CAPTURE_FAULTS = families.names("capture_faults")
 LINE_FAULTS = [it["name"] for it in families.text_faults() if it["name"] != "ScriptLong"]
 VERDICTS = [it["name"] for it in families.verdicts()]
+# Why a client frame is not sent.
+DROPS = [it["name"] for it in families.family("fates") if it["c"] in ("FATE_NO_SA", "FATE_TOO_LONG")]

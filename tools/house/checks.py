@@ -73,7 +73,7 @@ CHECKS: list[Check] = [
           NOTHING, 1, "a call and a type that no list has", test="", gate=""),
     Check("c-header", "compares the header for C with the crates, and with the calls that it keeps",
           "tests/library/c-header", NOTHING, 1,
-          "headers with other constants, structs, calls and names; one without an earlier call", test="", gate=""),
+          "headers with another constant, struct and call; one without an earlier call", test="", gate=""),
     Check("version", "finds a file that has another version", "tools/version", NOTHING, 1, "another version",
           test="", gate=""),
     Check("pictures", "finds a drawing that its source does not make", "tools/pictures --check", NOTHING, 5,
