@@ -6,12 +6,12 @@
     python3 fuzz/calls.py --program valgrind --error-exitcode=9 build/c/calls
     python3 fuzz/calls.py --also build/c/calls-x86-64-v2    the same calls by two programs
 
-It needs Python 3.9 or later and its standard library alone. The calls go to three handles: with endpoints, without one,
-and freed. Numbers, lengths and frames are of all kinds, also those that nothing has. Statuses, suites, forms, modes,
-fates and verdicts are compared by the names that include/macsec.h gives them. At the end each of these names must have
-been met at least once, and each call of the header made. Of the calls that allocate, one in EVERY, or each of the rare
-ones, is first made with each of its allocations refused: then it has to answer MACSEC_E_MEMORY and do nothing. Call
-number N of a seed, which is any text, is the same on every machine.
+The calls go to three handles: with endpoints, without one, and freed. Numbers, lengths and frames are of all kinds,
+also those that nothing has. Statuses, suites, forms, modes, fates and verdicts are compared by the names that
+include/macsec.h gives them. At the end each of these names must have been met at least once, and each call of the
+header made. Of the calls that allocate, one in EVERY, or each of the rare ones, is first made with each of its
+allocations refused: then it has to answer MACSEC_E_MEMORY and do nothing. Call number N of a seed, which is any text,
+is the same on every machine.
 """
 
 from __future__ import annotations

@@ -1,7 +1,4 @@
-"""The rules of docs/CAPTURES.md for capture files: what a file contains in either format, and what is written.
-
-Needs only the standard library.
-"""
+"""The rules of docs/CAPTURES.md for capture files: what a file contains in either format, and what is written."""
 
 from __future__ import annotations
 

@@ -1,8 +1,6 @@
 """Where the receive associations that an endpoint with a journal deleted have ended: a table of bounded size.
 
-handles.py compares the C library with this. It is written from the definition crates/macsec_ahead/specs/Ends.antt, and
-needs Python 3.9 or later and its standard library alone.
-"""
+handles.py compares the C library with this. It is written from the definition crates/macsec_ahead/specs/Ends.antt."""
 
 from __future__ import annotations
 

@@ -1,13 +1,13 @@
 """What the program must print, write and return, by the rules of docs/: scripts, endpoints, links and captures.
 
 The rules of docs/ are written here again in Python, so that the program's answers can be compared with them. The rules
-for capture files are in captures.py. FIPS 197 and SP 800-38D are at the end of this file. Needs only the standard
-library.
+for capture files are in captures.py. AES and GCM are those of OpenSSL.
 """
 
 from __future__ import annotations
 
-import functools
+import ctypes
+import ctypes.util
 import struct
 
 import captures
@@ -618,121 +618,38 @@ def record_result(endpoint, direction, frame):
     return (verdict if delivered is None else f"{verdict} {len(delivered)}"), delivered
 
 
-# AES of FIPS 197, encryption only, and GCM of SP 800-38D with IVs of 12 octets and tags of 16.
+# AES, and GCM with IVs of 12 octets and tags of 16, by OpenSSL's libcrypto, which Python has for its module ssl.
+
+CRYPTO = ctypes.CDLL(ctypes.util.find_library("crypto") or "libcrypto.so.3")
+CIPHERS = {(bits // 8, it): getattr(CRYPTO, f"EVP_aes_{bits}_{it}") for bits in (128, 256) for it in ("ecb", "gcm")}
+for function in (CRYPTO.EVP_CIPHER_CTX_new, *CIPHERS.values()):
+    function.restype = ctypes.c_void_p
+GET_TAG = 16  # EVP_CTRL_GCM_GET_TAG
 
 
-def xtime(a):
-    return (a << 1) ^ (0x11B if a & 0x80 else 0)
-
-
-# The powers of 3 in the field of AES. The inverse of the one at an index is the one at the negative index.
-POWERS = [1]
-while len(POWERS) < 255:
-    POWERS.append(POWERS[-1] ^ xtime(POWERS[-1]))
-
-
-def s_box_of(a):
-    inverse = POWERS[-POWERS.index(a) % 255] if a else 0
-    rotations = (((inverse << it) | (inverse >> (8 - it))) & 0xFF for it in range(5))
-    return functools.reduce(lambda x, y: x ^ y, rotations, 0x63)
-
-
-def mixed(octet, row):
-    """MixColumns of one octet in this row, as a word."""
-    octets = bytes((xtime(octet), octet, octet, octet ^ xtime(octet)))
-    return int.from_bytes(octets[-row:] + octets[:-row], "big")
-
-
-S_BOX = [s_box_of(it) for it in range(256)]
-# SubBytes and MixColumns of one octet, for each of the four rows.
-MIXED = [[mixed(it, row) for it in S_BOX] for row in range(4)]
-
-
-def sub_word(word):
-    return int.from_bytes(bytes(S_BOX[it] for it in word.to_bytes(4, "big")), "big")
-
-
-@functools.lru_cache(64)
-def expanded(key):
-    """The words of the key schedule."""
-    length, rcon = len(key) // 4, 1
-    words = list(struct.unpack(f">{length}I", key))
-    for i in range(length, 4 * (length + 7)):
-        word = words[i - 1]
-        if i % length == 0:
-            word = sub_word((word << 8 | word >> 24) & 0xFFFFFFFF) ^ (rcon << 24)
-            rcon = xtime(rcon)
-        elif length == 8 and i % 8 == 4:
-            word = sub_word(word)
-        words.append(words[i - length] ^ word)
-    return words
+def cipher(mode, key, octets, iv=None, aad=b""):
+    """The octets under AES in the mode ecb or gcm, and of GCM the tag."""
+    context, length = ctypes.c_void_p(CRYPTO.EVP_CIPHER_CTX_new()), ctypes.byref(ctypes.c_int())
+    made, tag = (ctypes.create_string_buffer(it) for it in (len(octets) + 16, 16))
+    is_good = CRYPTO.EVP_EncryptInit_ex(context, ctypes.c_void_p(CIPHERS[len(key), mode]()), None, key, iv)
+    for out, part in ((None, aad), (made, octets)):
+        is_good &= not part or CRYPTO.EVP_EncryptUpdate(context, out, length, part, len(part))
+    if iv:
+        is_good &= CRYPTO.EVP_EncryptFinal_ex(context, tag, length)
+        is_good &= CRYPTO.EVP_CIPHER_CTX_ctrl(context, GET_TAG, 16, tag)
+    CRYPTO.EVP_CIPHER_CTX_free(context)
+    assert is_good == 1, f"OpenSSL does not encrypt in the mode {mode}"
+    return made.raw[: len(octets)], tag.raw
 
 
 def encrypt(key, block):
-    words = expanded(key)
-    columns = [a ^ b for a, b in zip(struct.unpack(">4I", block), words)]
-    m0, m1, m2, m3 = MIXED
-    for first in range(4, len(words) - 4, 4):
-        c0, c1, c2, c3 = columns
-        k0, k1, k2, k3 = words[first : first + 4]
-        columns = [
-            m0[c0 >> 24] ^ m1[c1 >> 16 & 255] ^ m2[c2 >> 8 & 255] ^ m3[c3 & 255] ^ k0,
-            m0[c1 >> 24] ^ m1[c2 >> 16 & 255] ^ m2[c3 >> 8 & 255] ^ m3[c0 & 255] ^ k1,
-            m0[c2 >> 24] ^ m1[c3 >> 16 & 255] ^ m2[c0 >> 8 & 255] ^ m3[c1 & 255] ^ k2,
-            m0[c3 >> 24] ^ m1[c0 >> 16 & 255] ^ m2[c1 >> 8 & 255] ^ m3[c2 & 255] ^ k3,
-        ]
-    state = struct.pack(">4I", *columns)
-    shifted = bytes(S_BOX[state[(it + 4 * (it % 4)) % 16]] for it in range(16))
-    return (int.from_bytes(shifted, "big") ^ int.from_bytes(struct.pack(">4I", *words[-4:]), "big")).to_bytes(16, "big")
-
-
-@functools.lru_cache(64)
-def products_of(hash_key):
-    """The product of the hash key with each value of each octet of a block."""
-    shifted, tables = int.from_bytes(hash_key, "big"), []
-    for _ in range(16):
-        table = [0] * 256
-        for bit in (128, 64, 32, 16, 8, 4, 2, 1):
-            table[bit] = shifted
-            shifted = (shifted >> 1) ^ (0xE1 << 120 if shifted & 1 else 0)
-        for value in range(256):
-            lowest = value & -value
-            table[value] = table[lowest] ^ table[value ^ lowest] if value ^ lowest else table[value]
-        tables.append(table)
-    return tables
-
-
-def ghash(hash_key, octets):
-    tables, y = products_of(hash_key), 0
-    for place in range(0, len(octets), 16):
-        y ^= int.from_bytes(octets[place : place + 16], "big")
-        total = 0
-        for table, octet in zip(tables, y.to_bytes(16, "big")):
-            total ^= table[octet]
-        y = total
-    return y
-
-
-def padded(octets):
-    return octets + bytes(-len(octets) % 16)
-
-
-def key_stream(key, iv, octets):
-    blocks = range(2, 2 + (len(octets) + 15) // 16)
-    stream = b"".join(encrypt(key, iv + struct.pack(">I", it)) for it in blocks)
-    return bytes(a ^ b for a, b in zip(octets, stream))
-
-
-def tag_of(key, iv, aad, ciphertext):
-    lengths = struct.pack(">QQ", 8 * len(aad), 8 * len(ciphertext))
-    hashed = ghash(encrypt(key, bytes(16)), padded(aad) + padded(ciphertext) + lengths)
-    return (hashed ^ int.from_bytes(encrypt(key, iv + b"\0\0\0\1"), "big")).to_bytes(16, "big")
+    return cipher("ecb", key, block)[0]
 
 
 def seal(key, iv, aad, plaintext):
-    ciphertext = key_stream(key, iv, plaintext)
-    return ciphertext + tag_of(key, iv, aad, ciphertext)
+    return b"".join(cipher("gcm", key, plaintext, iv, aad))
 
 
 def open_sealed(key, iv, aad, ciphertext, tag):
-    return key_stream(key, iv, ciphertext) if tag == tag_of(key, iv, aad, ciphertext) else None
+    plaintext, _ = cipher("gcm", key, ciphertext, iv)
+    return plaintext if seal(key, iv, aad, plaintext) == ciphertext + tag else None

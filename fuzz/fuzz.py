@@ -4,9 +4,9 @@
     make fuzz                                      100,000 inputs, to the program as both compilers build it
     python3 fuzz/fuzz.py --inputs 5000 --seed 7    fewer, and others
 
-It needs Python 3.9 or later and its standard library alone. Scripts, configurations and captures of this repository
-are cut, repeated and exchanged, and their octets, words, lines, records and fields altered (inputs.py). Input number N
-of a seed is the same on every machine, however many processes share the work; --only N runs that one and prints it.
+Scripts, configurations and captures of this repository are cut, repeated and exchanged, and their octets, words, lines,
+records and fields altered (inputs.py). Input number N of a seed is the same on every machine, however many processes
+share the work; --only N runs that one and prints it.
 
 Of each input it asks: the program ends within some seconds, by itself and not by a signal; status, standard output,
 standard error and OUT are those expected, and no other file is created or changed; standard error is nothing or one of

@@ -1,7 +1,5 @@
-"""What the handles of the C library hold, and what each call answers, worked out from keeping.py.
-
-calls.py compares the library with this. It needs Python 3.9 or later and its standard library alone.
-"""
+"""What the handles of the C library hold, and what each call answers, worked out from keeping.py. calls.py compares the
+library with this."""
 
 from __future__ import annotations
 

@@ -1,7 +1,5 @@
-"""Journals of packet numbers, worked out from the rules: names, records and what they reserve.
-
-calls.py compares the C library's journals with these. It needs Python 3.9 or later and its standard library alone.
-"""
+"""Journals of packet numbers, worked out from the rules: names, records and what they reserve. calls.py compares the C
+library's journals with these."""
 
 from __future__ import annotations
 

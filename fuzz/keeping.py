@@ -2,8 +2,7 @@
 keys that it forgets.
 
 handles.py compares the C library with this. It is written from the definitions of crates/macsec_reserve/specs and
-crates/macsec_ahead/specs, and needs Python 3.9 or later and its standard library alone.
-"""
+crates/macsec_ahead/specs."""
 
 from __future__ import annotations
 

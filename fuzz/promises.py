@@ -182,7 +182,7 @@ def iv_of(endpoint, key, number):
 def is_valid(use):
     """Is the GCM tag of this use valid? If so, what was opened and never sealed is a forgery; if not, it was opened
     wrongly."""
-    return use.tag == expected.tag_of(use.key, use.iv, use.aad, use.ciphertext)
+    return expected.open_sealed(*use) is not None
 
 
 def is_subsequence(items, of_items):

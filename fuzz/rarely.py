@@ -1,7 +1,4 @@
-"""Calls of the C library that random ones seldom come to. calls.py makes them first.
-
-It needs Python 3.9 or later and its standard library alone.
-"""
+"""Calls of the C library that random ones seldom come to. calls.py makes them first."""
 
 from __future__ import annotations
 
