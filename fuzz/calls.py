@@ -28,7 +28,6 @@ import sys
 sys.dont_write_bytecode = True
 import expected
 import journals
-from ends import Ends
 from handles import CALLS, CONSTANTS, ROOT, SUITES, asked, hex_of, without_memory
 from rarely import Rarely
 
@@ -395,7 +394,7 @@ class Calls(Rarely):
 
     def all(self, count):
         rarely = self.rarely_written, self.rarely_refused, self.rarely_made, self.rarely_reserved, self.rarely_forgotten
-        rarely += self.rarely_ahead, self.rarely_ended, self.rarely_parsed, self.rarely_limited
+        rarely += self.rarely_ahead, self.rarely_parsed, self.rarely_limited
         waiting = itertools.chain.from_iterable(it() for it in (self.crowded, *rarely))
         names, weights = list(self.MADE_OF), [int(weight) for weight, *_ in self.MADE_OF.values()]
         for _ in range(count):
@@ -491,11 +490,10 @@ def main():
     if options.run:
         compare_with_run(calls, options.program, options.run)
     print("calls: " + ", ".join(f"{name} {count}" for name, count in sorted(lines.items())))
-    calls.model.met.update(Ends.noted)
     print("met: " + ", ".join(f"{name} {count}" for name, count in sorted(calls.model.met.items())))
     print("allocations refused: " + ", ".join(f"{name} {count}" for name, count in sorted(refused.items())))
     others = re.compile("FATE_NONE|VERDICT_NONE|E_MEMORY|FRAME_M..|VERSION_NUMBER|RECORD_LENGTH|ANSWER_MIN|.*_COUNT")
-    unmet = [it for it in (*CONSTANTS, *Ends.noted) if not calls.model.met[it] and not others.fullmatch(it)]
+    unmet = [it for it in CONSTANTS if not calls.model.met[it] and not others.fullmatch(it)]
     missing = [it for it in sorted(CALLS) if it not in lines]
     missing += [f"a refused allocation of {it}" for it in ALLOCATING if not refused[it]]
     if options.calls >= options.met_from and (unmet or missing):

@@ -10,7 +10,6 @@ from typing import NoReturn
 
 import expected
 import journals
-from ends import Ends
 
 
 class NoReservation(Exception):
@@ -41,8 +40,8 @@ class Endpoint(expected.Endpoint):
         self.granted: list[journals.Reservation] = []
         # An entry for each receive association that there was at the last report.
         self.taken: list[journals.Reservation] = []
-        # Where deleted receive associations ended.
-        self.ends = Ends()
+        # Where deleted receive associations ended, by key, SCI and AN. While 1,024 are enough the library keeps each.
+        self.ends: dict[tuple[int, bytes, int], int] = {}
 
     def key_name(self, number):
         return journals.sending_name(self.salt, self.keys[number].octets if number in self.keys else b"")
@@ -76,7 +75,7 @@ class Endpoint(expected.Endpoint):
         if self.keeps:
             self.note_ends(rows)
         if self.keeps and keyword == "retire":
-            self.ends.forget(values[0])
+            self.ends = {place: last for place, last in self.ends.items() if place[0] != values[0]}
 
     def rows(self) -> dict[tuple[bytes, int], expected.Sa]:
         """The receive associations, for each channel in the order of their creation."""
@@ -87,7 +86,8 @@ class Endpoint(expected.Endpoint):
         now = self.rows()
         for (sci, an), sa in before.items():
             if (sci, an) not in now:
-                self.ends.add(sa.key, sci, an, min(max(sa.lowest - 1, 0), journals.LAST))
+                last = min(max(sa.lowest - 1, 0), journals.LAST)
+                self.ends[sa.key, sci, an] = max(self.ends.get((sa.key, sci, an), 0), last)
 
     def row_name(self, sci: bytes, an: int, sa: expected.Sa) -> bytes:
         """The name under which the numbers of a receive association are reserved and saved."""
@@ -154,7 +154,7 @@ class Endpoint(expected.Endpoint):
     def rx_floor(self, sci: bytes, an: int, number: int) -> int:
         """The same under the key's name for receiving from an SCI and AN, or where that association ended."""
         name = journals.receiving_name(self.key_name(number), sci, an)
-        return max(journals.highest(self.before, name), self.ends.of(number, sci, an))
+        return max(journals.highest(self.before, name), self.ends.get((number, sci, an), 0))
 
     def floor(self, receiving, number):
         """The floor of a key, or for receiving from an SCI and AN; None if there is no such key."""

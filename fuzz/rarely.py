@@ -238,68 +238,10 @@ class Rarely:
             yield "reserve_configure", (2, text, self.JOURNAL, ahead)
         yield "reserve_rx_floor", (2, self.SCIS[0], 1, 1)
 
-    # Where deleted associations ended: 1,024 have an entry, the next ones share a number for each of 1,024 keys, and
-    # associations of further keys share one number. Place n is for key n / 256, channel n % 256 / 4, association n % 4.
-
-    @staticmethod
-    def channel(number):
-        return bytes([6, 0, 0, 0, 0, number, 0, 1])
-
-    def ended(self, entries, keys):
-        """The text of an endpoint whose associations at so many places have ended, and then one under each of so many
-        keys from 4 on. The one at place n ended at n + 1, the one under key n at 10,000 + n."""
-        lines = [f"key {it} {it:032x} 0" for it in range(4 + keys + 2)]
-        places = [(n % 256 // 4, f"{n % 4} {n // 256} {n + 2:x}") for n in range(entries)]
-        others = [(0, f"{n % 4} {n} {10_001 + n:x}") for n in range(4, 4 + keys)]
-        for group in (it[at : at + 4] for it in (places, others) for at in range(0, len(it), 4)):
-            sci = self.channel(group[0][0]).hex()
-            lines += [f"rxsc {sci}", *(f"rxsa {sci} {words}" for _, words in group), f"rxscdel {sci}"]
-        return self.configuration(self.SCIS[2], 1, *lines)
-
-    def floors(self, *places):
-        """The floors of these places. A place is a key, a channel and an association number."""
-        yield from self.each("reserve_rx_floor", [(self.channel(channel), an, key) for key, channel, an in places])
-
-    def ends_at(self, key, channel, an, last, *others):
-        """An association ends at this number, deleted alone or with its channel. Then its floor, and others' floors."""
-        text = "add_rx_sc sci; add_rx_sa sci an key first 0" + "; delete_rx_sa sci an" * (last % 2)
-        yield from self.calls(f"{text}; delete_rx_sc sci", sci=self.channel(channel), an=an, key=key, first=last + 1)
-        yield from self.floors((key, channel, an), *others)
-
-    def rarely_ended(self):
-        """So many deleted associations that the last ones share a number. Channel 100 never had an association. Of two
-        that are deleted together, the first one that was created gets the last entry."""
-        yield "free", (2,)
-        yield "reserve_configure", (2, self.ended(1_023, 0), self.JOURNAL, 0)
-        yield from self.floors((3, 63, 2), (3, 63, 3), (3, 100, 0), (4, 100, 0))
-        text = "add_rx_sc sci; add_rx_sa sci 2 3 20001 0; add_rx_sa sci 1 4 21001 0; delete_rx_sc sci"
-        yield from self.calls(text, sci=self.channel(70))
-        yield from self.floors((3, 70, 2), (3, 100, 0), (4, 70, 1), (4, 100, 0), (5, 100, 0))
-        yield from self.ends_at(4, 0, 2, 20_999, (4, 100, 0))
-        yield from self.ends_at(0, 0, 0, 22_001, (0, 100, 0), (0, 0, 1))
-        yield from self.calls("retire_key 4; retire_key 0")
-        yield from self.ends_at(5, 0, 0, 23_000, (5, 100, 0), (4, 100, 0), (0, 0, 0))
-        yield from self.ended_for_all()
-
-    def ended_for_all(self):
-        """So many keys have a number that only one more gets one. Associations of further keys share one number."""
-        yield "free", (2,)
-        yield "reserve_configure", (2, self.ended(1_024, 1_023), self.JOURNAL, 1)
-        yield from self.short_keys((2_000, bytes(range(16))))
-        yield from self.ends_at(1_027, 0, 0, 30_000, (1_027, 100, 0), (1_028, 100, 0), (1_026, 100, 0), (0, 100, 0))
-        yield from self.ends_at(1_028, 0, 0, 25_000, (2_000, 100, 0), (1_027, 100, 0), (0, 0, 0), (3_000, 0, 0))
-        yield from self.ends_at(2_000, 0, 0, 25_001, (4, 100, 0))
-        added = ((3_000, 25_001), (3_000, 25_002), (2_000, 0))
-        yield from self.each("add_rx_sa", [(self.channel(100), 0, key, pn, 0) for key, pn in added])
-        yield "retire_key", (2, 4)
-        yield from self.ends_at(2_000, 1, 1, 26_000, (2_000, 100, 0), (1_028, 100, 0), (4, 0, 0))
-        yield "retire_key", (2, 0)
-        yield from self.ends_at(1, 100, 0, 27_000, (1, 101, 0), (0, 0, 0))
-
     def crowded(self):
         most = CONSTANTS["RX_CHANNEL_COUNT"]
         yield from self.calls("free; new own 1 0 1518", own=self.SCIS[0])
-        yield from self.each("add_rx_sc", map(self.channel, range(most + 1)))
+        yield from self.each("add_rx_sc", (bytes([6, 0, 0, 0, 0, it, 0, 1]) for it in range(most + 1)))
         yield "get_rx_sc", (2, most - 1)
 
     # Texts of configurations, and lines, that random ones seldom are.
