@@ -128,9 +128,10 @@ static const uint8_t *sealed(const char *word) {
     return room;
 }
 
-static const uint8_t *sealed_sci(const char *word) {
-    if (length_of(word) != 8)
-        fail("an SCI has another length");
+/* The same for so many octets. */
+static const uint8_t *sealed_of(const char *word, size_t length) {
+    if (length_of(word) != length)
+        fail("octets have another length");
     return sealed(word);
 }
 
@@ -207,6 +208,23 @@ static void check_reserved(uint32_t status, const uint64_t *reserved, size_t cou
 
 #define RESERVED_OF(answer) (answer).reserved, sizeof(answer).reserved / sizeof(answer).reserved[0]
 
+/* An answer with a status shows the one that its call returns, and is filled in whatever that is. */
+#define CHECK_ANSWER(it, returned)                                                                                     \
+    do {                                                                                                               \
+        if ((it)->status != (returned))                                                                                \
+            fail("an answer has another status than its call");                                                        \
+        check_reserved(MACSEC_OK, RESERVED_OF(*(it)));                                                                 \
+    } while (0)
+
+/* Prints what was received, with its frame there. */
+#define PRINT_RECEIVED(it, frame)                                                                                      \
+    do {                                                                                                               \
+        printf(" %u %d", (unsigned)(it)->verdict, (it)->has_sa);                                                       \
+        print_octets((it)->sci, sizeof(it)->sci);                                                                      \
+        printf(" %u %d %llu", (unsigned)(it)->an, (it)->delivered, (unsigned long long)(it)->pn);                      \
+        print_octets(frame, (it)->length);                                                                             \
+    } while (0)
+
 /* What a call has to fill in, with these values before it: the functions show_.. print it, and return the status. */
 static void *filled;
 
@@ -216,6 +234,11 @@ static void *room_with(const void *values, size_t size) {
 }
 
 #define ROOM(type, ...) room_with(&(type){ __VA_ARGS__ }, sizeof(type))
+/* Arguments by the words `w` of a line. */
+#define OCTETS(i) sealed(w[i]), length_of(w[i])
+#define SCI(i) sealed_of(w[i], 8)
+#define AN(i) (uint8_t) number(w[i])
+#define NUMBER(i) (uint16_t) number(w[i])
 #define RECORD (filled = room_of(sizeof(macsec_record)))
 
 /* Prints a number of 128 bits, given as two halves. */
@@ -226,9 +249,7 @@ static void print_halves(uint64_t high, uint64_t low) {
 static uint32_t send(macsec_endpoint *e, const char *word) {
     macsec_sent *sent = room_of(sizeof *sent);
     uint32_t status = macsec_send(e, sealed(word), length_of(word), sent);
-    if (sent->status != status)
-        fail("macsec_send returns another status than it shows");
-    check_reserved(MACSEC_OK, RESERVED_OF(*sent));
+    CHECK_ANSWER(sent, status);
     printf(" %u %u", (unsigned)sent->fate, (unsigned)sent->key);
     print_octets(sent->frame, sent->length);
     return status;
@@ -237,30 +258,21 @@ static uint32_t send(macsec_endpoint *e, const char *word) {
 static uint32_t receive(macsec_endpoint *e, const char *word) {
     macsec_received *received = room_of(sizeof *received);
     uint32_t status = macsec_receive(e, sealed(word), length_of(word), received);
-    if (received->status != status)
-        fail("macsec_receive returns another status than it shows");
-    check_reserved(MACSEC_OK, RESERVED_OF(*received));
-    printf(" %u %d", (unsigned)received->verdict, received->has_sa);
-    print_octets(received->sci, sizeof received->sci);
-    printf(" %u %d", (unsigned)received->an, received->delivered);
-    print_number(received->pn);
-    print_octets(received->frame, received->length);
+    CHECK_ANSWER(received, status);
+    PRINT_RECEIVED(received, received->frame);
     return status;
 }
 
 /* ---- Keys and slots ---- */
 
-static macsec_key *key_at(const char *word) {
-    if (number(word) >= KEYS)
-        fail("there is no such key");
-    return &keys[number(word)];
+static uint64_t place(const char *word, unsigned count) {
+    if (number(word) >= count)
+        fail("there is no such key or slot");
+    return number(word);
 }
 
-static macsec_slot *slot_at(const char *word) {
-    if (number(word) >= SLOTS)
-        fail("there is no such slot");
-    return &slots[number(word)];
-}
+#define KEY_AT(i) (&keys[place(w[i], KEYS)])
+#define SLOT_AT(i) (&slots[place(w[i], SLOTS)])
 
 /* Notes that a call has made a thing of so many blocks, or freed it. */
 static uint32_t with_blocks(int change, uint32_t status) {
@@ -288,29 +300,19 @@ static void check_rest(const uint8_t *out, size_t written, size_t room) {
     }
 }
 
-static uint32_t show_planned(uint32_t status, const macsec_planned *planned) {
-    if (planned->status != status)
-        fail("a plan has another status than its call");
-    check_reserved(MACSEC_OK, RESERVED_OF(*planned));
+static uint32_t plan(macsec_endpoint *e, bool sends, char **w) {
+    macsec_planned *planned = room_of(sizeof *planned);
+    uint32_t status = sends ? macsec_plan_send(e, SLOT_AT(0), OCTETS(1), planned)
+                            : macsec_plan_receive(e, SLOT_AT(0), OCTETS(1), planned);
+    CHECK_ANSWER(planned, status);
     printf(" %u %u %d", (unsigned)planned->fate, (unsigned)planned->key, planned->job);
     return status;
 }
 
-static uint32_t plan_send(macsec_endpoint *e, char **w) {
-    macsec_planned *planned = room_of(sizeof *planned);
-    return show_planned(macsec_plan_send(e, slot_at(w[0]), sealed(w[1]), length_of(w[1]), planned), planned);
-}
-
-static uint32_t plan_receive(macsec_endpoint *e, char **w) {
-    macsec_planned *planned = room_of(sizeof *planned);
-    return show_planned(macsec_plan_receive(e, slot_at(w[0]), sealed(w[1]), length_of(w[1]), planned), planned);
-}
-
 static uint32_t seal_job(char **w) {
-    size_t room = (size_t)number(w[2]), *written = room_of(sizeof *written);
+    size_t room = (size_t)number(w[2]), *written = ROOM(size_t, 7);
     uint8_t *out = room_of(room);
-    *written = 7;
-    uint32_t status = macsec_seal_job(slot_at(w[0]), key_at(w[1]), out, room, written);
+    uint32_t status = macsec_seal_job(SLOT_AT(0), KEY_AT(1), out, room, written);
     size_t shown = status == MACSEC_OK ? *written : 0;
     check_rest(out, shown, room);
     print_number(*written);
@@ -322,16 +324,12 @@ static uint32_t finish_receive(macsec_endpoint *e, char **w) {
     size_t room = (size_t)number(w[1]);
     macsec_finished *finished = room_of(sizeof *finished);
     uint8_t *out = room_of(room);
-    uint32_t status = macsec_finish_receive(e, slot_at(w[0]), out, room, finished);
-    if (finished->status != status || (!finished->delivered && finished->length != 0))
-        fail("macsec_finish_receive returns something else than it shows");
-    check_reserved(MACSEC_OK, RESERVED_OF(*finished));
+    uint32_t status = macsec_finish_receive(e, SLOT_AT(0), out, room, finished);
+    CHECK_ANSWER(finished, status);
+    if (!finished->delivered && finished->length != 0)
+        fail("macsec_finish_receive delivers nothing, and shows a length");
     check_rest(out, finished->length, room);
-    printf(" %u %d", (unsigned)finished->verdict, finished->has_sa);
-    print_octets(finished->sci, sizeof finished->sci);
-    printf(" %u %d", (unsigned)finished->an, finished->delivered);
-    print_number(finished->pn);
-    print_octets(out, finished->length);
+    PRINT_RECEIVED(finished, out);
     return status;
 }
 
@@ -360,22 +358,15 @@ static uint32_t configure(macsec_endpoint *e, const char *text, const char *jour
 static uint32_t journal_compacted(const char *word) {
     size_t length = length_of(word);
     uint8_t *out = room_of(length);
-    size_t *written = room_of(sizeof *written);
-    *written = 7;
+    size_t *written = ROOM(size_t, 7);
     uint32_t status = macsec_journal_compacted(sealed(word), length, out, written);
     print_number(*written);
     print_octets(out, length);
     return status;
 }
 
-static const uint8_t *sealed_salt(const char *word) {
-    if (length_of(word) != 24)
-        fail("a salt has another length");
-    return sealed(word);
-}
-
-static uint32_t show_record(uint32_t status) {
-    print_octets(((macsec_record *)filled)->octets, sizeof(macsec_record));
+static uint32_t show_octets(size_t count, uint32_t status) {
+    print_octets(filled, count);
     return status;
 }
 
@@ -384,20 +375,11 @@ static uint32_t show_floor(uint32_t status) {
     return status;
 }
 
-static uint32_t granted(macsec_endpoint *e, const char *word) {
-    macsec_record *record = room_of(sizeof *record);
-    if (octets(word, record->octets, sizeof record->octets) != sizeof record->octets)
-        fail("a record has another length");
-    seal();
-    return macsec_reserve_granted(e, record);
-}
-
 static uint32_t answer(macsec_endpoint *e, char **w) {
     size_t room = (size_t)number(w[2]);
     uint8_t *out = room_of(room);
-    size_t *written = room_of(sizeof *written);
-    *written = 7;
-    uint32_t status = macsec_answer(e, (uint32_t)number(w[0]), sealed(w[1]), length_of(w[1]), out, room, written);
+    size_t *written = ROOM(size_t, 7);
+    uint32_t status = macsec_answer(e, (uint32_t)number(w[0]), OCTETS(1), out, room, written);
     print_number(*written);
     print_octets(out, room);
     return status;
@@ -479,7 +461,7 @@ static uint32_t clear_command(char **w) {
 /* Seals a frame of a tester, which is shown also where nothing was done. */
 static uint32_t seal_frame(char **w) {
     const macsec_sak *key = sealed_key(w);
-    const uint8_t *sci = sealed_sci(w[7]);
+    const uint8_t *sci = SCI(7);
     size_t length = length_of(w[11]);
     uint8_t *frame = room_of(length);
     octets(w[11], frame, length);
@@ -522,11 +504,6 @@ static uint32_t show_counters(uint32_t status, size_t count, size_t size) {
 #define COUNTERS(count, type, call, ...)                                                                               \
     show_counters(call(__VA_ARGS__, counters_of(sizeof(type))), count, sizeof(type))
 
-static uint32_t show_sci(uint32_t status) {
-    print_octets(filled, 8);
-    return status;
-}
-
 static uint32_t show_tx_sa(uint32_t status) {
     macsec_tx_sa *row = filled;
     check_reserved(status, RESERVED_OF(*row));
@@ -550,43 +527,39 @@ static uint32_t show_rx_sa(uint32_t status) {
         if (strcmp(name, it) == 0)                                                                                     \
             return result;                                                                                             \
     } while (0)
+#define COMMAND(it, ...) CALL(#it, macsec_##it(e, __VA_ARGS__))
 
 static uint32_t command(macsec_endpoint *e, const char *name, char **w) {
-    CALL("send_uncontrolled", macsec_send_uncontrolled(e, sealed(w[0]), length_of(w[0])));
-    CALL("command_line", macsec_command_line(e, sealed(w[0]), length_of(w[0])));
+    COMMAND(send_uncontrolled, OCTETS(0));
+    COMMAND(command_line, OCTETS(0));
     CALL("carry_out", carry_out(e, w));
-    CALL("set_protect", macsec_set_protect(e, number(w[0]) != 0));
-    CALL("set_validation", macsec_set_validation(e, (uint32_t)number(w[0])));
-    CALL("set_replay", macsec_set_replay(e, number(w[0]) != 0, number(w[1])));
-    CALL("set_tag_form", macsec_set_tag_form(e, (uint32_t)number(w[0])));
-    CALL("install_key", macsec_install_key(e, sealed_key(w)));
-    CALL("retire_key", macsec_retire_key(e, (uint16_t)number(w[0])));
-    CALL("add_tx_sa",
-         macsec_add_tx_sa(e, (uint8_t)number(w[0]), (uint16_t)number(w[1]), number(w[2]), number(w[3]) != 0));
-    CALL("enable_tx_sa", macsec_enable_tx_sa(e, (uint8_t)number(w[0])));
-    CALL("disable_tx_sa", macsec_disable_tx_sa(e, (uint8_t)number(w[0])));
-    CALL("delete_tx_sa", macsec_delete_tx_sa(e, (uint8_t)number(w[0])));
-    CALL("add_rx_sc", macsec_add_rx_sc(e, sealed_sci(w[0])));
-    CALL("delete_rx_sc", macsec_delete_rx_sc(e, sealed_sci(w[0])));
-    CALL("add_rx_sa", macsec_add_rx_sa(e, sealed_sci(w[0]), (uint8_t)number(w[1]), (uint16_t)number(w[2]), number(w[3]),
-                                       (uint32_t)number(w[4])));
-    CALL("enable_rx_sa", macsec_enable_rx_sa(e, sealed_sci(w[0]), (uint8_t)number(w[1])));
-    CALL("disable_rx_sa", macsec_disable_rx_sa(e, sealed_sci(w[0]), (uint8_t)number(w[1])));
-    CALL("set_lowest_pn", macsec_set_lowest_pn(e, sealed_sci(w[0]), (uint8_t)number(w[1]), number(w[2])));
-    CALL("delete_rx_sa", macsec_delete_rx_sa(e, sealed_sci(w[0]), (uint8_t)number(w[1])));
-    CALL("reserve_granted", granted(e, w[0]));
+    COMMAND(set_protect, number(w[0]) != 0);
+    COMMAND(set_validation, (uint32_t)number(w[0]));
+    COMMAND(set_replay, number(w[0]) != 0, number(w[1]));
+    COMMAND(set_tag_form, (uint32_t)number(w[0]));
+    COMMAND(install_key, sealed_key(w));
+    COMMAND(retire_key, NUMBER(0));
+    COMMAND(add_tx_sa, AN(0), NUMBER(1), number(w[2]), number(w[3]) != 0);
+    COMMAND(enable_tx_sa, AN(0));
+    COMMAND(disable_tx_sa, AN(0));
+    COMMAND(delete_tx_sa, AN(0));
+    COMMAND(add_rx_sc, SCI(0));
+    COMMAND(delete_rx_sc, SCI(0));
+    COMMAND(add_rx_sa, SCI(0), AN(1), NUMBER(2), number(w[3]), (uint32_t)number(w[4]));
+    COMMAND(enable_rx_sa, SCI(0), AN(1));
+    COMMAND(disable_rx_sa, SCI(0), AN(1));
+    COMMAND(set_lowest_pn, SCI(0), AN(1), number(w[2]));
+    COMMAND(delete_rx_sa, SCI(0), AN(1));
+    COMMAND(reserve_granted, (const macsec_record *)(const void *)sealed_of(w[0], sizeof(macsec_record)));
     fail("no such call");
     return 0;
 }
 
 static uint32_t call(macsec_endpoint *e, const char *name, char **w) {
-    if (strcmp(name, "free") == 0) {
-        macsec_free(e);
-        return MACSEC_OK;
-    }
+    CALL("free", (macsec_free(e), MACSEC_OK));
     CALL("new", macsec_new(e, sealed_config(w)));
     CALL("configure", configure(e, w[0], NULL, false));
-    CALL("reserve_open", macsec_reserve_open(e, sealed_config(w), sealed(w[4]), length_of(w[4]), number(w[5]) != 0));
+    CALL("reserve_open", macsec_reserve_open(e, sealed_config(w), OCTETS(4), number(w[5]) != 0));
     CALL("reserve_configure", configure(e, w[0], w[1], number(w[2]) != 0));
     CALL("send", send(e, w[0]));
     CALL("receive", receive(e, w[0]));
@@ -595,38 +568,36 @@ static uint32_t call(macsec_endpoint *e, const char *name, char **w) {
     CALL("parse_end", parse_end(w[0]));
     CALL("clear_command", clear_command(w));
     CALL("seal", seal_frame(w));
-    CALL("key_take", with_blocks(1, macsec_key_take(key_at(w[0]), e, (uint16_t)number(w[1]))));
-    CALL("key_free", free_key(key_at(w[0])));
-    CALL("slot_new", with_blocks(3, macsec_slot_new(slot_at(w[0]))));
-    CALL("slot_free", free_slot(slot_at(w[0])));
-    CALL("slot_clear", macsec_slot_clear(slot_at(w[0])));
-    CALL("plan_send", plan_send(e, w));
+    CALL("key_take", with_blocks(1, macsec_key_take(KEY_AT(0), e, NUMBER(1))));
+    CALL("key_free", free_key(KEY_AT(0)));
+    CALL("slot_new", with_blocks(3, macsec_slot_new(SLOT_AT(0))));
+    CALL("slot_free", free_slot(SLOT_AT(0)));
+    CALL("slot_clear", macsec_slot_clear(SLOT_AT(0)));
+    CALL("plan_send", plan(e, true, w));
     CALL("seal_job", seal_job(w));
-    CALL("plan_receive", plan_receive(e, w));
-    CALL("open_job", macsec_open_job(slot_at(w[0]), key_at(w[1])));
+    CALL("plan_receive", plan(e, false, w));
+    CALL("open_job", macsec_open_job(SLOT_AT(0), KEY_AT(1)));
     CALL("finish_receive", finish_receive(e, w));
     CALL("get_options",
          show_options(macsec_get_options(e, ROOM(macsec_options, 7, 7, 7, false, false, { 7, 7, 7, 7, 7 }))));
     CALL("keys_left", show_keys_left(macsec_keys_left(e, ROOM(uint32_t, 7))));
     CALL("get_counters", COUNTERS(11, macsec_counters, macsec_get_counters, e));
     CALL("get_tx_counters", COUNTERS(4, macsec_tx_counters, macsec_get_tx_counters, e));
-    CALL("get_rx_counters", COUNTERS(6, macsec_rx_counters, macsec_get_rx_counters, e, sealed_sci(w[0])));
-    CALL("get_rx_sa_counters",
-         COUNTERS(6, macsec_rx_counters, macsec_get_rx_sa_counters, e, sealed_sci(w[0]), (uint8_t)number(w[1])));
-    CALL("get_removed_counters", COUNTERS(6, macsec_rx_counters, macsec_get_removed_counters, e, sealed_sci(w[0])));
-    CALL("get_rx_sc", show_sci(macsec_get_rx_sc(e, (size_t)number(w[0]), (filled = room_of(8)))));
-    CALL("get_tx_sa", show_tx_sa(macsec_get_tx_sa(e, (uint8_t)number(w[0]),
-                                                  ROOM(macsec_tx_sa, 7, 7, 7, false, false, { 7, 7, 7, 7, 7 }))));
-    CALL("get_rx_sa", show_rx_sa(macsec_get_rx_sa(e, sealed_sci(w[0]), (uint8_t)number(w[1]),
-                                                  ROOM(macsec_rx_sa, 7, 7, 7, 7, 7, 7, false, { 7, 7, 7 }))));
-    CALL("reserve_wanted", show_record(macsec_reserve_wanted(e, (uint8_t)number(w[0]), number(w[1]), RECORD)));
-    CALL("reserve_to_accept", show_record(macsec_reserve_to_accept(e, sealed_sci(w[0]), (uint8_t)number(w[1]),
-                                                                   number(w[2]), number(w[3]), RECORD)));
-    CALL("reserve_to_save", show_record(macsec_reserve_to_save(e, sealed_sci(w[0]), (uint8_t)number(w[1]), RECORD)));
-    CALL("reserve_tx_floor", show_floor(macsec_reserve_tx_floor(e, (uint16_t)number(w[0]), ROOM(uint64_t, 7))));
-    CALL("reserve_rx_floor", show_floor(macsec_reserve_rx_floor(e, sealed_sci(w[0]), (uint8_t)number(w[1]),
-                                                                (uint16_t)number(w[2]), ROOM(uint64_t, 7))));
-    CALL("journal_header", show_record(macsec_journal_header(sealed_salt(w[0]), RECORD)));
+    CALL("get_rx_counters", COUNTERS(6, macsec_rx_counters, macsec_get_rx_counters, e, SCI(0)));
+    CALL("get_rx_sa_counters", COUNTERS(6, macsec_rx_counters, macsec_get_rx_sa_counters, e, SCI(0), AN(1)));
+    CALL("get_removed_counters", COUNTERS(6, macsec_rx_counters, macsec_get_removed_counters, e, SCI(0)));
+    CALL("get_rx_sc", show_octets(8, macsec_get_rx_sc(e, (size_t)number(w[0]), filled = room_of(8))));
+    CALL("get_tx_sa",
+         show_tx_sa(macsec_get_tx_sa(e, AN(0), ROOM(macsec_tx_sa, 7, 7, 7, false, false, { 7, 7, 7, 7, 7 }))));
+    CALL("get_rx_sa",
+         show_rx_sa(macsec_get_rx_sa(e, SCI(0), AN(1), ROOM(macsec_rx_sa, 7, 7, 7, 7, 7, 7, false, { 7, 7, 7 }))));
+    CALL("reserve_wanted", show_octets(64, macsec_reserve_wanted(e, AN(0), number(w[1]), RECORD)));
+    CALL("reserve_to_accept",
+         show_octets(64, macsec_reserve_to_accept(e, SCI(0), AN(1), number(w[2]), number(w[3]), RECORD)));
+    CALL("reserve_to_save", show_octets(64, macsec_reserve_to_save(e, SCI(0), AN(1), RECORD)));
+    CALL("reserve_tx_floor", show_floor(macsec_reserve_tx_floor(e, NUMBER(0), ROOM(uint64_t, 7))));
+    CALL("reserve_rx_floor", show_floor(macsec_reserve_rx_floor(e, SCI(0), AN(1), NUMBER(2), ROOM(uint64_t, 7))));
+    CALL("journal_header", show_octets(64, macsec_journal_header(sealed_of(w[0], 24), RECORD)));
     CALL("journal_compacted", journal_compacted(w[0]));
     return command(e, name, w);
 }
