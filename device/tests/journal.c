@@ -20,29 +20,13 @@
 #define _GNU_SOURCE
 #include "journal.h"
 #include "../../tests/library/suites.h"
+#include "journal_end.h"
 #include <errno.h>
-#include <fcntl.h>
 #include <inttypes.h>
-#include <stdio.h>
-#include <stdlib.h>
-#include <string.h>
-#include <unistd.h>
 
-enum { FRAME_LENGTH = 64, KEYS = 2, TURN = 16, HELD = 16, LINK_MAX = 256, SECTOR = 512, LIMIT = 1 << 16 };
+enum { HELD = 16, SECTOR = 512, LIMIT = 1 << 16 };
 
 static const uint8_t sender[8] = { 2, 0, 0, 0, 0, 1, 0, 1 }, receiver[8] = { 2, 0, 0, 0, 0, 2, 0, 1 };
-
-static void fail(const char *what) {
-    perror(what);
-    exit(1);
-}
-
-static void must(const char *what, uint32_t status) {
-    if (status != MACSEC_OK) {
-        fprintf(stderr, "journal: %s: %s\n", what, macsec_status_name(status));
-        exit(1);
-    }
-}
 
 static void print_fault(const char *what, const struct journal_fault *fault) {
     fprintf(stderr, "journal: %s: %s: %s", what, journal_step_name(fault->step), strerror(fault->error));
@@ -83,26 +67,6 @@ void *__wrap_realloc(void *old, size_t size) {
 }
 
 /* ---- Captures ---- */
-
-static int create_capture(const char *name) {
-    static const uint32_t header[6] = { 0xa1b2c3d4, 0x00040002, 0, 0, 65535, 1 };
-    int file = open(name, O_WRONLY | O_CREAT | O_TRUNC | O_CLOEXEC, 0600);
-    if (file < 0 || write(file, header, sizeof header) != sizeof header)
-        fail(name);
-    return file;
-}
-
-/* Writes a frame by one call, so that no buffer is lost when the process is killed. */
-static void capture(int file, const uint8_t *frame, size_t length) {
-    uint8_t record[16 + LINK_MAX] = { 0 };
-    const uint32_t lengths[2] = { (uint32_t)length, (uint32_t)length };
-    if (length > LINK_MAX)
-        exit(1);
-    memcpy(record + 8, lengths, sizeof lengths);
-    memcpy(record + 16, frame, length);
-    if (write(file, record, 16 + length) != (ssize_t)(16 + length))
-        fail("capture");
-}
 
 /* Reads the next frame of a capture. False at its end, also in the middle of a frame. */
 static bool next_frame(FILE *file, uint8_t *frame, size_t *length) {
@@ -206,26 +170,20 @@ static bool keep(struct journal *journal, macsec_endpoint *e, uint32_t status, c
     return true;
 }
 
+/* Prints what was counted, and ends an end. */
+static int end(struct journal *journal, macsec_endpoint *e, int file, const char *what, const struct counts *counts) {
+    printf("%s %" PRIu64 " dropped %" PRIu64 " failures %" PRIu64 "\n", what, counts->sent, counts->dropped,
+           counts->failures);
+    macsec_free(e);
+    journal_close(journal);
+    return close(file) == 0 ? 0 : 1;
+}
+
 /* ---- send ---- */
 
 static void reserve(struct journal *journal, macsec_endpoint *e, uint8_t an, uint64_t amount, struct counts *counts) {
     macsec_record record;
     (void)keep(journal, e, macsec_reserve_wanted(e, an, amount, &record), &record, counts);
-}
-
-static void send_frame(macsec_endpoint *e, int file, struct counts *counts) {
-    static const uint8_t frame[FRAME_LENGTH] = { 2, 0, 0, 0, 0, 9, 2, 0, 0, 0, 0, 8, 0x88, 0xb5 };
-    macsec_sent sent;
-    must("send", macsec_send(e, frame, sizeof frame, &sent));
-    if (sent.fate == MACSEC_FATE_PROTECTED) {
-        capture(file, sent.frame, sent.length);
-        counts->sent++;
-    } else if (sent.fate == MACSEC_FATE_NO_RESERVATION) {
-        counts->dropped++;
-    } else {
-        fprintf(stderr, "journal: send: %s\n", macsec_fate_name(sent.fate));
-        exit(1);
-    }
 }
 
 static int run_send(char **words) {
@@ -246,12 +204,12 @@ static int run_send(char **words) {
         if (it % TURN == 0)
             must("enable_tx_sa", macsec_enable_tx_sa(&e, an));
         reserve(&journal, &e, an, amount, &counts);
-        send_frame(&e, file, &counts);
+        if (send_frame(&e, file))
+            counts.sent++;
+        else
+            counts.dropped++;
     }
-    printf("sent %" PRIu64 " dropped %" PRIu64 " failures %" PRIu64 "\n", counts.sent, counts.dropped, counts.failures);
-    macsec_free(&e);
-    journal_close(&journal);
-    return close(file) == 0 ? 0 : 1;
+    return end(&journal, &e, file, "sent", &counts);
 }
 
 /* ---- keys ---- */
@@ -341,11 +299,7 @@ static int run_receive(int count, char **words) {
         fclose(in);
     }
     deliver(&journal, &e, &held, file, &counts);
-    printf("delivered %" PRIu64 " dropped %" PRIu64 " failures %" PRIu64 "\n", counts.sent, counts.dropped,
-           counts.failures);
-    macsec_free(&e);
-    journal_close(&journal);
-    return close(file) == 0 ? 0 : 1;
+    return end(&journal, &e, file, "delivered", &counts);
 }
 
 /* ---- accept ---- */
@@ -431,11 +385,7 @@ static int run_accept(char **words) {
     }
     for (uint64_t at = 0; count == 0 || at < count; at++)
         accept_capture(&a, words[5], at, count != 0);
-    printf("delivered %" PRIu64 " dropped %" PRIu64 " failures %" PRIu64 "\n", a.counts.sent, a.counts.dropped,
-           a.counts.failures);
-    macsec_free(&a.e);
-    journal_close(&a.journal);
-    return close(a.file) == 0 ? 0 : 1;
+    return end(&a.journal, &a.e, a.file, "delivered", &a.counts);
 }
 
 /* ---- floors ---- */

@@ -151,8 +151,7 @@ class Ahead(Runs):
 
     def kill(self, sender: bool, receiver: bool) -> None:
         """Kills one or both at once."""
-        processes = [(self.sender, sender), (self.receiver, receiver)]
-        for process, is_victim in processes:
+        for process, is_victim in ((self.sender, sender), (self.receiver, receiver)):
             if process is not None and is_victim:
                 process.kill()
         if self.sender is not None and sender:
@@ -191,14 +190,10 @@ class Ahead(Runs):
             worst = max(worst, lost / starts / RESERVATION)
         report(worst <= 1, f"a crash of the receiver lost {worst:.2f} reservations of frames")
         lost = len(self.sent) - len(self.delivered)
-        report(
-            lost <= len(self.crashes) * RESERVATION,
-            f"{lost} frames were lost by {len(self.crashes) // len(ANS)} crashes",
-        )
-        print(
-            f"kills, suite {self.suite}, ahead: {len(self.crashes) // len(ANS)} of a receiver, {lost} of"
-            f" {len(self.sent):,} frames lost, a crash lost at most {worst:.2f} reservations"
-        )
+        crashes = len(self.crashes) // len(ANS)
+        report(lost <= len(self.crashes) * RESERVATION, f"{lost} frames were lost by {crashes} crashes")
+        told = f"{lost} of {len(self.sent):,} frames lost, a crash lost at most {worst:.2f} reservations"
+        print(f"kills, suite {self.suite}, ahead: {crashes} of a receiver, {told}")
 
 
 def kill_often(options: Options, kind: type[Saving] | type[Ahead], suite: int, rounds: int, batch: int) -> None:

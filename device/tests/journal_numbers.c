@@ -16,52 +16,42 @@
 #define _GNU_SOURCE
 #include "device.h"
 #include "journal.h"
+#include "journal_end.h"
 #include <errno.h>
-#include <fcntl.h>
 #include <inttypes.h>
 #include <stdarg.h>
-#include <stdio.h>
-#include <stdlib.h>
-#include <string.h>
-#include <unistd.h>
 
-enum { FRAME_LENGTH = 64, KEYS = 2, TURN = 16, TICK = 4, RECORDED = 10, LINE = 128, LINK_MAX = 256 };
+enum { TICK = 4, RECORDED = 10, LINE = 128 };
 
 static const char own[] = "0200000000010001", other[] = "0200000000020001";
 static const uint8_t other_sci[8] = { 2, 0, 0, 0, 0, 2, 0, 1 };
-static const uint8_t client_frame[FRAME_LENGTH] = { 2, 0, 0, 0, 0, 9, 2, 0, 0, 0, 0, 8, 0x88, 0xb5 };
 
 static const char *journal_path;
 
 /* ---- In place of other parts of macsecd ---- */
 
-static void print(const char *form, va_list arguments, int error) {
-    fprintf(stderr, "journal_numbers: ");
-    vfprintf(stderr, form, arguments);
-    fprintf(stderr, "%s%s\n", error == 0 ? "" : ": ", error == 0 ? "" : strerror(error));
-}
+#define PRINT(end, ...)                                                                                                \
+    do {                                                                                                               \
+        va_list arguments;                                                                                             \
+        va_start(arguments, form);                                                                                     \
+        fprintf(stderr, "journal_numbers: ");                                                                          \
+        vfprintf(stderr, form, arguments);                                                                             \
+        fprintf(stderr, end, __VA_ARGS__);                                                                             \
+        va_end(arguments);                                                                                             \
+    } while (0)
 
 void message(const char *form, ...) {
-    va_list arguments;
-    va_start(arguments, form);
-    print(form, arguments, 0);
-    va_end(arguments);
+    PRINT("%s", "\n");
 }
 
 int message_wrong(const char *form, ...) {
-    va_list arguments;
-    va_start(arguments, form);
-    print(form, arguments, 0);
-    va_end(arguments);
+    PRINT("%s", "\n");
     return ENDS_WRONG;
 }
 
 int message_of_errno(const char *form, ...) {
     int error = errno;
-    va_list arguments;
-    va_start(arguments, form);
-    print(form, arguments, error);
-    va_end(arguments);
+    PRINT(": %s\n", strerror(error));
     return ENDS_FAILED;
 }
 
@@ -72,10 +62,7 @@ int message_of_memory(void) {
 
 bool config_path(char *path, size_t room, const char *variable, const char *otherwise, const char *name,
                  const char *suffix) {
-    (void)variable;
-    (void)otherwise;
-    (void)name;
-    (void)suffix;
+    (void)variable, (void)otherwise, (void)name, (void)suffix;
     return snprintf(path, room, "%s", journal_path) < (int)room;
 }
 
@@ -85,13 +72,6 @@ int confine_calls(enum thread thread) {
 }
 
 /* ---- Both ends ---- */
-
-static void must(const char *line, uint32_t status) {
-    if (status == MACSEC_OK)
-        return;
-    fprintf(stderr, "journal_numbers: %s: %s\n", line, macsec_status_name(status));
-    exit(1);
-}
 
 /* Carries out a line, without a journal if `n` is NULL. */
 static void carry_out(struct numbers *n, macsec_endpoint *e, const char *form, ...) {
@@ -164,24 +144,6 @@ static void begin_peer(struct peer *p, const macsec_endpoint *receiver) {
     }
 }
 
-static int create_capture(const char *name) {
-    static const uint32_t header[6] = { 0xa1b2c3d4, 0x00040002, 0, 0, 65535, 1 };
-    int file = open(name, O_WRONLY | O_CREAT | O_TRUNC | O_CLOEXEC, 0600);
-    if (file < 0 || write(file, header, sizeof header) != sizeof header)
-        exit(1);
-    return file;
-}
-
-/* Writes a frame by one call, so that no buffer is lost when the process is killed. */
-static void capture(int file, const uint8_t *frame, size_t length) {
-    uint8_t record[16 + LINK_MAX] = { 0 };
-    const uint32_t lengths[2] = { (uint32_t)length, (uint32_t)length };
-    memcpy(record + 8, lengths, sizeof lengths);
-    memcpy(record + 16, frame, length);
-    if (write(file, record, 16 + length) != (ssize_t)(16 + length))
-        exit(1);
-}
-
 /* The peer sends a frame, which is received. */
 static void receive_frame(struct numbers *n, macsec_endpoint *e, struct peer *p, unsigned an, int file) {
     macsec_sent sent;
@@ -194,16 +156,6 @@ static void receive_frame(struct numbers *n, macsec_endpoint *e, struct peer *p,
         p->lacked++;
     p->next[an]++;
     numbers_received(n, e, &got, 1);
-}
-
-static bool send_frame(macsec_endpoint *e, int file) {
-    macsec_sent sent;
-    (void)macsec_send(e, client_frame, sizeof client_frame, &sent);
-    if (sent.fate == MACSEC_FATE_PROTECTED)
-        capture(file, sent.frame, sent.length);
-    else if (sent.fate != MACSEC_FATE_NO_RESERVATION)
-        exit(1);
-    return sent.fate == MACSEC_FATE_PROTECTED;
 }
 
 static int run_send(unsigned long frames, const char *out) {

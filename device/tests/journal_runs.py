@@ -42,45 +42,38 @@ class Options(NamedTuple):
 # ---- Programs
 
 
+def compiled(out: pathlib.Path, *words: str) -> pathlib.Path:
+    """Builds a program."""
+    out.parent.mkdir(parents=True, exist_ok=True)
+    if subprocess.call(["gcc", *FLAGS, *words, "-o", str(out)]):
+        sys.exit("device/tests/journal: a program was not built")
+    return out
+
+
 def build_numbers(library: pathlib.Path, folder: pathlib.Path) -> pathlib.Path:
     """Builds the end that reserves as macsecd does. Its reservations are short."""
-    folder.mkdir(parents=True, exist_ok=True)
-    program = folder / "journal_numbers"
     parts = "commands journal journal_writer journals lines names numbers receive_rates text words".split()
     sizes = ['-DNUMBERS_FILE_LENGTH=(size_t)atol(getenv("LIMIT"))', "-DAMOUNT_MIN=8", "-DRECEIVE_RATES_LEAST=8"]
     sources = [str(ROOT / f"device/{it}.c") for it in (*parts, "tests/journal_numbers")]
-    command = ["gcc", *FLAGS, "-pedantic", "-pthread", *sizes, "-o", str(program), *sources, str(library)]
-    if subprocess.call(command):
-        sys.exit("device/tests/journal: a program was not built")
-    return program
+    return compiled(folder / "journal_numbers", "-pedantic", "-pthread", *sizes, *sources, str(library))
 
 
 def build_held(folder: pathlib.Path) -> pathlib.Path:
     """Builds frames that wait for a reservation, with sanitizers."""
-    folder.mkdir(parents=True, exist_ok=True)
-    program = folder / "journal_held"
     sources = [str(ROOT / f"device/{it}.c") for it in ("held_frames", "history", "tests/journal_held")]
-    if subprocess.call(["gcc", *FLAGS, "-pedantic", *SANITIZED, "-o", str(program), *sources]):
-        sys.exit("device/tests/journal: a program was not built")
-    return program
+    return compiled(folder / "journal_held", "-pedantic", *SANITIZED, *sources)
 
 
 def build(library: pathlib.Path, folder: pathlib.Path, memory: bool) -> tuple[pathlib.Path, pathlib.Path, pathlib.Path]:
     """Builds the program, the library that makes its calls fail, and for `memory` the program with sanitizers."""
-    folder.mkdir(parents=True, exist_ok=True)
     program, sanitized, disk = folder / "journal", folder / "journal-sanitized", folder / "journal_disk.so"
-    sources = [str(ROOT / "device/tests/journal.c"), str(ROOT / "device/journal.c")]
+    sources = [str(ROOT / "device/tests/journal.c"), str(ROOT / "device/journal.c"), str(library)]
     model = str(ROOT / "device/tests/journal_disk.c")
     sources += ["-Wl,--wrap=malloc", "-Wl,--wrap=realloc"]
-    commands = [
-        ["gcc", *FLAGS, "-pedantic", "-o", str(program), *sources, str(library)],
-        ["gcc", *FLAGS, "-shared", "-fPIC", "-o", str(disk), model],
-    ]
-    if memory:
-        commands.append(["gcc", *FLAGS, *SANITIZED, "-o", str(sanitized), *sources, model, str(library)])
+    commands = [(program, "-pedantic", *sources), (disk, "-shared", "-fPIC", model)]
+    commands += [(sanitized, *SANITIZED, *sources, model)] if memory else []
     with ThreadPoolExecutor(len(commands)) as pool:
-        if any(pool.map(subprocess.call, commands)):
-            sys.exit("device/tests/journal: a program was not built")
+        list(pool.map(lambda it: compiled(*it), commands))
     return program, sanitized, disk
 
 
