@@ -12,20 +12,8 @@ import time
 from concurrent.futures import ThreadPoolExecutor
 from typing import NamedTuple
 
+import journal_runs as runs
 from house.reporting import MANY, report, until, wrong
-from journal_runs import (
-    SECTOR,
-    SENDER,
-    Frame,
-    Options,
-    add_new,
-    build_numbers,
-    frames_of,
-    has_frames,
-    run,
-    send_words,
-    work_folder,
-)
 
 # What a refused journal is said to have: a damaged record, or a damaged header.
 REFUSALS = "damage in record", "record: Bad message", "header is damaged", "NotJournal"
@@ -38,44 +26,44 @@ class Made(NamedTuple):
     kind: str
     octets: bytes
     length: int  # how many of them are before what was appended last
-    frames: set[Frame]
+    frames: set[runs.Frame]
 
 
 def words_of(kind: str, folder: pathlib.Path, limit: int, count: int) -> list[str]:
     """The arguments of a run."""
     if kind == "agree":
         return [kind, str(folder / "journal"), str(limit), str(count), str(folder / "capture")]
-    return send_words(folder / "journal", folder / "capture", limit, 8, count)
+    return runs.send_words(folder / "journal", folder / "capture", limit, 8, count)
 
 
-def make(options: Options, numbers: pathlib.Path, number: int) -> Made:
+def make(options: runs.Options, numbers: pathlib.Path, number: int) -> Made:
     """Makes a journal: by macsecd's part, also with names that were given up, or by journal.c alone."""
     rng = random.Random(f"{options.seed} damage {number}")
     kind, program = [("send", numbers), ("agree", numbers), ("send", options.program)][number % 3]
-    frames: set[Frame] = set()
-    with work_folder() as folder:
-        run(program, ["create", str(folder / "journal")])
+    frames: set[runs.Frame] = set()
+    with runs.work_folder() as folder:
+        runs.run(program, ["create", str(folder / "journal")])
         # The last run may be killed, also once its first new file has the name.
         killed = rng.choice(("", f"any:{rng.randrange(12, 60)}:1:stop", "fsync:3:1:stop"))
         for faults in [""] * rng.randrange(1, 3) + [killed]:
             count, limit = rng.randrange(1, 9 if kind == "agree" else 60), rng.choice((4096, 1 << 16))
             env = {"LD_PRELOAD": str(options.disk), "FAULTS": faults}
             (folder / "capture").unlink(missing_ok=True)
-            run(program, words_of(kind, folder, limit, count), env)
-            add_new(frames, frames_of(folder / "capture"), f"journal {number}")
+            runs.run(program, words_of(kind, folder, limit, count), env)
+            runs.add_new(frames, runs.frames_of(folder / "capture"), f"journal {number}")
         octets = (folder / "journal").read_bytes()
-        return Made(program, kind, octets, len(octets) - (0 if "fsync" in killed else SECTOR), frames)
+        return Made(program, kind, octets, len(octets) - (0 if "fsync" in killed else runs.SECTOR), frames)
 
 
 def damage(made: Made, rng: random.Random) -> bool:
     """Changes an octet before what was appended last, and lets a run begin. Is the journal refused?"""
     octets, is_new = bytearray(made.octets), made.length == len(made.octets)
-    at = rng.randrange(made.length - SECTOR if is_new and rng.random() < 0.5 else 0, made.length)
+    at = rng.randrange(made.length - runs.SECTOR if is_new and rng.random() < 0.5 else 0, made.length)
     octets[at] ^= rng.randrange(1, 256)
-    with work_folder() as folder:
+    with runs.work_folder() as folder:
         (folder / "journal").write_bytes(octets)
-        ended = run(made.program, words_of(made.kind, folder, 1 << 16, 8))
-        frames = frames_of(folder / "capture")
+        ended = runs.run(made.program, words_of(made.kind, folder, 1 << 16, 8))
+        frames = runs.frames_of(folder / "capture")
     what = f"octet {at} of {len(octets)} is damaged ({made.program.name} {made.kind})"
     refused = ended.status != 0
     report(not refused or any(it in ended.error for it in REFUSALS), f"{what}: {ended}")
@@ -88,12 +76,12 @@ def cut(program: pathlib.Path, rng: random.Random) -> bool:
     written as a whole? A journal that is cut in the moment of an append has a hole then, and the next run refuses it.
     """
     what = f"a journal that was cut ({program.name})"
-    with work_folder() as folder:
+    with runs.work_folder() as folder:
         journal, capture = folder / "journal", folder / "capture"
-        run(program, ["create", str(journal)])
+        runs.run(program, ["create", str(journal)])
         words = words_of("send", folder, 1 << 22, 0 if program.name == "journal" else 1 << 40)
         with subprocess.Popen([str(program), *words], stderr=subprocess.DEVNULL) as process:
-            report(until(has_frames(capture, rng.randrange(24, 5000))), f"{what}: nothing is sent")
+            report(until(runs.has_frames(capture, rng.randrange(24, 5000))), f"{what}: nothing is sent")
             length = rng.randrange(journal.stat().st_size)
             os.truncate(journal, length)
             inode = journal.stat().st_ino
@@ -101,31 +89,31 @@ def cut(program: pathlib.Path, rng: random.Random) -> bool:
             noticed = journal.stat().st_ino != inode
             time.sleep(rng.uniform(0, 0.02))
             process.kill()
-        seen = set(frames_of(capture))
-        ended = run(program, words_of("send", folder, 1 << 16, 8))
+        seen = set(runs.frames_of(capture))
+        ended = runs.run(program, words_of("send", folder, 1 << 16, 8))
         refused = ended.status != 0 and any(it in ended.error for it in REFUSALS)
         report(ended.status == 0 or (refused and not noticed), f"{what}: {ended}")
-        add_new(seen, frames_of(capture) if ended.status == 0 else [], what)
+        runs.add_new(seen, runs.frames_of(capture) if ended.status == 0 else [], what)
     return noticed
 
 
 def check_again(program: pathlib.Path) -> None:
     """A key that comes again in one run is not given up: its name stays when those of older keys go."""
-    frames: list[Frame] = []
-    with work_folder() as folder:
-        run(program, ["create", str(folder / "journal")])
+    frames: list[runs.Frame] = []
+    with runs.work_folder() as folder:
+        runs.run(program, ["create", str(folder / "journal")])
         for _ in range(2):
-            ended = run(program, words_of("agree", folder, 1 << 16, 600))
+            ended = runs.run(program, words_of("agree", folder, 1 << 16, 600))
             report(ended.status == 0, f"a key that comes again: {ended}")
-            frames += [it for it in frames_of(folder / "capture") if it[1] == 0]
-    sent = [it for it in frames if it[0] == SENDER]
+            frames += [it for it in runs.frames_of(folder / "capture") if it[1] == 0]
+    sent = [it for it in frames if it[0] == runs.SENDER]
     holds = len(set(sent)) == len(sent) == 4 and len(frames) - len(sent) == 2
     report(holds, f"of a key that comes again these frames are sent and delivered: {frames}")
 
 
-def check_damage(options: Options) -> None:
+def check_damage(options: runs.Options) -> None:
     """Damaged journals, cut journals, and keys that come again."""
-    numbers, jobs = build_numbers(options.library, options.folder), []
+    numbers, jobs = runs.build_numbers(options.library, options.folder), []
     check_again(numbers)
     journals, each, cuts = (12, 15, 8) if options.short else (250, 20, 500)
     with ThreadPoolExecutor(len(os.sched_getaffinity(0))) as pool:

@@ -9,22 +9,8 @@ import signal
 import subprocess
 import time
 
+import journal_runs as runs
 from house.reporting import MANY, report, until, wrong
-from journal_runs import (
-    ANS,
-    Ended,
-    Frame,
-    Options,
-    accept_words,
-    add_new,
-    frames_of,
-    highest,
-    names_of,
-    receive_words,
-    run,
-    send_words,
-    work_folder,
-)
 
 AMOUNT = 16
 
@@ -35,17 +21,17 @@ RESERVATION = AMOUNT + 1
 class Runs:
     """Runs of a sender and of a receiver that are killed, and what they sent and delivered."""
 
-    def __init__(self, options: Options, folder: pathlib.Path, suite: int, seed: str) -> None:
+    def __init__(self, options: runs.Options, folder: pathlib.Path, suite: int, seed: str) -> None:
         self.options, self.folder, self.suite = options, folder, suite
         self.random = random.Random(seed)
-        self.sent: set[Frame] = set()
-        self.delivered: set[Frame] = set()
+        self.sent: set[runs.Frame] = set()
+        self.delivered: set[runs.Frame] = set()
         self.captures: list[pathlib.Path] = []
-        self.last = {an: 0 for an in ANS}
-        self.restarts = {an: 0 for an in ANS}
+        self.last = {an: 0 for an in runs.ANS}
+        self.restarts = {an: 0 for an in runs.ANS}
         self.lost = 0.0
         for name in ("sender", "receiver"):
-            run(options.program, ["create", str(folder / name)])
+            runs.run(options.program, ["create", str(folder / name)])
 
     def start(self, words: list[str]) -> subprocess.Popen[bytes]:
         """Starts the program."""
@@ -53,7 +39,7 @@ class Runs:
 
     def start_sender(self, capture: pathlib.Path) -> subprocess.Popen[bytes]:
         """Starts a sender, which does not end."""
-        return self.start(send_words(self.folder / "sender", capture, 8192, AMOUNT, 0, self.suite))
+        return self.start(runs.send_words(self.folder / "sender", capture, 8192, AMOUNT, 0, self.suite))
 
     def killed(self, process: subprocess.Popen[bytes]) -> None:
         """Waits for a run that was killed."""
@@ -61,9 +47,9 @@ class Runs:
 
     def note_sent(self, capture: pathlib.Path) -> None:
         """Sees that nothing was sent before, and how many numbers are lost."""
-        frames = frames_of(capture)
-        add_new(self.sent, frames, f"sent by a run after {len(self.captures)} captures")
-        for an in ANS:
+        frames = runs.frames_of(capture)
+        runs.add_new(self.sent, frames, f"sent by a run after {len(self.captures)} captures")
+        for an in runs.ANS:
             self.restarts[an] += 1
             numbers = [it[2] for it in frames if it[1] == an]
             if not numbers:
@@ -74,7 +60,7 @@ class Runs:
         if capture.exists():
             self.captures.append(capture)
 
-    def receive_all(self, out: pathlib.Path) -> Ended:
+    def receive_all(self, out: pathlib.Path) -> runs.Ended:
         """The receiver gets all frames."""
         raise NotImplementedError
 
@@ -84,7 +70,7 @@ class Runs:
             out = self.folder / f"delivered-{number}"
             ended = self.receive_all(out)
             report(ended.status == 0 and ended.count("failures") == 0, f"the receiver fails: {ended}")
-            add_new(self.delivered, frames_of(out), f"delivered by run {number}")
+            runs.add_new(self.delivered, runs.frames_of(out), f"delivered by run {number}")
         report(ended.count("delivered") == 0 and ended.count("dropped") == len(self.sent), f"not all is late: {ended}")
         report(self.delivered <= self.sent, "frames were delivered that were not sent")
         report(self.lost <= 1, f"a restart lost {self.lost:.2f} reservations of packet numbers")
@@ -98,7 +84,7 @@ class Saving(Runs):
         """Starts both, and kills them at random moments."""
         capture, out = self.folder / f"sent-{number}", self.folder / f"delivered-{number}"
         processes = [self.start_sender(capture)]
-        processes.append(self.start(receive_words(self.folder / "receiver", out, self.captures, self.suite)))
+        processes.append(self.start(runs.receive_words(self.folder / "receiver", out, self.captures, self.suite)))
         # Most live until they have opened the journal.
         if self.random.random() < 0.8:
             report(until(lambda: capture.exists() and out.exists()), "a process does not begin")
@@ -109,31 +95,33 @@ class Saving(Runs):
         for process in processes:
             self.killed(process)
         self.note_sent(capture)
-        add_new(self.delivered, frames_of(out), f"delivered by run {number}")
+        runs.add_new(self.delivered, runs.frames_of(out), f"delivered by run {number}")
 
-    def receive_all(self, out: pathlib.Path) -> Ended:
+    def receive_all(self, out: pathlib.Path) -> runs.Ended:
         """The receiver gets all frames."""
-        return run(self.options.program, receive_words(self.folder / "receiver", out, self.captures, self.suite))
+        return runs.run(
+            self.options.program, runs.receive_words(self.folder / "receiver", out, self.captures, self.suite)
+        )
 
 
 class Ahead(Runs):
     """The receiver reserves ahead, and delivers at once. In each run it gets all frames from the first on, and then
     those that come. The sender is killed, or the receiver, or both at once; the other one goes on."""
 
-    def __init__(self, options: Options, folder: pathlib.Path, suite: int, seed: str) -> None:
+    def __init__(self, options: runs.Options, folder: pathlib.Path, suite: int, seed: str) -> None:
         super().__init__(options, folder, suite, seed)
         self.sender: subprocess.Popen[bytes] | None = None
         self.receiver: subprocess.Popen[bytes] | None = None
         self.out = folder
-        self.accepted = {an: 0 for an in ANS}
-        self.starts = {an: 0 for an in ANS}
+        self.accepted = {an: 0 for an in runs.ANS}
+        self.starts = {an: 0 for an in runs.ANS}
         # What each crash of the receiver has left: the association, the last number that was delivered, the one up to
         # which is reserved, and the starts since a frame was delivered.
         self.crashes: list[tuple[int, int, int, int]] = []
 
     def words(self, out: pathlib.Path, count: int) -> list[str]:
         """The arguments of the receiver of so many captures."""
-        return accept_words(self.folder / "receiver", out, self.folder / "sent-", count, AMOUNT, self.suite)
+        return runs.accept_words(self.folder / "receiver", out, self.folder / "sent-", count, AMOUNT, self.suite)
 
     def round(self, number: int) -> None:
         """Starts what does not run, and kills one or both at a random moment."""
@@ -161,24 +149,24 @@ class Ahead(Runs):
         if self.receiver is not None and receiver:
             self.killed(self.receiver)
             self.receiver = None
-            self.note_delivered(frames_of(self.out))
+            self.note_delivered(runs.frames_of(self.out))
 
-    def note_delivered(self, frames: list[Frame]) -> None:
+    def note_delivered(self, frames: list[runs.Frame]) -> None:
         """Sees that nothing was delivered before, and up to where is reserved."""
-        add_new(self.delivered, frames, f"delivered by {self.out.name}")
+        runs.add_new(self.delivered, frames, f"delivered by {self.out.name}")
         octets = (self.folder / "receiver").read_bytes()
-        names = names_of(octets)
-        for an in ANS:
+        names = runs.names_of(octets)
+        for an in runs.ANS:
             numbers = [it[2] for it in frames if it[1] == an]
             self.starts[an] = 1 if numbers else self.starts[an] + 1
             self.accepted[an] = max([self.accepted[an], *numbers])
-            reserved = highest(octets, names[an]) if an < len(names) else 0
+            reserved = runs.highest(octets, names[an]) if an < len(names) else 0
             report(self.accepted[an] <= reserved, f"{self.accepted[an]} was delivered, {reserved} is reserved")
             self.crashes.append((an, self.accepted[an], reserved, self.starts[an]))
 
-    def receive_all(self, out: pathlib.Path) -> Ended:
+    def receive_all(self, out: pathlib.Path) -> runs.Ended:
         """The receiver gets all frames."""
-        return run(self.options.program, self.words(out, len(self.captures)))
+        return runs.run(self.options.program, self.words(out, len(self.captures)))
 
     def end(self) -> None:
         """Ends both, and sees how many frames each crash of the receiver has cost."""
@@ -190,15 +178,15 @@ class Ahead(Runs):
             worst = max(worst, lost / starts / RESERVATION)
         report(worst <= 1, f"a crash of the receiver lost {worst:.2f} reservations of frames")
         lost = len(self.sent) - len(self.delivered)
-        crashes = len(self.crashes) // len(ANS)
+        crashes = len(self.crashes) // len(runs.ANS)
         report(lost <= len(self.crashes) * RESERVATION, f"{lost} frames were lost by {crashes} crashes")
         told = f"{lost} of {len(self.sent):,} frames lost, a crash lost at most {worst:.2f} reservations"
         print(f"kills, suite {self.suite}, ahead: {crashes} of a receiver, {told}")
 
 
-def kill_often(options: Options, kind: type[Saving] | type[Ahead], suite: int, rounds: int, batch: int) -> None:
+def kill_often(options: runs.Options, kind: type[Saving] | type[Ahead], suite: int, rounds: int, batch: int) -> None:
     """Rounds of one suite."""
-    with work_folder(options.folder) as folder:
+    with runs.work_folder(options.folder) as folder:
         kills = kind(options, folder, suite, f"{options.seed} {suite} {batch}")
         try:
             for number in range(rounds):
@@ -215,7 +203,7 @@ def kill_often(options: Options, kind: type[Saving] | type[Ahead], suite: int, r
         )
 
 
-def check_kills(options: Options) -> None:
+def check_kills(options: runs.Options) -> None:
     """SIGKILL at random moments."""
     if options.short:
         kill_often(options, Saving, 1, 50, 0)
