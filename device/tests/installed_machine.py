@@ -16,6 +16,7 @@ import time
 from house import ROOT
 from house.machine import Machine, words_of
 from house.reporting import Failed, call, until
+from macsecd_controls import replace_once
 
 SUITE = "bookworm"
 # libboost-regex is there since debootstrap does not know that it is a package of another name that gdb needs.
@@ -70,6 +71,10 @@ def accelerators() -> list[str]:
 SLOWER = 1 if "kvm" in accelerators() else 5
 
 
+# Units that are left out.
+UNITS = "apt-daily.timer apt-daily-upgrade.timer dpkg-db-backup.timer e2scrub_reap.service serial-getty@ttyS0.service"
+
+
 def write(root: pathlib.Path, path: str, text: str) -> None:
     """Writes a file below a root."""
     (root / path).parent.mkdir(parents=True, exist_ok=True)
@@ -93,13 +98,7 @@ def furnish(root: pathlib.Path) -> None:
     write(root, "etc/apt/sources.list", "")
     (root / "packages").mkdir()
     (root / "var/log/journal").mkdir(exist_ok=True)
-    for unit in (
-        "apt-daily.timer",
-        "apt-daily-upgrade.timer",
-        "dpkg-db-backup.timer",
-        "e2scrub_reap.service",
-        "serial-getty@ttyS0.service",
-    ):
+    for unit in UNITS.split():
         (root / "etc/systemd/system" / unit).symlink_to("/dev/null")
     call("chroot", str(root), "systemctl", "enable", "commands.service", "systemd-networkd.service")
 
@@ -146,10 +145,7 @@ def repack(package: pathlib.Path, to: pathlib.Path, version: str, edits: list[tu
     lines = [f"Version: {version}" if it.startswith("Version: ") else it for it in control.read_text().splitlines()]
     control.write_text("\n".join(lines) + "\n")
     for path, old, new in edits:
-        text = (tree / path).read_text()
-        if text.count(old) != 1:
-            raise Failed(f"{path} has {old!r} {text.count(old)} times")
-        (tree / path).write_text(text.replace(old, new))
+        replace_once(tree / path, old, new)
     name = package.name.split("_")[0]
     call("dpkg-deb", "--root-owner-group", "-b", str(tree), str(to / f"{name}_{version}_amd64.deb"))
     shutil.rmtree(tree)

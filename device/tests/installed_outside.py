@@ -5,19 +5,18 @@ from __future__ import annotations
 import contextlib
 import os
 import pathlib
+import secrets
+import signal
 import socket
-import struct
 import subprocess
-import threading
 import time
 
-from house.reporting import Failed, call, until
+from house.reporting import call, until
 from installed_machine import CARDS, SLOWER
-from macsecd_world import Namespace, checksum, connected, inside
+from macsecd_world import Background, Namespace, echo_request, inside, udp_socket
 
 MACSEC, EAPOL, IPV4, ARP = b"\x88\xe5", b"\x88\x8e", b"\x08\x00", b"\x08\x06"
 PEERS = {"a": ("link0", 2, 1), "b": ("link1", 4, 2)}  # the device, the end of its address, and that of its network
-PORT = 7000
 
 
 def is_protected(frame: bytes) -> bool:
@@ -30,8 +29,8 @@ def is_elsewhere(frame: bytes) -> bool:
     return (frame[12:14], frame[30:32]) == (IPV4, b"\x0a\x09") or (frame[12:14], frame[38:40]) == (ARP, b"\x0a\x09")
 
 
-class Watch:
-    """Looks at each frame that the machine sends on a device, in a thread: is it in clear, is its packet number new?"""
+class Watch(Background):
+    """Looks at each frame that the machine sends on a device: is it in clear, is its packet number new?"""
 
     def __init__(self, namespace: str, device: str) -> None:
         self.device, self.is_link = device, device.startswith("link")
@@ -42,21 +41,18 @@ class Watch:
         self.socket.settimeout(0.2)
         self.bad: list[bytes] = []
         self.numbers: set[bytes] = set()
-        self.frames, self.repeated, self.goes_on = 0, 0, True
-        self.thread = threading.Thread(target=self.run)
-        self.thread.start()
+        self.repeated = 0
+        super().__init__()
 
-    def run(self) -> None:
-        """Looks, until it is stopped."""
-        while self.goes_on:
-            with contextlib.suppress(socket.timeout, OSError):
-                frame, address = self.socket.recvfrom(2048)
-                if address[2] != socket.PACKET_OUTGOING:
-                    self.see(frame)
+    def step(self) -> None:
+        """Looks at the next frame."""
+        with contextlib.suppress(OSError):
+            frame, address = self.socket.recvfrom(2048)
+            if address[2] != socket.PACKET_OUTGOING:
+                self.see(frame)
 
     def see(self, frame: bytes) -> None:
         """Looks at a frame."""
-        self.frames += 1
         if not (is_protected(frame) if self.is_link else not is_elsewhere(frame)):
             self.bad.append(frame)
         elif frame[12:14] == EAPOL:
@@ -75,8 +71,7 @@ class Watch:
 
     def stop(self) -> None:
         """Stops it."""
-        self.goes_on = False
-        self.thread.join()
+        self.join()
         self.socket.close()
 
 
@@ -84,45 +79,21 @@ class Peer(Namespace):
     """A macsecd outside, at the other end of a link."""
 
     def __init__(self, outside: Outside, name: str) -> None:
-        super().__init__(outside.namespace, outside.folder / name)
+        super().__init__(outside.namespace, outside.folder / name, outside.programs / "macsecd")
         self.outside, self.name = outside, name
         self.link, self.octet, self.network = PEERS[name]
-        self.processes: list[subprocess.Popen[bytes]] = []
-
-    def spawn(self, *words: str) -> None:
-        """Starts a program, which writes into the log."""
-        with open(self.folder / "log", "ab") as log:
-            command = ["ip", "netns", "exec", self.namespace, *words]
-            self.processes.append(
-                subprocess.Popen(command, env=self.environment, stdin=subprocess.DEVNULL, stdout=log, stderr=log)
-            )
+        self.agreement: subprocess.Popen[bytes] | None = None
 
     def start(self, text: str) -> None:
         """Starts it with the configuration of the machine's instance, with both ends exchanged."""
-        tap, program = f"macsec-{self.name}", str(self.outside.programs / "macsecd")
-        device = f"device link {self.link}\ndevice tap {tap}\ndevice shared\ndevice transient\n"
-        config = self.folder / "conf/macsec0.conf"
-        config.write_text(device + text)
-        config.chmod(0o600)
-        if not (self.folder / "state/macsec0.journal").exists():
-            subprocess.run([program, "--create-journal", "macsec0"], env=self.environment, check=True)
-        self.spawn(program, "macsec0")
-        if not until(self.answers, 30):
-            raise Failed(f"the macsecd outside does not answer: {(self.folder / 'log').read_text()}")
+        tap = f"macsec-{self.name}"
+        self.launch(f"device link {self.link}\ndevice tap {tap}\ndevice shared\ndevice transient\n{text}")
         self.ip("addr", "add", f"10.9.{self.network}.2/24", "dev", tap)
         self.ip("link", "set", tap, "up")
 
-    def answers(self) -> bool:
-        """Does it answer?"""
-        with contextlib.suppress(OSError):
-            with connected(self.socket, 10) as it:
-                it.send(b"port")
-                return bool(it.recv(1000))
-        return False
-
     def agree(self, cak: str) -> None:
         """Starts it again, without keys, and a key agreement."""
-        self.stop()
+        self.stop(signal.SIGKILL)
         self.start("")
         config = self.folder / "wpa.conf"
         config.write_text(
@@ -131,46 +102,42 @@ class Peer(Namespace):
             " macsec_replay_protect=1\n macsec_replay_window=0\n}\n"
         )
         program = str(self.outside.programs / "wpa_supplicant-macsecd")
-        self.spawn(program, "-D", "macsec_macsecd", "-i", self.link, "-c", str(config))
+        self.agreement = self.spawn(program, "-D", "macsec_macsecd", "-i", self.link, "-c", str(config))
 
-    def stop(self) -> None:
-        """Ends it."""
-        for it in self.processes:
-            it.kill()
-            it.wait()
-        self.processes.clear()
+    def close(self) -> None:
+        """Ends both."""
+        self.stop(signal.SIGKILL)
+        if self.agreement is not None:
+            self.agreement.kill()
+            self.agreement.wait()
 
 
-class Pings:
-    """Echo requests to the machine every ten milliseconds, in a thread, and when they are answered."""
+class Pings(Background):
+    """Echo requests to the machine every ten milliseconds, and when they are answered."""
 
     def __init__(self, outside: Outside, name: str) -> None:
         self.target = f"10.9.{PEERS[name][2]}.1"
         with inside(outside.namespace):
             self.socket = socket.socket(socket.AF_INET, socket.SOCK_RAW, socket.IPPROTO_ICMP)
         self.socket.setblocking(False)
-        self.name, self.sent, self.answered, self.goes_on = os.urandom(2), 0, [time.monotonic()], True
-        self.thread = threading.Thread(target=self.run)
-        self.thread.start()
+        self.name, self.sent, self.answered = secrets.randbelow(65536), 0, [time.monotonic()]
+        super().__init__()
 
-    def run(self) -> None:
-        """Sends, and notes each reply."""
-        while self.goes_on:
-            head = b"\x08\0\0\0" + self.name + struct.pack("!H", self.sent % 65536)
-            with contextlib.suppress(OSError):
-                self.socket.sendto(head[:2] + struct.pack("!H", checksum(head)) + head[4:], (self.target, 0))
-                self.sent += 1
-            with contextlib.suppress(OSError):
-                while True:
-                    got = self.socket.recv(2048)[20:]
-                    if got[0] == 0 and got[4:6] == self.name:
-                        self.answered.append(time.monotonic())
-            time.sleep(0.01)
+    def step(self) -> None:
+        """Sends one, and notes each reply."""
+        with contextlib.suppress(OSError):
+            self.socket.sendto(echo_request(self.name, self.sent % 65536, b""), (self.target, 0))
+            self.sent += 1
+        with contextlib.suppress(OSError):
+            while True:
+                got = self.socket.recv(2048)[20:]
+                if got[0] == 0 and int.from_bytes(got[4:6], "big") == self.name:
+                    self.answered.append(time.monotonic())
+        time.sleep(0.01)
 
     def stop(self) -> float:
         """Stops it. Returns the longest time without a reply."""
-        self.goes_on = False
-        self.thread.join()
+        self.join()
         self.socket.close()
         times = [*self.answered, time.monotonic()]
         return max(after - before for before, after in zip(times, times[1:]))
@@ -226,16 +193,14 @@ class Outside:
 
     def datagrams(self, count: int) -> None:
         """Sends datagrams to the machine through MACsec."""
-        with inside(self.namespace):
-            it = socket.socket(socket.AF_INET, socket.SOCK_DGRAM)
-        with it:
+        with udp_socket(self.namespace) as it:
             for _ in range(count):
                 it.sendto(b"valid", ("10.9.1.1", 5000))
                 time.sleep(0.001)
 
     def __exit__(self, *_: object) -> None:
         for peer in self.peers.values():
-            peer.stop()
+            peer.close()
         for it in self.watches:
             it.stop()
         subprocess.run(["ip", "netns", "del", self.namespace], capture_output=True)

@@ -11,9 +11,10 @@ import time
 from typing import Callable
 
 from house import ROOT
-from house.reporting import Failed, report, until
+from house.reporting import Failed, report
 from isolated_frames import ALL_NODES, BROADCAST, advertisement, datagram, ethernet, ipv4, ipv6, request, reset
 from isolated_world import Host, Options, Pair, received
+from macsecd_controls import replace_once
 from macsecd_world import Packets, build, inside
 
 TAP = "10.9.0.1"
@@ -199,8 +200,8 @@ def below(options: Options) -> None:
         for host in (pair.a, pair.b):
             macvlan(host, "link0", "mv0")
         way = "device isolate alone\n" if options.alone else ""
-        pair.a.write(pair.keys, "device link mv0\n" + way)
-        pair.b.write(pair.keys, "device link mv0\n")
+        pair.a.configure(pair.keys, "device link mv0\n" + way)
+        pair.b.configure(pair.keys, "device link mv0\n")
         for host in (pair.a, pair.b):
             host.isolate()
         for host in (pair.a, pair.b):
@@ -213,9 +214,9 @@ def below(options: Options) -> None:
             wire.send(ethernet(to, b"\2\0\0\0\0\x99", 0x800, ipv4("10.9.0.2", TAP, 17, datagram(5000))))
         got = len(received(listener))
         report(got == 0, f"devices: {got} datagrams in clear arrived by the device below LINK")
-        pair.a.end()
+        pair.a.stop()
         if options.alone:
-            pair.a.write(pair.keys, "device link mv0\n")
+            pair.a.configure(pair.keys, "device link mv0\n")
             refused(pair.a, "the device below mv0 is not with it", "link0")
         ended = pair.a.link("release")
         both = {"link0", "mv0"} <= set(pair.a.devices())
@@ -234,13 +235,13 @@ def over(options: Options) -> None:
         a.ip("link", "set", "link0", "master", "br0")
         refused(a, "br0 is over link0", "link0", "br0")
         report("master br0" in a.devices()["link0"], "devices: LINK was taken out of its bridge")
-        a.write(pair.keys, "device link link0\ndevice isolate alone\n")
+        a.configure(pair.keys, "device link link0\ndevice isolate alone\n")
         refused(a, "link0 is a port", "link0")
-        a.write(pair.keys, "device link br0\n")
+        a.configure(pair.keys, "device link br0\n")
         refused(a, "link0 is a port", "link0", "br0")
         report("master br0" in a.devices()["link0"], "devices: a port was taken out of LINK, a bridge")
         a.ip("link", "set", "link0", "nomaster")
-        a.write(pair.keys)
+        a.configure(pair.keys)
         a.start()
         a.link_ip("link", "add", "link", "link0", "name", "up0", "netns", str(a.holder.pid), "type", "macvlan")
         refused(a, "up0 is over the link")
@@ -255,7 +256,7 @@ def fixed(options: Options) -> None:
         for link, stays in (("mv0", ["br0", "mv0"]), ("br0", ["br0"])):
             if link == "br0":
                 a.ip("link", "del", "mv0")
-            a.write(pair.keys, f"device link {link}\n")
+            a.configure(pair.keys, f"device link {link}\n")
             refused(a, "br0 can't be moved", *stays)
             report(set(a.devices(True)) <= {"lo"}, f"devices: {list(a.devices(True))} were moved without br0")
 
@@ -281,10 +282,7 @@ def build_taken(options: Options) -> pathlib.Path:
         ("macsecd.c", '    service_notify(&d->service, "READY=1");\n', "extern void taken(struct device *); taken(d);"),
         ("journal_writer.c", "    double began = now();\n", "extern void taken_files(void); taken_files();"),
     ):
-        text = (source / name).read_text()
-        if text.count(place) != 1:
-            raise Failed(f"{name} has {place!r} {text.count(place)} times")
-        (source / name).write_text(text.replace(place, f"    {call}\n{place}"))
+        replace_once(source / name, place, f"    {call}\n{place}")
     return build(source / "built", options.library, ["-Wno-error"], source)
 
 
@@ -304,7 +302,7 @@ def reaches(pair: Pair) -> None:
     report(len(got) == 300 and not there, f"taken: devices that are not LINK's namespace's: {there}, {len(got)} tries")
     stolen = sum(b"stolen" in it for it in sniffer.frames())
     report(stolen == 0, f"taken: {stolen} frames left by another device")
-    a.end()
+    a.stop()
 
 
 def opens(pair: Pair) -> None:
@@ -322,7 +320,7 @@ def opens(pair: Pair) -> None:
     done = [f"{call} {index}" for call, index, error in got if error != "13"]
     report(len(got) >= 8 and not done, f"taken: files of another instance: {done}, {len(got)} tries")
     report(journal.exists() and control.exists(), "taken: a file of another instance was removed")
-    a.end()
+    a.stop()
 
 
 def check_taken(options: Options) -> None:
@@ -330,14 +328,13 @@ def check_taken(options: Options) -> None:
     programs = build_taken(options)
     with options.pair() as pair:
         a = pair.a
-        a.shared, a.programs = options.shared, programs
+        a.shared, a.program = options.shared, programs / "macsecd"
         pair.write()
         a.isolate()
         reaches(pair)
         opens(pair)
         for call in FORBIDDEN:
-            a.spawn(TAKEN=call)
-            assert a.process is not None
-            ends = until(lambda: a.process is None or a.process.poll() is not None, 3)
-            status = a.end(signal.SIGKILL)
-            report(ends and status == -signal.SIGSYS, f"taken: {call}: status {status}, {tries(a.log())[-1:]}")
+            a.begin(TAKEN=call)
+            status = a.ended(3)
+            report(status == -signal.SIGSYS, f"taken: {call}: status {status}, {tries(a.log())[-1:]}")
+            a.stop(signal.SIGKILL)

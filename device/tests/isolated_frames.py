@@ -17,19 +17,8 @@ def ethernet(target: bytes, source: bytes, kind: int, payload: bytes) -> bytes:
 
 def ipv4(source: str, target: str, protocol: int, payload: bytes) -> bytes:
     """A packet of IPv4."""
-    head = struct.pack(
-        "!BBHHHBBH4s4s",
-        0x45,
-        0,
-        20 + len(payload),
-        1,
-        0,
-        64,
-        protocol,
-        0,
-        socket.inet_aton(source),
-        socket.inet_aton(target),
-    )
+    head = struct.pack("!BBHHHBBH", 0x45, 0, 20 + len(payload), 1, 0, 64, protocol, 0)
+    head += socket.inet_aton(source) + socket.inet_aton(target)
     return head[:10] + struct.pack("!H", checksum(head)) + head[12:] + payload
 
 
@@ -48,13 +37,8 @@ def datagram(port: int) -> bytes:
 
 def request(source: bytes, sender: str, target: str) -> bytes:
     """A request of ARP."""
-    return (
-        struct.pack("!HHBBH", 1, 0x800, 6, 4, 1)
-        + source
-        + socket.inet_aton(sender)
-        + bytes(6)
-        + socket.inet_aton(target)
-    )
+    own, other = source + socket.inet_aton(sender), bytes(6) + socket.inet_aton(target)
+    return struct.pack("!HHBBH", 1, 0x800, 6, 4, 1) + own + other
 
 
 def advertisement(source: bytes, prefix: str) -> bytes:

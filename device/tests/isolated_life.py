@@ -2,6 +2,7 @@
 
 from __future__ import annotations
 
+import re
 import signal
 import socket
 import subprocess
@@ -31,7 +32,7 @@ def kill(pair: Pair, kills: int, what: str) -> None:
     sniffer = Packets(pair.other.namespace, "other0")
     with sending(a) as senders:
         for _ in range(kills):
-            a.end(signal.SIGKILL)
+            a.stop(signal.SIGKILL)
             time.sleep(0.03)
             a.restart()
         sent = senders.stop()
@@ -97,7 +98,7 @@ def restart_without_name(pair: Pair, number: int, seconds: float) -> None:
     a = pair.a
     a.run("ip", "netns", "del", "macsec-macsec0")
     report(bool(a.ask("port")), f"names: {number}: macsecd does not run without the name")
-    a.end(signal.SIGKILL)
+    a.stop(signal.SIGKILL)
     back = threading.Thread(target=bring_back, args=(pair, seconds))
     back.start()
     ended = a.link("isolate")
@@ -114,7 +115,7 @@ def check_names(options: Options) -> None:
         a, b = pair.a, pair.b
         b.ip("link", "del", "link0")
         pair.join("link0", a, pair.other)
-        a.write(pair.keys)
+        a.configure(pair.keys)
         a.start()
         times = 10 if options.short else 100
         for number in range(times):
@@ -143,11 +144,8 @@ def check_link(pair: Pair) -> None:
     a.isolate()
     report("mtu 1368 " in a.devices()["macsec0"], "life: macsec-link did not set TAP's MTU")
     told = a.ask("link")
-    report(
-        told.startswith("link link0 up mtu 1400 address ")
-        and told.endswith(" namespace /run/netns/macsec-macsec0 tap macsec0\n"),
-        f"life: `link`: {told!r}",
-    )
+    form = "link link0 up mtu 1400 address .* namespace /run/netns/macsec-macsec0 tap macsec0\n"
+    report(re.fullmatch(form, told) is not None, f"life: `link`: {told!r}")
     report('"namespace":"/run/netns/macsec-macsec0"' in a.ask("json"), "life: json has no namespace")
     a.link_ip("link", "set", "link0", "mtu", "1500")
     a.isolate()
@@ -155,8 +153,7 @@ def check_link(pair: Pair) -> None:
 
 def ends(host: Host, what: str, text: str) -> None:
     """macsecd has to end with status 1 and say this."""
-    assert host.process is not None
-    status, host.process = host.ended(host.process, 5), None
+    status, host.process = host.ended(5), None
     last = host.log().splitlines()[-1]
     report(status == 1 and text in last, f"life: {what}: status {status}, {last!r}")
 
@@ -175,7 +172,7 @@ def check_ends(pair: Pair) -> None:
     a.ip("link", "set", "macsec0", "netns", str(pair.other.holder.pid))
     time.sleep(1.5)
     report(bool(a.ask("port")), "life: macsecd does not run with a TAP in a third namespace")
-    a.end()
+    a.stop()
     b.link_ip("link", "del", "link0")
     ends(b, "LINK is deleted", "LINK link0 was deleted or moved")
 
@@ -193,31 +190,27 @@ def check_release(pair: Pair) -> None:
     """The way back, also when the configuration says `device shared` by then."""
     a = pair.a
     report("link0" not in a.devices(), "life: LINK is in the host's namespace")
-    report(a.end() == 0, f"life: SIGTERM: {a.log()[-300:]}")
-    report(
-        "link0" in a.devices(True) and "10.9.0.1/24" in a.ip("-br", "addr", "show", "macsec0"),
-        "life: LINK or TAP's address went with macsecd",
-    )
+    report(a.stop() == 0, f"life: SIGTERM: {a.log()[-300:]}")
+    stay = "link0" in a.devices(True) and "10.9.0.1/24" in a.ip("-br", "addr", "show", "macsec0")
+    report(stay, "life: LINK or TAP's address went with macsecd")
     a.shared = True
-    a.write(pair.keys)
+    a.configure(pair.keys)
     ended = a.link("isolate")
     report(ended.returncode == 1 and "macsec-link release" in ended.stderr, f"life: LINK is isolated: {ended.stderr!r}")
     ended = a.link("release")
     there = a.devices()
-    report(
-        ended.returncode == 0 and "link0" in there and "UP" not in there["link0"].split(">")[0],
-        f"life: release: {ended.stderr!r}, {list(there)}",
-    )
+    is_back = "link0" in there and "UP" not in there["link0"].split(">")[0]
+    report(ended.returncode == 0 and is_back, f"life: release: {ended.stderr!r}, {list(there)}")
     report(a.run("ls", "/run/netns") == "", "life: release has left a namespace")
     a.ip("link", "set", "link0", "up")
     a.ip("link", "del", "macsec0")
     a.start()
     report("`device shared`: LINK link0 is in the host's" in a.log(), "life: no message about `device shared`")
     pair.passes("with `device shared`")
-    a.end()
+    a.stop()
     report("macsec0" in a.devices(), "life: TAP ended with `device shared`")
     a.shared = False
-    a.write(pair.keys)
+    a.configure(pair.keys)
     a.start()
     pair.passes("isolated again")
 
@@ -244,7 +237,7 @@ def check_bridge(pair: Pair) -> None:
     a.ip("addr", "add", "10.9.0.1/24", "dev", "br0")
     a.ip("link", "set", "br0", "up")
     pair.passes("by a bridge")
-    a.end(signal.SIGKILL)
+    a.stop(signal.SIGKILL)
     report("master br0" in a.devices()["macsec0"], "clients: TAP has left its bridge")
     a.restart()
     pair.passes("by a bridge after a kill")
@@ -259,11 +252,9 @@ def check_clients(options: Options) -> None:
         address = b.address("macsec0")
         for _ in range(3):
             b_tap.send(ethernet(ALL_NODES, address, 0x86DD, advertisement(address, "2001:db8:900d::")))
-        report(
-            until(lambda: "2001:db8:900d" in a.ip("-6", "addr", "show", "macsec0"), 5),
-            "clients: no address by a router's advertisement through MACsec",
-        )
-        a.end()
+        has_address = until(lambda: "2001:db8:900d" in a.ip("-6", "addr", "show", "macsec0"), 5)
+        report(has_address, "clients: no address by a router's advertisement through MACsec")
+        a.stop()
         manager.bind(str(pair.folder / "notify"))
         manager.settimeout(20)
         a.start(NOTIFY_SOCKET=str(pair.folder / "notify"))

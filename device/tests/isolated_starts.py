@@ -11,7 +11,7 @@ from house.reporting import Failed, report, until
 from isolated_attacks import macvlan
 from isolated_world import Host, Options
 from macsecd_controls import altered
-from macsecd_world import build
+from macsecd_world import as_nobody, build, expect, expect_end
 
 SYS_ADMIN = 1 << 21
 TWO, THREE = "+net_admin,+net_raw", "+net_admin,+net_raw,+sys_admin"
@@ -20,35 +20,9 @@ TUN = "exec 3<> /dev/net/tun && export LISTEN_FDS=1 LISTEN_PID=$$ && exec ip net
 PASS = ["sh", "-c", f'{TUN} "$@"', "sh"]
 
 
-def as_nobody(rights: str) -> list[str]:
-    """A command that runs the one after it as another user, with some rights."""
-    return [
-        "setpriv",
-        "--reuid=65534",
-        "--regid=65534",
-        "--clear-groups",
-        f"--inh-caps=-all,{rights}",
-        f"--ambient-caps=-all,{rights}",
-        f"--bounding-set=-all,{rights}",
-    ]
-
-
-def expect(host: Host, what: str, status: int, text: str, before: list[str] | None = None) -> None:
-    """macsecd has to end with this status and say this."""
-    try:
-        ended = host.attempt(*(before or []), str(host.programs / "macsecd"), "macsec0", seconds=5)
-    except subprocess.TimeoutExpired:
-        report(False, f"starts: {what}: macsecd runs")
-        return
-    holds = ended.returncode == status and text in ended.stderr
-    report(holds, f"starts: {what}: {ended.returncode}, {ended.stderr.strip()!r}, and not {status}, {text!r}")
-
-
 def link_expect(host: Host, what: str, status: int, text: str, command: str = "isolate") -> None:
     """macsec-link has to end with this status and say this."""
-    ended = host.link(command)
-    holds = ended.returncode == status and text in ended.stderr
-    report(holds, f"starts: {what}: {ended.returncode}, {ended.stderr.strip()!r}, and not {status}, {text!r}")
+    expect_end(host.link(command), what, status, text)
 
 
 def check_lines(a: Host, keys: list[str]) -> None:
@@ -62,19 +36,15 @@ def check_lines(a: Host, keys: list[str]) -> None:
         ("device link link0\ndevice tap link0\n", "LINK and TAP have one name"),
         ("device link link0\ndevice isolate both\n", "line 2: "),
     ):
-        a.write(keys, lines)
+        a.configure(keys, lines)
         expect(a, lines, 2, text)
         link_expect(a, lines, 2, text)
-    for lines, way in (
-        ("", "isolated"),
-        ("device isolate\n", "isolated"),
-        ("device isolate alone\n", "alone"),
-        ("device shared\n", "shared"),
-    ):
-        a.write(keys, "device link link0\n" + lines)
-        told = a.run(str(a.programs / "macsecd"), "--settings", "macsec0")
+    ways = {"": "isolated", "device isolate\n": "isolated", "device isolate alone\n": "alone"}
+    for lines, way in {**ways, "device shared\n": "shared"}.items():
+        a.configure(keys, "device link link0\n" + lines)
+        told = a.run(str(a.program), "--settings", "macsec0")
         report(told == f"link0 macsec0 1514 {way} 0\n", f"starts: --settings with {lines!r}: {told!r}")
-    a.write(keys)
+    a.configure(keys)
 
 
 def check_namespace(a: Host) -> None:
@@ -116,9 +86,8 @@ def check_at_once(a: Host) -> None:
 
 def check_inside(a: Host) -> None:
     """Starts inside LINK's namespace, without rights, and without TAP."""
-    expect(
-        a, "inside LINK's namespace", 2, "start macsecd in that of the host", ["ip", "netns", "exec", "macsec-macsec0"]
-    )
+    there = ["ip", "netns", "exec", "macsec-macsec0"]
+    expect(a, "inside LINK's namespace", 2, "start macsecd in that of the host", there)
     a.belongs_to_nobody()
     expect(a, "without CAP_SYS_ADMIN", 1, "can't be entered", as_nobody(TWO))
     a.ip("link", "del", "macsec0")
@@ -135,7 +104,7 @@ def check_starts(options: Options) -> None:
     """What a start needs."""
     with options.pair() as pair:
         a = pair.a
-        a.write(pair.keys)
+        a.configure(pair.keys)
         check_lines(a, pair.keys)
         check_mask(a)
         check_namespace(a)
@@ -144,7 +113,7 @@ def check_starts(options: Options) -> None:
         a.start()
         link_expect(a, "release while macsecd runs", 1, "macsecd runs", "release")
         expect(a, "a second macsecd", 1, "lock")
-        a.end()
+        a.stop()
         ended = a.attempt(str(a.macsec_link), "isolate")
         report(ended.returncode == 2 and "usage" in ended.stderr, f"starts: macsec-link without a name: {ended}")
 
@@ -162,8 +131,7 @@ def stopping(options: Options) -> pathlib.Path:
 
 def status_of(host: Host) -> dict[str, str]:
     """What the system says of macsecd."""
-    assert host.process is not None
-    lines = pathlib.Path(f"/proc/{host.process.pid}/status").read_text().splitlines()
+    lines = pathlib.Path(f"/proc/{host.pid}/status").read_text().splitlines()
     return dict(line.split(":\t", 1) for line in lines if ":\t" in line)
 
 
@@ -172,21 +140,19 @@ def check_way(host: Host, what: str, command: list[str]) -> None:
     with contextlib.suppress(OSError):
         (host.folder / "run/macsec0.sock").unlink()
     host.isolate()
-    host.spawn(command)
+    host.begin(command)
     assert host.process is not None
-    if not until(
-        lambda: host.process is not None and host.process.poll() is None and status_of(host)["State"].startswith("T"),
-        10,
-    ):
+    process = host.process
+    if not until(lambda: process.poll() is None and status_of(host)["State"].startswith("T"), 10):
         raise Failed(f"{what}: macsecd does not stop at the journal: {host.log()[-400:]}")
     for name in ("CapInh", "CapPrm", "CapEff", "CapAmb"):
         held = int(status_of(host)[name], 16)
         report(held & SYS_ADMIN == 0, f"rights: {what}: {name} is {held:x} at the journal")
-    host.process.send_signal(signal.SIGCONT)
+    host.send_signal(signal.SIGCONT)
     report(until(host.answers), f"rights: {what}: macsecd does not answer")
     for name in ("CapInh", "CapPrm", "CapEff", "CapAmb"):
         report(int(status_of(host)[name], 16) == 0, f"rights: {what}: {name} is {status_of(host)[name]} at the end")
-    report(host.end() == 0, f"rights: {what}: macsecd does not end well: {host.log()[-400:]}")
+    report(host.stop() == 0, f"rights: {what}: macsecd does not end well: {host.log()[-400:]}")
 
 
 def check_rights(options: Options) -> None:
@@ -195,9 +161,9 @@ def check_rights(options: Options) -> None:
     for shared in (False, True):
         with options.pair() as pair:
             a = pair.a
-            a.shared, a.programs = shared, programs
-            a.write(pair.keys)
-            program = [str(programs / "macsecd"), "macsec0"]
+            a.shared, a.program = shared, programs / "macsecd"
+            a.configure(pair.keys)
+            program = [str(a.program), "macsec0"]
             name = "shared" if shared else "isolated"
             check_way(a, f"{name}, by root", program)
             a.belongs_to_nobody()
@@ -253,7 +219,7 @@ def check_faults(options: Options) -> None:
     with options.pair() as pair:
         a = pair.a
         macvlan(a, "link0", "mv0")
-        a.write(pair.keys, "device link mv0\n")
+        a.configure(pair.keys, "device link mv0\n")
         wrapper = a.folder / "bin/ip"
         wrapper.parent.mkdir()
         wrapper.write_text(WRAPPER.format(folder=a.folder, ip=a.run("which", "ip").strip()))

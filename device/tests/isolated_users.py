@@ -12,8 +12,9 @@ import time
 
 from house.reporting import Failed, report
 from isolated_frames import BROADCAST, datagram, ethernet, ipv4
-from isolated_starts import THREE, as_nobody, expect, link_expect
+from isolated_starts import THREE, link_expect
 from isolated_world import NOBODY, Host, Options, Pair, received
+from macsecd_world import as_nobody, expect
 
 PROGRAM = (pathlib.Path(__file__).parent / "isolated_user.py").read_text()
 OWN, PEER, PORT, COUNT = "10.9.0.1", "10.9.0.2", 5005, 50
@@ -98,7 +99,7 @@ def start(pair: Pair, what: str) -> bool:
         set_up(pair)
         pair.passes(what)
     except Failed as why:
-        pair.a.end(signal.SIGKILL)
+        pair.a.stop(signal.SIGKILL)
         report(False, f"users: {what}: macsecd does not start: {why}")
         return False
     return True
@@ -121,7 +122,7 @@ def life(pair: Pair) -> None:
     report(owner(pair.a) == "0 -1", f"users: TAP has the owner and group {owner(pair.a)}")
     moment(pair, "while macsecd runs")
     for what, number in (("after SIGTERM", signal.SIGTERM), ("after SIGKILL", signal.SIGKILL)):
-        pair.a.end(number)
+        pair.a.stop(number)
         moment(pair, what)
         start(pair, f"{what}, at the next start")
 
@@ -131,13 +132,13 @@ def races(pair: Pair, count: int) -> str:
     a = pair.a
     user, failed = User(a, "release"), 0
     for number in range(2 * count):
-        a.end(signal.SIGTERM if number % 4 < 2 else signal.SIGKILL)
+        a.stop(signal.SIGTERM if number % 4 < 2 else signal.SIGKILL)
         if number % 2:
             a.ip("link", "del", "macsec0")
         try:
             a.restart()
         except Failed:
-            a.end(signal.SIGKILL)
+            a.stop(signal.SIGKILL)
             failed += 1
     got = user.end()
     told = f"{got['attached']} times attached in {got['tries']} tries at {2 * count} starts, {failed} of which failed"
@@ -148,7 +149,7 @@ def races(pair: Pair, count: int) -> str:
 def upgrade(pair: Pair, steps: str | None) -> None:
     """TAP is one of an earlier version, without an owner, which the user may have."""
     a, what = pair.a, f"after an upgrade ({'TAP is free' if steps is None else steps or 'the user has TAP'})"
-    a.end()
+    a.stop()
     if "macsec0" in a.devices():
         a.ip("link", "del", "macsec0")
     a.ip(*MAKE)
@@ -164,7 +165,7 @@ def upgrade(pair: Pair, steps: str | None) -> None:
         report(f"TAP macsec0 is in use{named}\n" in ended.stderr, f"users: {what}: {ended.stderr!r}")
     if start(pair, what):
         report(owner(a) in ("0 -1", "0 0"), f"users: {what}: TAP has the owner and group {owner(a)}")
-        a.end()
+        a.stop()
         moment(pair, what, user)
     elif user is not None:
         user.end()
@@ -191,15 +192,15 @@ def check_kinds(pair: Pair) -> None:
 def check_owner(pair: Pair) -> None:
     """Another owner, and a process of root that has TAP."""
     a = pair.a
-    a.write(pair.keys, "device link link0\ndevice user nobody\n")
+    a.configure(pair.keys, "device link link0\ndevice user nobody\n")
     start(pair, "with `device user nobody`")
     report(owner(a) == f"{NOBODY} -1", f"users: `device user nobody`: TAP has the owner and group {owner(a)}")
-    a.end()
+    a.stop()
     report(User(a, "leave").end()["attached"] == 1, "users: the owner can't attach")
-    a.write(pair.keys)
+    a.configure(pair.keys)
     start(pair, "with root as the owner again")
     report(owner(a) == "0 -1", f"users: root as the owner again: TAP has the owner and group {owner(a)}")
-    a.end()
+    a.stop()
     root = User(a, "", 0)
     text = f"TAP macsec0 is in use by process {root.process.pid} (intruder?[31m) of user 0\n"
     link_expect(a, "a process of root has TAP", 1, text)

@@ -20,32 +20,23 @@ import time
 from collections.abc import Iterator, Sequence
 
 from house.reporting import Failed, call, until
-from macsecd_world import SALT, Packets, connected, hold, inside, let_go
+from macsecd_world import Namespace, Packets, hold, inside, let_go, lines_of_end, udp_socket
 
 NOBODY = 65534
 # A new node, since not every system lets all users open /dev/net/tun.
-NODE = [
-    "unshare",
-    "-m",
-    "sh",
-    "-c",
-    'mount -t tmpfs none /dev/net && mknod -m 666 /dev/net/tun c 10 200 && exec "$@"',
-    "sh",
-]
+MAKE = 'mount -t tmpfs none /dev/net && mknod -m 666 /dev/net/tun c 10 200 && exec "$@"'
+NODE = ["unshare", "-m", "sh", "-c", MAKE, "sh"]
 
 
-class Host:
+class Host(Namespace):
     """A simulated host, with separate mount and network namespaces."""
 
     def __init__(self, folder: pathlib.Path, number: int, programs: pathlib.Path, source: pathlib.Path) -> None:
-        self.number, self.folder, self.programs = number, folder / f"host{number}", programs
-        self.macsec_link = source / "macsec-link"
         self.holder = hold(*NODE, "unshare", "-n")
-        self.namespace = f"/proc/{self.holder.pid}/ns/net"
-        self.process: subprocess.Popen[bytes] | None = None
+        super().__init__(f"/proc/{self.holder.pid}/ns/net", folder / f"host{number}", programs / "macsecd")
+        self.number = number
+        self.macsec_link = source / "macsec-link"
         self.shared, self.credentials = False, self.folder / "credentials"
-        for each in ("conf", "state", "run"):
-            (self.folder / each).mkdir(parents=True)
         control = self.folder / "macsecctl"
         control.write_text(f'#!/bin/sh\nexec {programs}/macsecctl -s {self.folder}/run/$1.sock "$@"\n')
         control.chmod(0o755)
@@ -56,16 +47,10 @@ class Host:
     @property
     def environment(self) -> dict[str, str]:
         """Where the programs find their files."""
-        folders = {"CONFIGURATION_DIRECTORY": "conf", "STATE_DIRECTORY": "state", "RUNTIME_DIRECTORY": "run"}
-        more = {name: str(self.folder / each) for name, each in folders.items()}
-        more.update(
-            MACSECD=str(self.programs / "macsecd"),
-            MACSECCTL=str(self.folder / "macsecctl"),
-            ASAN_OPTIONS="detect_leaks=0",
-        )
+        more = {"MACSECD": str(self.program), "MACSECCTL": str(self.folder / "macsecctl")}
         if self.credentials.exists():
             more["CREDENTIALS_DIRECTORY"] = str(self.credentials)
-        return {**os.environ, **more}
+        return {**super().environment, **more}
 
     @property
     def enter(self) -> list[str]:
@@ -76,17 +61,6 @@ class Host:
     def link_namespace(self) -> str:
         """The namespace of LINK."""
         return self.namespace if self.shared else f"/proc/{self.holder.pid}/root/run/netns/macsec-macsec0"
-
-    def attempt(self, *words: str, seconds: float = 60, **more: str) -> subprocess.CompletedProcess[str]:
-        """Runs a command, which may fail, with more environment variables."""
-        return subprocess.run(
-            [*self.enter, *words],
-            stdin=subprocess.DEVNULL,
-            capture_output=True,
-            text=True,
-            timeout=seconds,
-            env={**self.environment, **more},
-        )
 
     def run(self, *words: str) -> str:
         """Runs a command, which has to succeed. Returns what it prints."""
@@ -125,31 +99,11 @@ class Host:
 
     # ---- macsecd
 
-    @property
-    def config(self) -> pathlib.Path:
-        """The path of its configuration."""
-        return self.folder / "conf/macsec0.conf"
-
-    def write(self, keys: Sequence[str], device: str = "device link link0\n") -> None:
+    def configure(self, keys: Sequence[str], device: str = "device link link0\n") -> None:
         """Writes a configuration, and creates the journal if there is none."""
-        own, peer = self.number, 3 - self.number
-        self.config.write_text(
-            device
-            + ("device shared\n" if self.shared else "")
-            + f"""
-end A gcm128 02000000000{own}0001 1514 sci
-A key 0 {keys[own - 1]} 0 0000000{own} {SALT}
-A key 1 {keys[peer - 1]} 0 0000000{own} {SALT}
-A txsa 0 0 1 conf
-A txon 0
-A rxsc 02000000000{peer}0001
-A rxsa 02000000000{peer}0001 0 1 1 0000000{peer}
-A rxon 02000000000{peer}0001 0
-"""
-        )
-        self.config.chmod(0o600)
-        if not (self.folder / "state/macsec0.journal").exists():
-            self.run(str(self.programs / "macsecd"), "--create-journal", "macsec0")
+        self.write(device + ("device shared\n" if self.shared else "") + lines_of_end(self.number, keys))
+        if not self.journal.exists():
+            self.create_journal()
 
     def isolate(self) -> None:
         """Runs `macsec-link isolate`, which has to succeed."""
@@ -159,71 +113,20 @@ A rxon 02000000000{peer}0001 0
 
     def start(self, command: list[str] | None = None, **more: str) -> None:
         """Starts macsecd, by another command if there is one, and gives TAP addresses."""
-        self.isolate()
-        self.spawn(command, **more)
-        if not until(self.answers, 20):
-            raise Failed(f"macsecd does not answer: {self.log()}")
+        self.restart(command, **more)
         self.ip("addr", "replace", f"10.9.0.{self.number}/24", "dev", "macsec0")
         self.ip("addr", "replace", f"fd09::{self.number}/64", "dev", "macsec0", "nodad")
         self.ip("link", "set", "macsec0", "up")
 
-    def spawn(self, command: list[str] | None = None, **more: str) -> None:
+    def begin(self, command: list[str] | None = None, **more: str) -> None:
         """Starts macsecd, and does not wait."""
-        with open(self.folder / "log", "ab") as log:
-            words = [*self.enter, *(command or [str(self.programs / "macsecd"), "macsec0"])]
-            self.process = subprocess.Popen(
-                words, stdin=subprocess.DEVNULL, stdout=log, stderr=log, env={**self.environment, **more}
-            )
+        self.process = self.spawn(*(command or [str(self.program), "macsec0"]), **more)
 
-    def restart(self) -> None:
+    def restart(self, command: list[str] | None = None, **more: str) -> None:
         """Starts macsecd again. TAP has its addresses."""
         self.isolate()
-        self.spawn()
-        if not until(self.answers, 20):
-            raise Failed(f"macsecd does not answer: {self.log()}")
-
-    def log(self) -> str:
-        """What it said."""
-        return (self.folder / "log").read_text(errors="replace")
-
-    def ask(self, request: str) -> str:
-        """Makes a request."""
-        with connected(str(self.folder / "run/macsec0.sock"), 10) as it:
-            it.send(request.encode())
-            return it.recv(1 << 20).decode()
-
-    def answers(self) -> bool:
-        """Does macsecd answer? It is an error if it has ended."""
-        assert self.process is not None
-        if self.process.poll() is not None:
-            raise Failed(f"macsecd ended with {self.process.poll()}: {self.log()[-600:]}")
-        with contextlib.suppress(OSError):
-            return bool(self.ask("port"))
-        return False
-
-    def counters(self) -> dict[str, int]:
-        """The answer to `counters`."""
-        lines = (line.rsplit(" ", 1) for line in self.ask("counters").splitlines())
-        return {name: int(value) for name, value in lines}
-
-    def end(self, number: int = signal.SIGTERM) -> int | None:
-        """Ends macsecd by a signal. Returns its status."""
-        it, self.process = self.process, None
-        if it is None:
-            return None
-        if it.poll() is None:
-            it.send_signal(number)
-        return self.ended(it)
-
-    @staticmethod
-    def ended(it: subprocess.Popen[bytes], seconds: float = 15) -> int | None:
-        """The status of a process, or None, after which it is killed, if it does not end."""
-        try:
-            return it.wait(seconds)
-        except subprocess.TimeoutExpired:
-            it.kill()
-            it.wait()
-            return None
+        self.begin(command, **more)
+        self.wait_for_answer()
 
     def belongs_to_nobody(self) -> None:
         """Gives the user nobody the files that macsecd writes, and the configuration as a service manager does."""
@@ -235,19 +138,14 @@ A rxon 02000000000{peer}0001 0
 
     def close(self) -> None:
         """Ends everything of the host."""
-        self.end(signal.SIGKILL)
+        self.stop(signal.SIGKILL)
         let_go(self.holder)
 
     # ---- Sockets
 
     def udp(self, port: int = 0, address: str = "0.0.0.0") -> socket.socket:
         """A socket for datagrams, of IPv6 if the address is."""
-        family = socket.AF_INET6 if ":" in address else socket.AF_INET
-        with inside(self.namespace):
-            it = socket.socket(family, socket.SOCK_DGRAM)
-        it.setsockopt(socket.SOL_SOCKET, 33, 64 << 20)  # SO_RCVBUFFORCE
-        it.bind((address, port))
-        return it
+        return udp_socket(self.namespace, port, address)
 
     def address(self, device: str, namespace: str | None = None) -> bytes:
         """The address of a device, in the host's namespace if no other is named."""
@@ -267,12 +165,9 @@ def received(it: socket.socket, seconds: float = 0.3) -> list[bytes]:
 
 
 OPEN = [
-    "ipv4/conf/all/rp_filter=0",
-    "ipv4/conf/default/rp_filter=0",
-    "ipv6/conf/all/disable_ipv6=0",
-    "ipv6/conf/default/disable_ipv6=0",
-    "ipv6/conf/all/accept_dad=0",
-    "ipv6/conf/default/accept_dad=0",
+    f"{name.format(it)}=0"
+    for name in ("ipv4/conf/{}/rp_filter", "ipv6/conf/{}/disable_ipv6", "ipv6/conf/{}/accept_dad")
+    for it in ("all", "default")
 ]
 
 
@@ -313,7 +208,7 @@ class Pair:
     def write(self) -> None:
         """Writes the configurations of both ends."""
         for end in (self.a, self.b):
-            end.write(self.keys)
+            end.configure(self.keys)
 
     def start(self) -> None:
         """Starts both ends, and waits until datagrams pass."""
@@ -331,7 +226,6 @@ class Pair:
         with contextlib.suppress(OSError):
             for _ in range(50):
                 tap.send(b"\xff" * 12 + b"\x88\xb5" + bytes(50))
-        tap.close()
         return self.echo() > 0
 
     def passes(self, when: str) -> None:
@@ -409,10 +303,6 @@ class Options:
     shared: bool = False  # `device shared` at host a
     alone: bool = False  # `device isolate alone`
     blackhole: bool = True  # are there blackhole routes?
-
-    def copy(self) -> Options:
-        """The same, to be changed."""
-        return dataclasses.replace(self)
 
     def pair(self) -> Pair:
         """Two new hosts with a link."""

@@ -6,13 +6,11 @@ import contextlib
 import json
 import pathlib
 import secrets
-import socket
-import subprocess
 
 from house import ROOT
 from house.compiling import WARNINGS
 from house.reporting import report, until
-from macsecd_world import SALT, End, Packets, World, connected, ping, protected
+from macsecd_world import SALT, Client, End, Packets, World, attempt, ping, protected
 
 # A line that weakens the protection, and what the configuration has to allow for it.
 WEAKER = [
@@ -27,17 +25,10 @@ WEAKER = [
 ]
 
 
-def asking(client: socket.socket, request: str) -> str:
-    """Makes a request over a connection."""
-    client.send(request.encode())
-    return client.recv(1 << 20).decode()
-
-
 def configure(end: End, *lines: str) -> None:
     """Writes a configuration without an endpoint."""
     shared = [] if end.isolated else ["device shared", "device transient"]
-    end.config.write_text("\n".join(["device link link0", *lines, *shared, ""]))
-    end.config.chmod(0o600)
+    end.write("\n".join(["device link link0", *lines, *shared, ""]))
 
 
 def check_without(end: End) -> None:
@@ -63,7 +54,7 @@ def check_without(end: End) -> None:
 
 def lines_of(end: End, keys: list[str]) -> list[str]:
     """The lines of a key agreement: the peer's channel, and one key for each direction."""
-    peer = end.world.ends[2 - end.number]
+    peer = end.peer
     own, other = keys[end.number - 1], keys[peer.number - 1]
     return [
         "A protect on",
@@ -79,18 +70,18 @@ def lines_of(end: End, keys: list[str]) -> list[str]:
     ]
 
 
-def agree(end: End, client: socket.socket, suite: str, keys: list[str]) -> list[str]:
+def agree(end: End, client: Client, suite: str, keys: list[str]) -> list[str]:
     """Makes an endpoint. Returns the answers."""
-    return [asking(client, line) for line in [f"open {end.sci} {suite}", *lines_of(end, keys), "port on"]]
+    return [client.ask(line) for line in [f"open {end.sci} {suite}", *lines_of(end, keys), "port on"]]
 
 
 def check_open(world: World) -> None:
     """Endpoints of two key agreements, one after the other."""
     a, b = world.ends
-    owners = [connected(end.socket, 5) for end in world.ends]
+    owners = [Client(end) for end in world.ends]
     link = Packets(b.link_namespace, "link0")
     for owner in owners:
-        report(asking(owner, "own") == "ok\n", "`own` without an endpoint")
+        report(owner.ask("own") == "ok\n", "`own` without an endpoint")
     for suite, octets in (("gcm128", 16), ("gcm256", 32)):
         keys = [secrets.token_hex(octets), secrets.token_hex(octets)]
         for end, owner in zip(world.ends, owners):
@@ -107,7 +98,7 @@ def check_open(world: World) -> None:
             (f"open {a.sci} gcm128 sci 1", "fault Count"),
             (f"open {a.sci} gcm128\nA", "fault Word"),
         ):
-            got = asking(owners[0], wrong)
+            got = owners[0].ask(wrong)
             report(got == answer + "\n", f"{wrong!r} is answered {got!r}, and not {answer!r}")
         report(len(a.ask("numbers")) == len(before) and a.ask("port") == "port on\n", "a wrong `open` has changed it")
         again = agree(a, owners[0], suite, keys)
@@ -115,13 +106,12 @@ def check_open(world: World) -> None:
         report(ping(a) == 3, f"{suite}: no replies with the same keys in another endpoint")
         numbers = [int.from_bytes(it[16:20], "big") for it in protected(link.frames(), a.sci)]
         report(numbers == sorted(set(numbers)) and len(numbers) > 6, f"{suite}: packet numbers {numbers}")
-    report(asking(owners[0], "open 0200000000010001 gcm128") == "ok\n" and a.ask("numbers") == "none\n", "`open` again")
+    report(owners[0].ask("open 0200000000010001 gcm128") == "ok\n" and a.ask("numbers") == "none\n", "`open` again")
     report(a.ask("port") == "port off\n" and ping(a, 2, seconds=0.1) == 0, "`open` leaves the port on")
-    report(asking(owners[0], "close") == "ok\n", "`close`")
+    report(owners[0].ask("close") == "ok\n", "`close`")
     check_without_owned(a, b)
     for owner in owners:
         owner.close()
-    link.close()
 
 
 def check_without_owned(end: End, peer: End) -> None:
@@ -196,7 +186,7 @@ def check_new_command(folder: pathlib.Path) -> None:
     words = ["gcc", *WARNINGS, "-fsyntax-only", f"-I{folder}", ROOT / "device/limits.c"]
     for text, refuses in ((header, False), (header.replace(last, "    MACSEC_COMMAND_OTHER = 18,\n" + last), True)):
         (folder / "macsec.h").write_text(text)
-        told = subprocess.run(words, capture_output=True, text=True)
+        told = attempt(words)
         report(("MACSEC_COMMAND_OTHER" in told.stderr) == refuses == bool(told.returncode), f"limits.c: {told.stderr}")
 
 
@@ -213,7 +203,7 @@ def check_agreement(world: World) -> None:
     for end in world.ends:
         report(end.stop() == 0, f"macsecd without an endpoint ends with another status: {end.log()[-300:]}")
     configure(world.ends[0], "device allow nothing")
-    told = world.ends[0].run("macsec0")
+    told = world.ends[0].run_program("macsec0")
     report(told.returncode == 2 and "line 2: after `device allow`" in told.stderr, f"`device allow nothing`: {told}")
     check_new_command(world.folder)
     check_limits(world)

@@ -11,10 +11,9 @@ import signal
 import socket
 import time
 
-from house.reporting import call, report, until
-from macsecd_handover import Client
+from house.reporting import report, until
 from macsecd_losses import count_all, settled
-from macsecd_world import End, Packets, Stream, World, hand_over_lines, inside, late_frames, numbers_of, ping, protected
+from macsecd_world import Client, End, Packets, Stream, World, hand_over_lines, numbers_of, ping, protected, udp_socket
 
 # A reservation has the packet numbers of so many seconds of a channel's frames, and at least so many.
 LASTS, LEAST = 2, 16
@@ -26,11 +25,6 @@ TICK = 1.2
 FEW = 5
 
 
-def journal_of(end: End) -> pathlib.Path:
-    """Its journal."""
-    return end.folder / "state/macsec0.journal"
-
-
 def rx_next(end: End, peer: End) -> int:
     """The next packet number of the association that receives."""
     return int(end.ask(f"numbers rx {peer.sci} 0").split()[4], 16)
@@ -38,7 +32,7 @@ def rx_next(end: End, peer: End) -> int:
 
 def give_again(end: End, frames: list[bytes]) -> dict[str, int]:
     """Brings frames to LINK of this end once more. Returns by how much its counters have grown."""
-    injector = Packets(end.world.ends[2 - end.number].link_namespace, "link0")
+    injector = Packets(end.peer.link_namespace, "link0")
     before = end.counters()
     for at, frame in enumerate(frames):
         injector.send(frame)
@@ -46,7 +40,6 @@ def give_again(end: End, frames: list[bytes]) -> dict[str, int]:
             until(lambda at=at: end.counters()["device LinkIn"] > before["device LinkIn"] + at)
     arrived = until(lambda: end.counters()["device LinkIn"] >= before["device LinkIn"] + len(frames))
     report(arrived, f"{len(frames)} frames given again did not arrive")
-    injector.close()
     after = end.counters()
     return {name: value - before.get(name, 0) for name, value in after.items()}
 
@@ -57,27 +50,23 @@ def give_again(end: End, frames: list[bytes]) -> dict[str, int]:
 def check_recorded(world: World, replay: bool, times: int) -> None:
     """A recorded frame of an earlier run, again and again: it is not delivered, and reserves nothing."""
     a, b = world.ends
-    world.prepare(more=f"A replay {'on' if replay else 'off'} 0\n")
-    for end in (a, b):
-        end.start()
+    world.start(more=f"A replay {'on' if replay else 'off'} 0\n")
     link = Packets(b.link_namespace, "link0")
     ping(a)
     frame = protected(link.frames(), a.sci)[-1]
-    link.close()
     a.stop()
     b.stop(signal.SIGKILL)
     b.start()
     time.sleep(TICK)
-    journal, log = journal_of(b).read_bytes(), b.log()
+    journal, log = b.journal.read_bytes(), b.log()
     grown = give_again(b, [frame] * times)
     time.sleep(TICK)
     what = f"ahead: a recorded frame, {times} times, replay protection {'on' if replay else 'off'}"
     report(grown["device TapOut"] == 0 == grown[f"{a.sci} InPktsOK"], f"{what}: delivered: {grown}")
-    late, earlier = late_frames(grown, a.sci), grown["device LinkEarlierRun"]
-    report(
-        (late, earlier) == ((times, 0) if replay else (0, times)), f"{what}: {late} late, {earlier} of an earlier run"
-    )
-    report(journal_of(b).read_bytes() == journal, f"{what}: the journal has changed")
+    late, earlier = grown[f"{a.sci} InPktsLate"], grown["device LinkEarlierRun"]
+    wanted = (times, 0) if replay else (0, times)
+    report((late, earlier) == wanted, f"{what}: {late} late, {earlier} of an earlier run")
+    report(b.journal.read_bytes() == journal, f"{what}: the journal has changed")
     said = b.log()[len(log) :].count("an earlier run may have delivered them")
     report(said == (0 if replay else 1), f"{what}: {said} messages")
     shown = f"dropped 0 without a reservation, {earlier} of an earlier run\n"
@@ -88,10 +77,8 @@ def check_recorded(world: World, replay: bool, times: int) -> None:
 def check_orderly(world: World) -> None:
     """SIGTERM: the next run delivers no recorded frame, also of those within the replay window, and drops as many new
     ones as were reserved."""
-    world.prepare(more="A replay on 64\n")
+    world.start(more="A replay on 64\n")
     a, b = world.ends
-    for end in (a, b):
-        end.start()
     link = Packets(b.link_namespace, "link0")
     for more in (0, 200):
         report(ping(a, 20) == 20, "ahead: no replies")
@@ -109,17 +96,14 @@ def check_orderly(world: World) -> None:
         holds = 200 - reserved <= arrived <= max(0, 200 - reserved) + 2 * FEW
         report(holds, f"ahead: after SIGTERM {arrived} of 200 frames arrived, where {reserved} are reserved")
         link.frames()
-    link.close()
 
 
 def check_kills_of_both(world: World, kills: int, replay: bool, rng: random.Random) -> None:
     """SIGKILL of the sender, of the receiver, and of both at once, under traffic. After each start the receiver gets
     what was recorded before once more: no frame is delivered twice, and no packet number is sent twice. Without replay
     protection a run may deliver its own frames twice, so only a new run of the receiver gets them."""
-    world.prepare(more=f"A replay {'on' if replay else 'off'} 0\n")
+    world.start(more=f"A replay {'on' if replay else 'off'} 0\n")
     a, b = world.ends
-    for end in (a, b):
-        end.start()
     link, stream = Packets(b.link_namespace, "link0"), Stream(a, 0.002)
     recorded: dict[bytes, None] = {}
     again = 0
@@ -127,8 +111,7 @@ def check_kills_of_both(world: World, kills: int, replay: bool, rng: random.Rand
         time.sleep(rng.uniform(0.2, 0.6))
         victims = ([a], [b], [a, b])[number % 3]
         for end in victims:
-            assert end.process is not None
-            end.process.kill()
+            end.send_signal(signal.SIGKILL)
         for end in victims:
             end.stop(signal.SIGKILL)
         recorded.update(dict.fromkeys(protected(link.frames(0), a.sci)))
@@ -141,7 +124,6 @@ def check_kills_of_both(world: World, kills: int, replay: bool, rng: random.Rand
     time.sleep(TICK)
     sent, arrived = stream.stop()
     recorded.update(dict.fromkeys(protected(link.frames(), a.sci)))
-    link.close()
     what = f"ahead: {kills} kills, replay protection {'on' if replay else 'off'}"
     twice = stream.received - arrived
     report(twice == 0, f"{what}: {twice} of {arrived} datagrams were delivered twice")
@@ -166,7 +148,7 @@ def check_crash(world: World) -> None:
     b.start()
     passes = until(lambda: b.counters()[f"{a.sci} InPktsOK"] > 0, 20)
     sent, arrived = stream.stop()
-    late = late_frames(b.counters(), a.sci)
+    late = b.counters()[f"{a.sci} InPktsLate"]
     most = int(1.5 * max(LEAST, LASTS * rate))
     report(passes, f"ahead: no frame passes after a crash, {late} late")
     report(0 < late <= most, f"ahead: a crash lost {late} frames at {rate} a second, and not at most {most}")
@@ -185,7 +167,7 @@ def check_crash_of_both(world: World) -> None:
     for end in (a, b):
         end.start()
     replies = ping(a), ping(b)
-    dropped = [late_frames(end.counters(), peer.sci) for end, peer in ((a, b), (b, a))]
+    dropped = [end.counters()[f"{peer.sci} InPktsLate"] for end, peer in ((a, b), (b, a))]
     report(replies == (3, 3), f"ahead: after a crash of both ends {replies} of 3 requests are answered")
     report(dropped == [0, 0], f"ahead: after a crash of both ends {dropped} frames are late")
 
@@ -214,18 +196,11 @@ def check_burst(world: World) -> None:
 
 def burst(end: End, count: int, at_once: int = 1000) -> int:
     """Sends so many datagrams to the other client, so many at once. Returns how many arrive."""
-    peer, arrived = end.world.ends[2 - end.number], 0
-    with inside(peer.namespace):
-        to = socket.socket(socket.AF_INET, socket.SOCK_DGRAM)
-    to.setsockopt(socket.SOL_SOCKET, 33, 64 << 20)  # SO_RCVBUFFORCE
-    to.setsockopt(socket.SOL_SOCKET, socket.SO_REUSEADDR, 1)  # a process that begins can have the last one still open
-    to.bind(("0.0.0.0", 9012))
-    with inside(end.namespace):
-        by = socket.socket(socket.AF_INET, socket.SOCK_DGRAM)
-    with to, by:
+    arrived = 0
+    with udp_socket(end.peer.namespace, 9012) as to, udp_socket(end.namespace) as by:
         for sent in range(count):
             with contextlib.suppress(OSError):
-                by.sendto(b"burst", (f"10.9.0.{peer.number}", 9012))
+                by.sendto(b"burst", (f"10.9.0.{end.peer.number}", 9012))
             if sent % at_once == at_once - 1:
                 time.sleep(0.01)
         to.settimeout(1.5)
@@ -238,13 +213,12 @@ def burst(end: End, count: int, at_once: int = 1000) -> int:
 
 def start_silently(end: End) -> None:
     """Starts it without IPv6, which sends frames unasked."""
-    call("ip", "netns", "exec", end.namespace, "sysctl", "-qw", "net.ipv6.conf.default.disable_ipv6=1")
+    end.without_ipv6("default")
     end.start(wait=False)
-    until(end.answers, 20)
+    end.wait_for_answer()
     end.ip("addr", "replace", f"10.9.0.{end.number}/24", "dev", "macsec0")
     end.ip("link", "set", "macsec0", "up")
-    peer = end.world.ends[2 - end.number]
-    end.ip("neigh", "replace", f"10.9.0.{peer.number}", "lladdr", peer.address(), "dev", "macsec0")
+    end.ip("neigh", "replace", f"10.9.0.{end.peer.number}", "lladdr", end.peer.address(), "dev", "macsec0")
 
 
 def check_gap(world: World) -> None:
@@ -252,7 +226,6 @@ def check_gap(world: World) -> None:
     none is lost, whether one comes alone or many are there at once."""
     world.start()
     a, b = world.ends
-    assert b.process is not None
     for end in (a, b):
         ping(end)
     for count in (1, 300):
@@ -261,14 +234,13 @@ def check_gap(world: World) -> None:
         start_silently(a)
         with concurrent.futures.ThreadPoolExecutor(1) as pool:
             if count > 1:
-                b.process.send_signal(signal.SIGSTOP)  # so that many are there when it goes on
+                b.send_signal(signal.SIGSTOP)  # so that many are there when it goes on
             sending = pool.submit(burst, a, count)
             time.sleep(0.5)
-            b.process.send_signal(signal.SIGCONT)
+            b.send_signal(signal.SIGCONT)
             arrived = sending.result()
-        report(
-            arrived == count, f"ahead: after a start of the peer {arrived} of {count} frames arrived: {b.counters()}"
-        )
+        what = f"ahead: after a start of the peer {arrived} of {count} frames"
+        report(arrived == count, f"{what} arrived: {b.counters()}")
         grown = rx_next(b, a) - before
         report(grown > 60000, f"ahead: a start of the peer has skipped only {grown} packet numbers")
         lacked = b.counters()["device LinkNoReservation"] - lacked
@@ -291,13 +263,12 @@ def check_handovers(world: World, count: int) -> None:
         report(got == "1 ok\n2 ok\n", f"ahead: a second endpoint does not take over: {got}")
         time.sleep(0.1)
     sent, arrived = stream.stop()
-    client.socket.close()
+    client.close()
     c = b.counters()
-    lost = c["device LinkNoReservation"], c["device LinkEarlierRun"], late_frames(c, a.sci)
+    lost = c["device LinkNoReservation"], c["device LinkEarlierRun"], c[f"{a.sci} InPktsLate"]
     report(sent == arrived and lost == (0, 0, 0), f"ahead: {count} endpoints: {arrived} of {sent} arrived, lost {lost}")
     report("a second endpoint goes on after `load`" in b.log(), "ahead: no second endpoint has taken over")
     frames = protected(link.frames(), a.sci)
-    link.close()
     report(len(frames) >= sent, f"ahead: only {len(frames)} of {sent} frames were recorded")
     again = give_again(b, frames[-1000:])[f"{a.sci} InPktsOK"]
     report(again <= FEW, f"ahead: {count} endpoints: {again} frames are accepted again")
@@ -324,7 +295,7 @@ def check_late_records(world: World, programs: pathlib.Path) -> None:
         report(0.3 < took < 1.1, f"ahead: `rxsa` over a slow disk is answered after {took:.2f} s")
         report(burst(a, 50) == 50, "ahead: a new association over a slow disk loses frames")
     report(b.counters()["device LinkNoReservation"] == 0, "ahead: a new association lacked a reservation")
-    client.socket.close()
+    client.close()
     a.stop(signal.SIGKILL)
     a.start()
     arrived, said = burst(a, 3000, 100), "their packet numbers are not reserved yet"

@@ -9,7 +9,7 @@ import re
 from house import ROOT
 from house.reporting import report
 from macsecd_workers import MOST, fitting
-from macsecd_world import SALT, End, expect
+from macsecd_world import SALT, End, World, expect
 
 # What is said of as many workers as there can be, on a host with fewer processors.
 TOO_MANY = [f"line 2: hint: there are too few processors for so many workers, so frames wait for them: write at most {it}"
@@ -83,7 +83,7 @@ PLANTED: list[tuple[dict[int, str], list[str]]] = [
 
 def run(end: End, name: str = "macsec0") -> tuple[int, list[str]]:
     """The status and the findings. The last line has their numbers."""
-    ended = end.run("--check", name)
+    ended = end.run_program("--check", name)
     *found, last = ended.stdout.splitlines() or [""]
     hints = sum(": hint: " in it for it in found)
     faults = len(found) - hints
@@ -120,9 +120,8 @@ def check_planted(end: End) -> None:
         report(good, f"--check of {lines}: {found}, and not {wanted}")
         faults = [it for it in wanted if ": hint: " not in it]
         report(status == (2 if faults else 0), f"--check of {lines}: status {status}")
-        report(
-            state_of(end.folder) == before and end.ip("-br", "link") == devices, f"--check of {lines} changed something"
-        )
+        same = state_of(end.folder) == before and end.ip("-br", "link") == devices
+        report(same, f"--check of {lines} changed something")
         shown = [it for it in (*end.world.keys, "5a" * 16, "a5" * 16) if any(it[:8] in line for line in found)]
         report(not shown, f"--check of {lines} shows a key")
         if faults:
@@ -172,7 +171,7 @@ def check_octets(end: End, journal: pathlib.Path) -> None:
 
 def check_surroundings(end: End) -> None:
     """The file itself, its path, and the journal."""
-    journal = end.folder / "state/macsec0.journal"
+    journal = end.journal
     end.write_config()
     report(run(end) == (0, []), "--check has found something in a good configuration")
     report(run(end, str(end.config)) == (0, []), "--check of a path has found something in a good configuration")
@@ -192,7 +191,7 @@ def check_surroundings(end: End) -> None:
     holds = status == 2 and len(found) == 2 and "chmod 600" in found[0] and "a keyword is unknown" in found[1]
     report(holds, f"mode 0644, and a wrong line: {found}")
     end.config.chmod(0o600)
-    ended = end.run("--check", "nothing0")
+    ended = end.run_program("--check", "nothing0")
     report(ended.returncode == 1 and "nothing0.conf: No such file" in ended.stderr, f"--check of no file: {ended}")
 
 
@@ -221,8 +220,11 @@ def check_words() -> None:
     report(len(said) > 20 and not other, f"--check and --lint say other things of {other}")
 
 
-def check_check(end: End) -> None:
+def check_check(world: World) -> None:
     """All of it."""
+    end = world.ends[0]
+    end.write_config()
+    end.create_journal()
     end.workers = None
     end.ip("link", "set", "link0", "address", "02:00:00:00:00:01")
     check_planted(end)

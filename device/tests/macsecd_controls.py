@@ -216,9 +216,13 @@ def check_edits(edits: Iterable[tuple[str, str, str]]) -> None:
 def altered(folder: pathlib.Path, edit: tuple[str, str, str], source: pathlib.Path) -> pathlib.Path:
     """A copy of the sources with one mistake."""
     shutil.copytree(source, folder, ignore=shutil.ignore_patterns("built"))
-    name, old, new = edit
-    text = (folder / name).read_text()
-    if text.count(old) != 1:
-        raise Failed(f"{name} has {old!r} {text.count(old)} times")
-    (folder / name).write_text(text.replace(old, new))
+    replace_once(folder / edit[0], *edit[1:])
     return folder
+
+
+def replace_once(path: pathlib.Path, old: str, new: str) -> None:
+    """Writes a text of a file, which is there once, otherwise."""
+    text = path.read_text()
+    if text.count(old) != 1:
+        raise Failed(f"{path.name} has {old!r} {text.count(old)} times")
+    path.write_text(text.replace(old, new))

@@ -12,7 +12,6 @@ import os
 import pathlib
 import socket
 import statistics
-import struct
 import subprocess
 import time
 from typing import NamedTuple
@@ -20,9 +19,8 @@ from typing import NamedTuple
 from house import ROOT
 from house.compiling import WARNINGS
 from house.reporting import Failed, call, report
-from macsecd_losses import settled
-from macsecd_speed import DATAGRAM, RELAY, processor_time
-from macsecd_world import End, World, build, checksum, inside, is_answered, tcp
+from macsecd_speed import DATAGRAM, RELAY, run_tcp
+from macsecd_world import End, World, build, echo_request, inside, is_answered, processor_time
 
 # What workers have to gain at least, by their number, and what an echo may lose, in microseconds.
 BARS_UDP, BARS_TCP, BAR_ECHO = {2: 2.2}, {2: 1.5}, 10.0
@@ -97,23 +95,6 @@ def run_udp(
     return {workers: [turn[workers] for turn in taken] for workers in numbers}
 
 
-def run_tcp(folder: pathlib.Path, programs: pathlib.Path, octets: int) -> Speed:
-    """TCP from one client to the other."""
-    with World(folder, programs) as world:
-        world.start()
-        a, b = world.ends
-        tcp(a, octets // 8)
-        before, used = settled(a, b), processor_time(a)
-        seconds = tcp(a, octets)
-        grown, after = processor_time(a) - used, settled(a, b)
-        frames = after[0]["device LinkOut"] - before[0]["device LinkOut"]
-        names = "device LinkLost", "device LinkRefused", "device TapRefused"
-        lost = [sum(now[name] - old[name] for name in names) for now, old in zip(after, before)]
-        report(lost == [0, 0], f"frames were lost: {lost}")
-        report([it.stop() for it in (a, b)] == [0, 0], f"macsecd does not end well: {a.log()}{b.log()}")
-    return Speed(octets / seconds / 1e6, grown / frames)
-
-
 def run_echo(folder: pathlib.Path, programs: pathlib.Path, count: int) -> float:
     """Echo requests in a quiet network, each a millisecond after the reply to the last one. Returns the median."""
     times = []
@@ -122,8 +103,7 @@ def run_echo(folder: pathlib.Path, programs: pathlib.Path, count: int) -> float:
         with inside(world.ends[0].namespace):
             it = socket.socket(socket.AF_INET, socket.SOCK_RAW, 1)
         for sequence in range(count):
-            octets = struct.pack("!BBHHH", 8, 0, 0, 1, sequence) + bytes(56)
-            octets = octets[:2] + struct.pack("!H", checksum(octets)) + octets[4:]
+            octets = echo_request(1, sequence)
             began = time.perf_counter()
             it.sendto(octets, ("10.9.0.2", 0))
             if not is_answered(it, 4, 1, sequence, 1.0):
@@ -172,8 +152,8 @@ def measure_cores(
             for workers in numbers:
                 End.workers = workers
                 at = f"{name}{number}-{workers}"
-                tcp_ = run_tcp(folder / f"{at}-tcp", each, octets)
-                row = Row(udp[workers], tcp_, run_echo(folder / f"{at}-echo", each, echoes))
+                tcp = Speed(*run_tcp(folder / f"{at}-tcp", each, octets)[:2])
+                row = Row(udp[workers], tcp, run_echo(folder / f"{at}-echo", each, echoes))
                 rows[name][workers].append(row)
                 print(f"cores: {name}, {workers} workers: {row.text()}", flush=True)
     for name in programs:

@@ -1,9 +1,8 @@
-/* What the library's calls alone cost, for the test macsecd --speed: prints the nanoseconds of processor time that a
- * frame of 1,400 octets takes to be sealed, and to be sealed and opened. */
+/* The library's calls alone, for the test macsecd --speed, whose clock is around them: frames of 1,400 octets are
+ * sealed, and then others are sealed and opened. */
 #include "macsec.h"
-#include <stdio.h>
 #include <stdlib.h>
-#include <time.h>
+#include <string.h>
 
 enum { FRAMES = 20000, OCTETS = 1400 };
 
@@ -13,10 +12,9 @@ static const char *const lines[2] = {
     "A rxsa 0200000000010001 0 0 1\nA rxon 0200000000010001 0\n",
 };
 
-/* Seals frames, and opens them if `opens`. Returns the nanoseconds for each. */
-static double cost(macsec_endpoint *a, macsec_endpoint *b, bool opens) {
+/* Seals frames, and opens them if `opens`. */
+static void pass(macsec_endpoint *a, macsec_endpoint *b, bool opens) {
     static uint8_t frame[OCTETS];
-    clock_t began = clock();
     for (int i = 0; i < FRAMES; i++) {
         macsec_sent sent;
         macsec_received got;
@@ -25,22 +23,17 @@ static double cost(macsec_endpoint *a, macsec_endpoint *b, bool opens) {
         if (opens && (macsec_receive(b, sent.frame, sent.length, &got) != MACSEC_OK || !got.delivered))
             exit(1);
     }
-    return (double)(clock() - began) / CLOCKS_PER_SEC * 1e9 / FRAMES;
 }
 
 int main(void) {
     macsec_endpoint ends[2] = { MACSEC_ENDPOINT_INIT, MACSEC_ENDPOINT_INIT };
     for (int i = 0; i < 2; i++) {
         uint32_t line;
-        size_t length = 0;
-        while (lines[i][length] != '\0')
-            length++;
-        if (macsec_configure(&ends[i], (const uint8_t *)lines[i], length, &line) != MACSEC_OK)
+        if (macsec_configure(&ends[i], (const uint8_t *)lines[i], strlen(lines[i]), &line) != MACSEC_OK)
             return 1;
     }
-    (void)cost(&ends[0], &ends[1], true);
-    double seal = cost(&ends[0], &ends[1], false), both = cost(&ends[0], &ends[1], true);
-    printf("%.0f %.0f\n", seal, both - seal);
+    for (int i = 0; i < 3; i++)
+        pass(&ends[0], &ends[1], i != 1);
     for (int i = 0; i < 2; i++)
         macsec_free(&ends[i]);
     return 0;

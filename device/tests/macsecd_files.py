@@ -35,7 +35,7 @@ def check_wrong_files(a: End) -> None:
     a.write_config()
     expect(a, "no journal", 2, "--create-journal")
     a.create_journal()
-    report(a.run("--create-journal", "macsec0").returncode == 1, "a journal was replaced")
+    report(a.run_program("--create-journal", "macsec0").returncode == 1, "a journal was replaced")
     a.config.chmod(0o644)
     expect(a, "a configuration of mode 0644", 2, "chmod 600")
     a.config.chmod(0o600)
@@ -50,12 +50,12 @@ def check_wrong_files(a: End) -> None:
     a.write_config(more="A txonn 0\n")
     expect(a, "a wrong line", 2, "line 10: Word")
     a.write_config()
-    journal = a.folder / "state/macsec0.journal"
+    journal = a.journal
     octets = journal.read_bytes()
     journal.write_bytes(bytes(64))
     expect(a, "a file that is no journal", 2, "journal")
     journal.write_bytes(octets)
-    report(a.run("a/b").returncode == 2 and a.run().returncode == 2, "wrong arguments are taken")
+    report(a.run_program("a/b").returncode == 2 and a.run_program().returncode == 2, "wrong arguments are taken")
 
 
 def check_used_keys(a: End) -> None:
@@ -141,7 +141,7 @@ def check_closed(a: End) -> None:
     words = [*a.enter, "sh", "-c", 'exec "$@" <&- >&- 2>&-', "sh", str(a.program), "macsec0"]
     a.process = subprocess.Popen(words, env=a.environment)
     until(a.answers, 15)
-    found = [os.readlink(f"/proc/{a.process.pid}/fd/{it}") for it in range(3)]
+    found = [os.readlink(f"/proc/{a.pid}/fd/{it}") for it in range(3)]
     report(found == ["/dev/null"] * 3, f"in place of closed streams macsecd has {found}")
     a.stop()
 

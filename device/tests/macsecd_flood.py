@@ -13,8 +13,7 @@ from typing import NamedTuple
 
 from house.reporting import report, until
 from macsecd_saves import build_sender
-from macsecd_speed import processor_time
-from macsecd_world import End, Stream, World
+from macsecd_world import End, Stream, World, processor_time
 
 # The greatest part of the client's datagrams that may be lost: the machine may let macsecd wait for longer than its
 # socket has space for.
@@ -34,19 +33,8 @@ class Flood(NamedTuple):
 
     def command(self, end: End, sender: list[str], seconds: float) -> list[str]:
         """The command that sends it from this end, without a macsecd."""
-        count = str(int(self.rate * seconds))
-        return [
-            "ip",
-            "netns",
-            "exec",
-            end.namespace,
-            *sender,
-            self.words[0],
-            "link0",
-            *self.words[1:],
-            count,
-            str(self.rate),
-        ]
+        words = [self.words[0], "link0", *self.words[1:], str(int(self.rate * seconds)), str(self.rate)]
+        return [*end.enter, *sender, *words]
 
 
 PLAIN = Flood("another EtherType", ["plain"], 500_000, True)

@@ -5,16 +5,16 @@ from __future__ import annotations
 
 import contextlib
 import json
+import re
 import secrets
 import subprocess
-import threading
 import time
 from collections.abc import Iterator
 from typing import Callable
 
 from house.reporting import Failed, report
 from macsecd_requests import state_of
-from macsecd_world import End, Packets, Stream, World, connected, ping, protected
+from macsecd_world import Background, Client, End, Packets, Stream, World, connected, ping, protected
 
 KEYS = 4096
 
@@ -25,33 +25,6 @@ MANY = 1000
 MEMORY = 34 << 20
 
 
-class Client:
-    """A connection to a control socket, for many lines."""
-
-    def __init__(self, end: End) -> None:
-        self.end, self.socket = end, connected(end.socket, 20)
-        self.slowest = 0.0
-
-    def ask(self, request: str) -> str:
-        """Makes a request."""
-        began = time.monotonic()
-        self.socket.send(request.encode())
-        answer = self.socket.recv(1 << 20).decode()
-        self.slowest = max(self.slowest, time.monotonic() - began)
-        return answer
-
-    def carry_out(self, *lines: str) -> None:
-        """Carries out lines. None may be refused."""
-        for line in lines:
-            answer = self.ask(line)
-            if not answer.startswith("ok"):
-                raise Failed(f"{line}: {answer}")
-
-    def keys_left(self) -> int:
-        """How many keys the endpoint can still take."""
-        return json.loads(self.ask("json"))["keys_left"]
-
-
 @contextlib.contextmanager
 def clients(world: World) -> Iterator[tuple[Client, Client]]:
     """A connection to each end."""
@@ -59,8 +32,8 @@ def clients(world: World) -> Iterator[tuple[Client, Client]]:
     try:
         yield a, b
     finally:
-        a.socket.close()
-        b.socket.close()
+        a.close()
+        b.close()
 
 
 def use_up(client: Client, first: int, last: int) -> None:
@@ -93,20 +66,14 @@ def rekey(pair: tuple[Client, Client], phase: int, first: int) -> None:
     keys = [secrets.token_hex(16), secrets.token_hex(16)]
     for client, peer in (pair, pair[::-1]):
         own = [keys[client.end.number - 1], keys[peer.end.number - 1]]
-        client.carry_out(
-            f"A key {numbers[0]} {own[0]} 0",
-            f"A key {numbers[1]} {own[1]} 0",
-            f"A rxsa {peer.end.sci} {an} {numbers[1]} 1",
-            f"A rxon {peer.end.sci} {an}",
-        )
+        client.carry_out(f"A key {numbers[0]} {own[0]} 0", f"A key {numbers[1]} {own[1]} 0")
+        client.carry_out(f"A rxsa {peer.end.sci} {an} {numbers[1]} 1", f"A rxon {peer.end.sci} {an}")
     for client in pair:
         client.carry_out(f"A txsa {an} {numbers[0]} 1 conf", f"A txon {an}")
     for client, peer in (pair, pair[::-1]):
         wait_for_frame(client, f"numbers rx {peer.end.sci} {an}")
     for client, peer in (pair, pair[::-1]):
-        client.carry_out(
-            f"A txdel {old}", f"A rxdel {peer.end.sci} {old}", f"A retire {before[0]}", f"A retire {before[1]}"
-        )
+        client.carry_out(f"A txdel {old}", f"A rxdel {peer.end.sci} {old}", *(f"A retire {it}" for it in before))
 
 
 def periods(frames: list[bytes]) -> int:
@@ -122,24 +89,20 @@ def periods(frames: list[bytes]) -> int:
     return count
 
 
-class Recorder:
-    """The frames on a link with a SecTAG of this SCI, in a thread, until it is stopped."""
+class Recorder(Background):
+    """The frames on a link with a SecTAG of this SCI."""
 
     def __init__(self, end: End, sci: str) -> None:
-        self.link, self.sci, self.frames, self.goes_on = Packets(end.link_namespace, "link0"), sci, [], True
-        self.thread = threading.Thread(target=self.run)
-        self.thread.start()
+        self.link, self.sci, self.frames = Packets(end.link_namespace, "link0"), sci, []
+        super().__init__()
 
-    def run(self) -> None:
+    def step(self) -> None:
         """Reads, and keeps the beginning of each frame."""
-        while self.goes_on:
-            self.frames += [it[:20] for it in protected(self.link.frames(0.05), self.sci)]
+        self.frames += [it[:20] for it in protected(self.link.frames(0.05), self.sci)]
 
     def stop(self) -> list[bytes]:
         """Stops it. Returns the frames."""
-        self.goes_on = False
-        self.thread.join()
-        self.link.close()
+        self.join()
         return self.frames
 
 
@@ -151,22 +114,10 @@ def dropped(end: End) -> int:
 
 def losses(end: End) -> dict[str, int]:
     """The counters of frames that were dropped, of those that should be 0."""
-    names = (
-        "Late",
-        "NotValid",
-        "NoSAError",
-        "NoSA ",
-        "BadTag",
-        "NoReservation",
-        "EarlierRun",
-        "Lost",
-        "Refused",
-        "NoEndpoint",
-        "Unchecked",
-        "Delayed",
-        "TooLong",
+    names = re.compile(
+        "Late|NotValid|NoSA(Error|$)|BadTag|NoReservation|EarlierRun|Lost|Refused|NoEndpoint|Unchecked|Delayed|TooLong"
     )
-    return {name: value for name, value in end.counters().items() if value and any(it in name + " " for it in names)}
+    return {name: value for name, value in end.counters().items() if value and names.search(name)}
 
 
 def run_rekeys(world: World, rekeys: int, first: int) -> None:
@@ -221,7 +172,7 @@ def check_life_of_keys(world: World, short: bool) -> None:
 
 def channel_is_sum(end: End) -> None:
     """The counters of a new association begin at 0, and the channel's have all."""
-    peer = f"02000000000{3 - end.number}0001"
+    peer = end.peer.sci
     c = end.counters()
     of_sas = sum(value for name, value in c.items() if name.startswith(peer) and name.endswith(" InPktsOK"))
     of_sas -= c[f"{peer} InPktsOK"]
@@ -239,28 +190,17 @@ def check_numbers(a: End) -> None:
     for _ in range(3):
         a.hand_over()
         last = next_of(a)
-    report(
-        before < last < before + 20, f"three endpoints take over: the next packet number rises from {before} to {last}"
-    )
+    report(before < last < before + 20, f"three endpoints take over: packet numbers rise from {before} to {last}")
     a.carry_out("A txoff 0", "A txdel 0")
     answer = a.ask("A txsa 0 0 1 conf")
-    report(
-        answer.startswith("ok pn ") and int(answer.split()[2], 16) >= last, f"a new association: {answer}, after {last}"
-    )
+    holds = answer.startswith("ok pn ") and int(answer.split()[2], 16) >= last
+    report(holds, f"a new association: {answer}, after {last}")
     a.carry_out("A txon 0")
-
-
-def tables_of(end: End) -> str:
-    """The associations, and how many keys the endpoint can still take."""
-    shown = json.loads(end.ask("json"))
-    sas = [(sa["an"], sa["key"], sa["on"]) for sa in shown["transmit"]]
-    rx = [(sc["sci"], [(sa["an"], sa["key"], sa["on"]) for sa in sc["associations"]]) for sc in shown["receive"]]
-    return f"{sas} {rx} {shown['keys_left']}"
 
 
 def check_refused_loads(a: End, load: Callable[..., str], good: list[str]) -> None:
     """Good lines and a wrong one, at the beginning, between them and at the end: nothing changes."""
-    before, log, number = tables_of(a), a.log(), next_of(a)
+    before, log, number = state_of(a), a.log(), next_of(a)
     for wrong, answer in (
         ("A txon 3", "refused 13 NoSa"),
         ("A txonn 0", "fault Word"),
@@ -274,7 +214,7 @@ def check_refused_loads(a: End, load: Callable[..., str], good: list[str]) -> No
         for place in (0, 4, len(good)):
             got = load(*good[:place], wrong, *good[place:])
             report(got == f"{place + 1} {answer}\n", f"load with {wrong[:30]!r} at {place}: {got!r}")
-            after = tables_of(a)
+            after = state_of(a)
             report(after == before, f"load with {wrong[:30]!r} at {place}: {before} became {after}")
     report(next_of(a) < number + 1000 and ping(a) == 3, "a refused `load` has changed the endpoint")
     report(a.log() == log, f"messages for a refused `load`: {a.log()[len(log):]}")
@@ -295,14 +235,12 @@ def check_small_loads(a: End, load: Callable[..., str]) -> None:
 
 def check_good_load(a: End, load: Callable[..., str], good: list[str]) -> None:
     """All lines are carried out, and the counters go on."""
-    peer, before, counters = a.world.ends[2 - a.number], tables_of(a), a.counters()
+    peer, before, counters = a.peer, state_of(a), a.counters()
     got = load(*good)
     answers = "".join(f"{n} ok\n" for n, line in enumerate(good, 1) if line.startswith("A "))
-    report(got == answers and tables_of(a) != before, f"load: {got!r}")
-    report(
-        a.ask("numbers").split()[:6:5] == ["tx", "conf"] and a.ask("numbers tx 0") == "fault NotFound\n",
-        f"after `load`: {a.ask('numbers')}",
-    )
+    report(got == answers and state_of(a) != before, f"load: {got!r}")
+    holds = a.ask("numbers").split()[:6:5] == ["tx", "conf"] and a.ask("numbers tx 0") == "fault NotFound\n"
+    report(holds, f"after `load`: {a.ask('numbers')}")
     fell = [name for name, value in counters.items() if a.counters().get(name, value) < value]
     report(not fell, f"counters have fallen: {fell}")
     report(f"{peer.sci} 0 InPktsOK" not in a.counters(), "an association that was deleted still counts")
@@ -310,7 +248,7 @@ def check_good_load(a: End, load: Callable[..., str], good: list[str]) -> None:
 
 def check_load(a: End, macsecctl: list[str]) -> None:
     """Lines that are all carried out, or none is."""
-    peer, sci = a.world.ends[2 - a.number], "11" * 8
+    peer, sci = a.peer, "11" * 8
     key, other = secrets.token_hex(16), secrets.token_hex(16)
     good = [f"A key 2 {key} 0", "# a comment", "", "A txsa 1 2 1 conf", f"A rxsc {sci}", f"A rxsa {sci} 0 2 1"]
     good += [f"A rxdel {peer.sci} 0", "A txdel 0", "A retire 0", "A protect on"]
@@ -348,10 +286,8 @@ def check_number_again(a: End, load: Callable[..., str], key: str) -> None:
     got = load("A txoff 1", f"A key 0 {key} 0", "A txon 9")
     report(got.startswith("3 ") and state_of(a) == state and a.log() == log, f"a refused line after it: {got!r}")
     report(load("A txoff 1", f"A key 0 {key} 0", "A txon 1") == "1 ok\n2 ok\n3 ok\n", "the number of a retired key")
-    report(
-        "a second endpoint goes on after `load`" in a.log() and state_of(a) != state,
-        "no second endpoint has taken over",
-    )
+    holds = "a second endpoint goes on after `load`" in a.log() and state_of(a) != state
+    report(holds, "no second endpoint has taken over")
     # The copy was given all lines. The device has the keys of the endpoint, so that a copy can take over again.
     a.hand_over()
     report(load("A retire 0", "A protect on") == "1 ok\n2 ok\n", "a key of a second endpoint")

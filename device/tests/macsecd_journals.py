@@ -13,7 +13,8 @@ import subprocess
 from house import ROOT
 from house.compiling import WARNINGS
 from house.reporting import call, report, until
-from macsecd_world import End, World, expect, ping, ping_again
+from macsecd_handover import next_of
+from macsecd_world import End, World, attempt, expect, ping, ping_again
 
 
 def on(end: End, kind: str, *words: str) -> subprocess.CompletedProcess[str]:
@@ -27,13 +28,8 @@ def on(end: End, kind: str, *words: str) -> subprocess.CompletedProcess[str]:
         f"-o lowerdir={copy},upperdir=/mnt/u,workdir=/mnt/w {state}",
     }
     shell = f'{mounts[kind]} && cp -a {copy}/. {state}/ && exec timeout 2 "$@"'
-    return subprocess.run(
-        ["unshare", "-m", *end.enter, "sh", "-c", shell, "sh", str(end.program), *words],
-        stdin=subprocess.DEVNULL,
-        capture_output=True,
-        text=True,
-        env=end.environment,
-    )
+    command = ["unshare", "-m", *end.enter, "sh", "-c", shell, "sh", str(end.program), *words]
+    return attempt(command, 60, end.environment)
 
 
 def check_disks(end: End) -> None:
@@ -44,7 +40,7 @@ def check_disks(end: End) -> None:
     told = on(end, "overlay", "--create-journal", "macsec0")
     report((told.returncode, "an overlay" in told.stderr) == (0, True), f"a journal on an overlay: {told}")
     end.create_journal()
-    again = end.run("--create-journal", "macsec0")
+    again = end.run_program("--create-journal", "macsec0")
     report((again.returncode, "is there already" in again.stderr) == (1, True), f"a journal is created twice: {again}")
     for kind, text in (("tmpfs", "in memory"), ("overlay", "an overlay")):
         told = on(end, kind, "macsec0")
@@ -56,7 +52,7 @@ def arrange(end: End) -> tuple[pathlib.Path, pathlib.Path]:
     folders = [end.folder / "state" / name for name in ("macsec0", "other0")]
     for folder in folders:
         folder.mkdir(mode=0o700)
-    (end.folder / "state/macsec0.journal").rename(folders[0] / "macsec0.journal")
+    end.journal.rename(folders[0] / "macsec0.journal")
     end.more_environment = {"STATE_DIRECTORY": str(folders[0])}
     return folders[0] / "macsec0.journal", folders[1] / "other0.journal"
 
@@ -81,7 +77,7 @@ def check_keys(a: End, b: End, cuts: int) -> None:
         other.write_bytes(damage)
         expect(a, "a key of another journal, which is being written", 2, text)
     own.unlink()
-    a.run("--create-journal", "macsec0")
+    a.run_program("--create-journal", "macsec0")
     expect(a, "a new journal beside one with the key", 2, text)
     report(len(own.read_bytes()) == 64, "a refused start has written to the journal")
     # In the same folder, as without a service manager.
@@ -90,7 +86,7 @@ def check_keys(a: End, b: End, cuts: int) -> None:
     (own.parent / "other0.journal").unlink()
     own.write_bytes(used)
     # What is no reason to refuse: the peer's journal, under whose key this end receives, and other files.
-    shutil.copy(b.folder / "state/macsec0.journal", other)
+    shutil.copy(b.journal, other)
     for name, octets in (("none.journal", b""), ("wrong.journal", bytes(128)), ("other.away", used)):
         (other.parent / name).write_bytes(octets)
     (other.parent / "link.journal").symlink_to(own)
@@ -101,11 +97,6 @@ def check_keys(a: End, b: End, cuts: int) -> None:
     for text in ("fifo.journal can't be read", "damaged.journal has damage in record 1"):
         report(text in a.log(), f"no message of a journal that {text}: {a.log()}")
     check_cut(a, cuts)
-
-
-def next_of(end: End) -> int:
-    """The next packet number of its transmit association."""
-    return int(end.ask("numbers tx 0").split()[3], 16)
 
 
 def check_cut(a: End, cuts: int) -> None:
@@ -153,22 +144,16 @@ class Pair:
         for name in self.NAMES:
             self.folder(name).mkdir(mode=0o700, parents=True)
             self.end.more_environment = {"STATE_DIRECTORY": str(self.folder(name))}
-            report(self.end.run("--create-journal", name).returncode == 0, f"no journal for {name}")
+            report(self.end.run_program("--create-journal", name).returncode == 0, f"no journal for {name}")
 
     def start(self, *names: str, **more: str) -> dict[str, str]:
         """Starts them at one time, and waits until each has ended or runs. Then all end. Returns what each has said."""
         logs = {name: self.end.folder / f"{name}.log" for name in names}
         processes = []
         for name, path in logs.items():
-            environment = {
-                **self.end.environment,
-                **self.environment,
-                "STATE_DIRECTORY": str(self.folder(name)),
-                **more,
-            }
-            with open(path, "wb") as log:
-                words = [*self.end.enter, str(self.end.program), name]
-                processes.append(subprocess.Popen(words, stdin=subprocess.DEVNULL, stderr=log, env=environment))
+            path.unlink(missing_ok=True)
+            environment = {**self.environment, "STATE_DIRECTORY": str(self.folder(name)), **more}
+            processes.append(self.end.spawn(str(self.end.program), name, log=path.name, **environment))
         for process, path in zip(processes, logs.values()):
             until(lambda: process.poll() is not None or "protects" in path.read_text(), 60)
         for process in processes:

@@ -15,7 +15,7 @@ from macsecd_world import IN, OUT, RX, End, Stream, World, inside, tcp, tcp_pair
 def count_all(end: End) -> None:
     """Each frame that macsecd read is in one counter of the endpoint or of the device."""
     c = end.counters()
-    sci = f"02000000000{3 - end.number}0001"
+    sci = end.peer.sci
     judged = sum(c[it] for it in IN) + sum(c[f"{sci} {it}"] for it in RX)
     names = ("LinkTooShort", "LinkTooLong", "NoEndpoint", "LinkNoReservation", "LinkEarlierRun")
     faults = sum(c[f"device {it}"] for it in names)
@@ -64,10 +64,9 @@ def check_socket_loss(world: World) -> None:
     once it runs."""
     world.start()
     a, b = world.ends
-    assert b.process is not None
     pair = tcp_pair(a)
     before = settled(a, b)
-    b.process.send_signal(signal.SIGSTOP)
+    b.send_signal(signal.SIGSTOP)
     stream = Stream(a, 0, 1300)
     until(lambda: sent_of(a) > 20000, 60)
     stream.stop()
@@ -75,7 +74,7 @@ def check_socket_loss(world: World) -> None:
     with concurrent.futures.ThreadPoolExecutor(1) as pool:
         transferring = pool.submit(transfer, *pair, 1 << 20)
         report(until(lambda: sent_of(a) > sent + 5), "no frame of TCP is sent")
-        b.process.send_signal(signal.SIGCONT)
+        b.send_signal(signal.SIGCONT)
         transferring.result()
     after = settled(a, b)
     sent = after[0]["device LinkOut"] - before[0]["device LinkOut"]

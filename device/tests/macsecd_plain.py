@@ -3,6 +3,7 @@ several segments in one."""
 
 from __future__ import annotations
 
+import contextlib
 import hashlib
 import itertools
 import random
@@ -12,22 +13,17 @@ import threading
 
 from house.reporting import call, report
 from macsecd_losses import count_all
-from macsecd_world import SOL_PACKET, End, Packets, World, checksum, inside
+from macsecd_world import SOL_PACKET, End, Packets, World, checksum, connect, udp_socket
 
 UDP_SEGMENT = 103
 BROADCAST = bytes.fromhex("ffffffffffff")
 # An IPv4 address and an IPv6 address of each end, which are LINK's at the end without macsecd.
-FAMILIES = ((socket.AF_INET, "10.9.0."), (socket.AF_INET6, "fd09::"))
-
-
-def run(end: End, *words: str) -> str:
-    """Runs a command in the namespace of an end. Returns what it prints."""
-    return call("ip", "netns", "exec", end.namespace, *words)
+ADDRESSES, WILD = ("10.9.0.", "fd09::"), ("0.0.0.0", "::")
 
 
 def wrong_sums(end: End) -> int:
     """How many checksums of TCP and UDP the system has found wrong."""
-    shown = run(end, "cat", "/proc/net/snmp", "/proc/net/snmp6")
+    shown = call(*end.enter, "cat", "/proc/net/snmp", "/proc/net/snmp6")
     lines = [line.split() for line in shown.splitlines()]
     found = 0
     for names, values in zip(lines, lines[1:]):
@@ -36,20 +32,10 @@ def wrong_sums(end: End) -> int:
     return found + sum(int(it[1]) for it in lines if it[0] in ("Udp6InCsumErrors", "Tcp6InCsumErrors"))
 
 
-def transfer(by: End, to: End, family: int, address: str, octets: int, seed: str) -> None:
+def transfer(by: End, to: End, address: str, octets: int, seed: str) -> None:
     """Sends random octets by TCP, which have to arrive as they are."""
     data = random.Random(seed).randbytes(octets)
-    with inside(to.namespace):
-        listener = socket.socket(family, socket.SOCK_STREAM)
-    listener.bind((address, 9030))
-    listener.listen()
-    listener.settimeout(20)
-    with inside(by.namespace):
-        sender = socket.socket(family, socket.SOCK_STREAM)
-    sender.settimeout(20)
-    sender.connect((address, 9030))
-    receiver, _ = listener.accept()
-    receiver.settimeout(20)
+    sender, receiver = connect(by, to, address)
 
     def send() -> None:
         sender.sendall(data)
@@ -61,40 +47,34 @@ def transfer(by: End, to: End, family: int, address: str, octets: int, seed: str
     while part := receiver.recv(1 << 18):
         got.update(part)
     thread.join()
-    for each in (sender, receiver, listener):
+    for each in (sender, receiver):
         each.close()
     report(got.digest() == hashlib.sha256(data).digest(), f"plain: TCP to {address}: other octets arrived")
 
 
-def datagrams(by: End, to: End, family: int, address: str, seed: str) -> None:
+def datagrams(by: End, to: End, address: str, seed: str) -> None:
     """Sends datagrams, which the sender lets the system cut out of long ones. All have to arrive as they are."""
     data = random.Random(seed).randbytes(20 * 1200 + 77)
-    with inside(to.namespace):
-        receiver = socket.socket(family, socket.SOCK_DGRAM)
-    receiver.bind((address, 9031))
-    receiver.settimeout(5)
-    with inside(by.namespace):
-        sender = socket.socket(family, socket.SOCK_DGRAM)
-    sender.setsockopt(socket.IPPROTO_UDP, UDP_SEGMENT, 1200)
-    sender.sendto(data, (address, 9031))
     got = b""
-    try:
-        while len(got) < len(data):
-            got += receiver.recv(65536)
-    except socket.timeout:
-        pass
+    with udp_socket(to.namespace, 9031, address) as receiver, udp_socket(
+        by.namespace, 0, WILD[":" in address]
+    ) as sender:
+        receiver.settimeout(5)
+        sender.setsockopt(socket.IPPROTO_UDP, UDP_SEGMENT, 1200)
+        sender.sendto(data, (address, 9031))
+        with contextlib.suppress(socket.timeout):
+            while len(got) < len(data):
+                got += receiver.recv(65536)
     report(got == data, f"plain: UDP to {address}: {len(got)} octets of {len(data)}")
-    sender.close()
-    receiver.close()
 
 
 def check_mode(a: End, b: End, octets: int, seed: str) -> None:
     """TCP and UDP both ways, by IPv4 and IPv6. End a has no macsecd."""
     before = b.counters()
-    for family, address in FAMILIES:
+    for address in ADDRESSES:
         for by, to in ((a, b), (b, a)):
-            transfer(by, to, family, f"{address}{to.number}", octets, seed)
-            datagrams(by, to, family, f"{address}{to.number}", seed)
+            transfer(by, to, f"{address}{to.number}", octets, seed)
+            datagrams(by, to, f"{address}{to.number}", seed)
     report(wrong_sums(b) == 0 == wrong_sums(a), f"plain: wrong checksums: {wrong_sums(a)}, {wrong_sums(b)}")
     c = b.counters()
     untagged = c["InPktsUntagged"] - before["InPktsUntagged"]
@@ -112,7 +92,7 @@ def check_plain(world: World, octets: int, seed: str) -> None:
     b.start()
     b.carry_out("A protect off")
     mtu = b.ip("link", "show", "macsec0").split(" mtu ")[1].split()[0]
-    run(a, "sysctl", "-qw", "net.ipv6.conf.link0.disable_ipv6=0")
+    a.sysctl("net.ipv6.conf.link0.disable_ipv6=0")
     a.ip("link", "set", "link0", "mtu", mtu)
     a.ip("addr", "replace", "10.9.0.1/24", "dev", "link0")
     a.ip("addr", "replace", "fd09::1/64", "dev", "link0", "nodad")
@@ -131,9 +111,9 @@ FLAGS = 0x99  # FIN, PSH, ACK and CWR
 
 def unfinished(version: int, is_udp: bool, data: bytes) -> tuple[bytes, bytes]:
     """What is before a frame at a packet socket, and a frame with a VLAN tag: segments with SIZE octets of data."""
-    own, peer = (
-        (b"\x0a\x09\0\1", b"\x0a\x09\0\2") if version == 4 else (b"\xfd\x09" + bytes(14), b"\xfd\x0a" + bytes(14))
-    )
+    own, peer = b"\x0a\x09\0\1", b"\x0a\x09\0\2"
+    if version == 6:
+        own, peer = b"\xfd\x09" + bytes(14), b"\xfd\x0a" + bytes(14)
     protocol, length = (17, 8 + len(data)) if is_udp else (6, 32 + len(data))
     pseudo = ~checksum(own + peer + struct.pack("!II", length, protocol)) & 0xFFFF
     if is_udp:
@@ -160,10 +140,8 @@ def segments(frames: list[bytes], version: int, is_udp: bool) -> list[bytes]:
         packet = frame[18:]
         if version == 4:
             ip, whole = packet[:20], int.from_bytes(packet[2:4], "big")
-            addresses, right = (
-                ip[12:],
-                checksum(ip) == 0 and int.from_bytes(ip[4:6], "big") == (0xFFFE + number) % 65536,
-            )
+            addresses, name = ip[12:], int.from_bytes(ip[4:6], "big")
+            right = checksum(ip) == 0 and name == (0xFFFE + number) % 65536
         else:
             ip, whole = packet[:40], 40 + int.from_bytes(packet[4:6], "big")
             addresses, right = ip[8:], True
@@ -193,5 +171,3 @@ def check_segments(a: End, b: End) -> None:
         found = [it for it in client.frames(0.3) if it[6:12] == bytes.fromhex("020000000009")]
         got = segments(found, version, is_udp)
         report(len(got) == 5 and b"".join(got) == data, f"plain: IPv{version}: {[len(it) for it in got]}")
-    for each in (wire, client):
-        each.close()

@@ -20,9 +20,8 @@ CHANGES = 400
 
 def drops(end: End) -> int:
     """How many messages the system has dropped for macsecd's socket."""
-    assert end.process is not None
-    lines = pathlib.Path(f"/proc/{end.process.pid}/net/netlink").read_text().splitlines()[1:]
-    found = [it for it in map(str.split, lines) if it[1] == "0" and it[2] == str(end.process.pid)]
+    lines = pathlib.Path(f"/proc/{end.pid}/net/netlink").read_text().splitlines()[1:]
+    found = [it for it in map(str.split, lines) if it[1] == "0" and it[2] == str(end.pid)]
     if len(found) != 1:
         raise Failed(f"macsecd has {len(found)} sockets of rtnetlink")
     return int(found[0][8])
@@ -30,9 +29,8 @@ def drops(end: End) -> int:
 
 def stop(end: End) -> None:
     """Stops macsecd, and waits until it is stopped."""
-    assert end.process is not None
-    end.process.send_signal(signal.SIGSTOP)
-    status = pathlib.Path(f"/proc/{end.process.pid}/status")
+    end.send_signal(signal.SIGSTOP)
+    status = pathlib.Path(f"/proc/{end.pid}/status")
     if not until(lambda: "State:\tT" in status.read_text()):
         raise Failed("macsecd does not stop")
 
@@ -76,14 +74,13 @@ def change(end: End, peer: End, rng: random.Random) -> str:
 
 def overflow(end: End, peer: End, rng: random.Random) -> float:
     """Lets macsecd lose reports of a change. Returns after how many seconds the state was right."""
-    assert end.process is not None
     before = drops(end)
     stop(end)
     fill(end)
     what = change(end, peer, rng)
     if rng.random() < 0.5:
         fill(end)
-    end.process.send_signal(signal.SIGCONT)
+    end.send_signal(signal.SIGCONT)
     began = time.monotonic()
     report(drops(end) > before, "overflow: no report was lost")
     report(until(lambda: is_right(end), LIMIT), f"overflow: {what}: {flags(end, 'macsec0')}, {end.ask('link')!r}")
@@ -107,11 +104,10 @@ def check_overflow(world: World, times: int, seed: str) -> None:
 
 def check_deletion(end: End) -> None:
     """The report of LINK's deletion is lost."""
-    assert end.process is not None
     stop(end)
     fill(end)
     call("ip", "-n", end.namespace, "link", "del", "link0")
-    end.process.send_signal(signal.SIGCONT)
+    end.send_signal(signal.SIGCONT)
     status = end.ended(LIMIT)
     report(status == 1 and "LINK is gone" in end.log(), f"overflow: LINK was deleted: {status}, {end.log()[-300:]}")
     with contextlib.suppress(ProcessLookupError):

@@ -19,7 +19,7 @@ from typing import Callable
 
 from house import families
 from house.reporting import report, until
-from macsecd_world import IN, OUT, RX, End, connected, ping
+from macsecd_world import IN, OUT, RX, Client, End, attempt, connected, ping, processor_time
 
 
 def agree(answer: Callable[[], str], other: Callable[[], str], what: str) -> None:
@@ -29,7 +29,7 @@ def agree(answer: Callable[[], str], other: Callable[[], str], what: str) -> Non
 
 def check_answers(end: End) -> None:
     """What the answers say."""
-    peer = f"02000000000{3 - end.number}0001"
+    peer = end.peer.sci
     numbers = end.ask("numbers")
     report(numbers.splitlines()[0].startswith("tx 0 0 00000000000") and f"rx {peer} 0 1 " in numbers, numbers)
     agree(lambda: end.ask("A numbers"), lambda: end.ask("numbers\n"), "`A numbers` and `numbers`")
@@ -138,23 +138,16 @@ def check_clients(end: End) -> None:
     lazy.close()
 
 
-def processor_seconds(pid: int) -> float:
-    """How long a process has had a processor."""
-    fields = pathlib.Path(f"/proc/{pid}/stat").read_text().rpartition(")")[2].split()
-    return sum(map(int, fields[11:13])) / os.sysconf("SC_CLK_TCK")
-
-
 def check_held_up(end: End) -> None:
     """A connection for which no descriptor is free: macsecd does not run in circles, and accepts it later."""
-    assert end.process is not None
-    pid = end.process.pid
+    pid = end.pid
     limits = resource.prlimit(pid, resource.RLIMIT_NOFILE)
     resource.prlimit(pid, resource.RLIMIT_NOFILE, (3, limits[1]))  # it has the descriptors 0 to 2
     with connected(end.socket, 5) as it:
         it.send(b"port")
-        before = processor_seconds(pid)
+        before = processor_time(end)
         time.sleep(1.5)
-        took = processor_seconds(pid) - before
+        took = (processor_time(end) - before) / 1e6
         report(took < 0.1, f"a connection without a descriptor: {took:.2f} s of a processor in 1.5 s")
         report(ping(end) == 3, "no replies while a connection has no descriptor")
         resource.prlimit(pid, resource.RLIMIT_NOFILE, limits)
@@ -307,7 +300,7 @@ def check_odd_answers(macsecctl: pathlib.Path, folder: pathlib.Path) -> None:
             server.listen()
             thread = threading.Thread(target=answer, args=(server, answers))
             thread.start()
-            told = subprocess.run([macsecctl, "-s", path, "macsec0", request], capture_output=True, text=True)
+            told = attempt([str(macsecctl), "-s", path, "macsec0", request])
             thread.join()
         os.unlink(path)
         shown = told.stdout, told.returncode
@@ -317,14 +310,13 @@ def check_odd_answers(macsecctl: pathlib.Path, folder: pathlib.Path) -> None:
 
 def check_help(macsecctl: pathlib.Path) -> None:
     """`help` has each request that shells complete, without macsecd, and another one asks whether that runs."""
-    told = subprocess.run([macsecctl, "macsec9", "help"], capture_output=True, text=True)
+    told = attempt([str(macsecctl), "macsec9", "help"])
     listed = [line.split()[0] for line in told.stdout.splitlines()]
     wanted = families.names("requests")
     report(told.returncode == 0 and list(dict.fromkeys(listed)) == wanted, f"macsecctl help: {told}, and not {wanted}")
-    told = subprocess.run([macsecctl, "macsec9", "port"], capture_output=True, text=True)
-    report(
-        told.returncode == 1 and "is macsecd@macsec9 running?\n" in told.stderr, f"macsecctl without macsecd: {told}"
-    )
+    told = attempt([str(macsecctl), "macsec9", "port"])
+    asks = "is macsecd@macsec9 running?\n" in told.stderr
+    report(told.returncode == 1 and asks, f"macsecctl without macsecd: {told}")
 
 
 def check_log(end: End) -> None:
@@ -346,46 +338,21 @@ def has_carrier(end: End) -> bool:
 
 def random_line(rng: random.Random) -> str:
     """A line for the endpoint, of a few keys, associations and channels."""
-    an, key, sci = rng.randrange(4), rng.randrange(6), rng.choice([f"{'22' * 8}", f"{'33' * 8}"])
-    return rng.choice(
-        [
-            f"A key {key} {rng.randbytes(16).hex()} 0",
-            f"A key {key} {rng.randbytes(32).hex()} 0 gcm256",
-            f"A retire {key}",
-            f"A txsa {an} {key} 1 conf",
-            f"A txon {an}",
-            f"A txoff {an}",
-            f"A txdel {an}",
-            f"A rxsc {sci}",
-            f"A rxscdel {sci}",
-            f"A rxsa {sci} {an} {key} 1",
-            f"A rxon {sci} {an}",
-            f"A rxlow {sci} {an} {rng.randrange(1 << 32):x}",
-            f"A rxdel {sci} {an}",
-            "#",
-            "",
-            "A",
-            "A tag auto",
-        ]
-    )
+    an, key, sci = rng.randrange(4), rng.randrange(6), rng.choice(["22" * 8, "33" * 8])
+    keys = [f"A key {key} {rng.randbytes(16).hex()} 0", f"A key {key} {rng.randbytes(32).hex()} 0 gcm256"]
+    sends = [f"A retire {key}", f"A txsa {an} {key} 1 conf", f"A txon {an}", f"A txoff {an}", f"A txdel {an}"]
+    channels = [f"A rxsc {sci}", f"A rxscdel {sci}", f"A rxsa {sci} {an} {key} 1", f"A rxon {sci} {an}"]
+    channels += [f"A rxlow {sci} {an} {rng.randrange(1 << 32):x}", f"A rxdel {sci} {an}"]
+    return rng.choice([*keys, *sends, *channels, "#", "", "A", "A tag auto"])
 
 
 def random_request(end: End, rng: random.Random) -> str:
     """A line, or a request of the device."""
     if rng.random() < 0.7:
         return random_line(rng)
-    return rng.choice(
-        [
-            f"open {end.sci} gcm128",
-            f"open {end.sci} gcm256 auto",
-            "close",
-            f"port {rng.choice(['on', 'off'])}",
-            "json",
-            "numbers",
-            "metrics",
-            "\n".join(["load", *(random_line(rng) for _ in range(rng.randrange(5)))]),
-        ]
-    )
+    load = "\n".join(["load", *(random_line(rng) for _ in range(rng.randrange(5)))])
+    ports = [f"open {end.sci} gcm128", f"open {end.sci} gcm256 auto", "close", f"port {rng.choice(['on', 'off'])}"]
+    return rng.choice([*ports, "json", "numbers", "metrics", load])
 
 
 def make_sequence(end: End, rng: random.Random, count: int) -> None:
@@ -414,21 +381,16 @@ def check_port(end: End, peer: End) -> None:
 
 def check_owner(end: End) -> None:
     """A client that owns the device: others only read, and the port goes off when it has gone."""
-    owner, other = connected(end.socket, 5), connected(end.socket, 5)
-
-    def ask(client: socket.socket, request: bytes) -> str:
-        client.send(request)
-        return client.recv(1 << 20).decode()
-
-    report(ask(owner, b"own") == "ok\n" == ask(owner, b"own"), "`own`")
-    for request in (b"own", b"port off", b"A txoff 0", b"own\0", b"# none"):
-        report(ask(other, request) == "fault Owned\n", f"{request!r} of another client than the owner")
-    report(ask(other, b"numbers").startswith("tx 0 "), "another client than the owner can't read")
-    report(ask(owner, b"A txoff 0") == "ok\n" == ask(owner, b"A txon 0") and ping(end) == 3, "lines of the owner")
+    owner, other = Client(end), Client(end)
+    report(owner.ask("own") == "ok\n" == owner.ask("own"), "`own`")
+    for request in ("own", "port off", "A txoff 0", "own\0", "# none"):
+        report(other.ask(request) == "fault Owned\n", f"{request!r} of another client than the owner")
+    report(other.ask("numbers").startswith("tx 0 "), "another client than the owner can't read")
+    report(owner.ask("A txoff 0") == "ok\n" == owner.ask("A txon 0") and ping(end) == 3, "lines of the owner")
     owner.close()
     report(until(lambda: "the owner has gone" in end.log()), "no message when the owner has gone")
     report(ping(end, 2, seconds=0.1) == 0, "frames pass without the owner")
-    replies = ask(other, b"port on") == "ok\n" and until(lambda: ping(end, seconds=1) == 3)
+    replies = other.ask("port on") == "ok\n" and until(lambda: ping(end, seconds=1) == 3)
     report(replies, "no replies after `port on` of another client")
-    report(ask(other, b"own\0") == "fault Word\n", "a request with a zero")
+    report(other.ask("own\0") == "fault Word\n", "a request with a zero")
     other.close()

@@ -6,6 +6,7 @@ import concurrent.futures
 import contextlib
 import hashlib
 import json
+import math
 import pathlib
 import random
 import secrets
@@ -21,8 +22,8 @@ from typing import NamedTuple
 from house import ROOT
 from house.compiling import INCLUDED, WARNINGS
 from house.reporting import call, report, until
-from macsecd_handover import Client, dropped
-from macsecd_world import End, Packets, Stream, World, build, hand_over_lines
+from macsecd_handover import dropped, next_of
+from macsecd_world import Background, Client, End, Packets, Stream, World, build, hand_over_lines
 
 CHANNELS = 64
 
@@ -54,33 +55,28 @@ def sci_of(channel: int) -> str:
 # ---- No frame twice
 
 
-class Deliveries:
-    """What TAP delivers: the frames of each channel, in a thread."""
+class Deliveries(Background):
+    """What TAP delivers: the frames of each channel."""
 
     def __init__(self, end: End) -> None:
         self.tap = Packets(end.namespace, "macsec0")
-        self.frames: list[tuple[int, int]] = []
-        self.goes_on = True
-        self.thread = threading.Thread(target=self.run, daemon=True)
-        self.thread.start()
-
-    def run(self) -> None:
-        """Reads until it is stopped."""
         self.tap.socket.settimeout(0.05)
-        while self.goes_on:
-            with contextlib.suppress(OSError):
-                frame = self.tap.socket.recv(200)
-                if frame[12:14] == b"\x88\xb5":
-                    self.frames.append((frame[14], int.from_bytes(frame[15:19], "big")))
+        self.frames: list[tuple[int, int]] = []
+        super().__init__()
+
+    def step(self) -> None:
+        """Reads a frame."""
+        with contextlib.suppress(OSError):
+            frame = self.tap.socket.recv(200)
+            if frame[12:14] == b"\x88\xb5":
+                self.frames.append((frame[14], int.from_bytes(frame[15:19], "big")))
 
     def stop(self) -> list[tuple[int, int]]:
         """Stops it once no frame is left. Returns the frames."""
         count = -1
         while count != (count := len(self.frames)):
             time.sleep(0.1)
-        self.goes_on = False
-        self.thread.join()
-        self.tap.close()
+        self.join()
         return self.frames
 
 
@@ -94,9 +90,7 @@ class Receiver:
         for channel in range(CHANNELS):
             sci = sci_of(channel)
             lines += [f"A rxsc {sci}", f"A rxsa {sci} 0 9 1", f"A rxon {sci} 0"]
-        self.end.write_config()
-        lines += ["device receive ahead", "device shared", "device transient", ""]
-        self.end.config.write_text("\n".join(lines))
+        self.end.write("\n".join([*lines, "device receive ahead", "device shared", "device transient", ""]))
         self.end.create_journal()
 
     def send(self, first: int, count: int, rate: int) -> None:
@@ -159,17 +153,16 @@ def check_again(world: World, sender: pathlib.Path) -> None:
     end.start()
     begin = [f"A rxsa {sci} 0 9 1", f"A rxon {sci} 0"]
     afresh = [f"A key 9 {key} 0", f"A rxsc {sci}", *begin]
-    for number, (what, requests) in enumerate(
-        {
-            "rxdel": [f"A rxdel {sci} 0", *begin],
-            "rxscdel": [f"A rxscdel {sci}", f"A rxsc {sci}", *begin],
-            "load": ["load\n" + "\n".join([f"A rxdel {sci} 0", *begin])],
-            "loads": [f"load\nA rxdel {sci} 0", "load\n#", "load\n" + "\n".join(begin)],
-            "second": [f"A rxdel {sci} 0", *second_endpoint(), *begin],
-            "open": [f"open {end.sci} gcm128", *afresh, "port on"],
-            "close": ["close", f"open {end.sci} gcm128", *afresh, "port on"],
-        }.items()
-    ):
+    ways = {
+        "rxdel": [f"A rxdel {sci} 0", *begin],
+        "rxscdel": [f"A rxscdel {sci}", f"A rxsc {sci}", *begin],
+        "load": ["load\n" + "\n".join([f"A rxdel {sci} 0", *begin])],
+        "loads": [f"load\nA rxdel {sci} 0", "load\n#", "load\n" + "\n".join(begin)],
+        "second": [f"A rxdel {sci} 0", *second_endpoint(), *begin],
+        "open": [f"open {end.sci} gcm128", *afresh, "port on"],
+        "close": ["close", f"open {end.sci} gcm128", *afresh, "port on"],
+    }
+    for number, (what, requests) in enumerate(ways.items()):
         first = 1 + 30 * number
         receiver.send(first, 30, 20000)
         receiver.settle()
@@ -190,7 +183,7 @@ def check_last_records(world: World, sender: pathlib.Path) -> None:
     end = receiver.end
     end.start()
     receiver.send(1, 10, 20000)
-    journal = end.folder / "state/macsec0.journal"
+    journal = end.journal
     journal.rename(journal.with_suffix(".moved"))
     receiver.settle()
     status = end.stop()
@@ -217,31 +210,27 @@ class Polls:
         return float(words[1])
 
 
-class Manager:
+class Manager(Background):
     """A service manager, which notes the longest time between two reports that macsecd runs."""
 
     def __init__(self, path: pathlib.Path) -> None:
         self.socket = socket.socket(socket.AF_UNIX, socket.SOCK_DGRAM)
         self.socket.bind(str(path))
         self.socket.settimeout(0.05)
-        self.goes_on, self.longest, self.count = True, 0.0, 0
-        self.thread = threading.Thread(target=self.run, daemon=True)
-        self.thread.start()
+        self.longest, self.count, self.last = 0.0, 0, math.inf
+        super().__init__()
 
-    def run(self) -> None:
-        """Reads until it is stopped."""
-        last = None
-        while self.goes_on:
-            with contextlib.suppress(socket.timeout):
-                if self.socket.recv(100) == b"WATCHDOG=1":
-                    now = time.monotonic()
-                    self.longest = max(self.longest, now - (last or now))
-                    last, self.count = now, self.count + 1
+    def step(self) -> None:
+        """Reads a report."""
+        with contextlib.suppress(socket.timeout):
+            if self.socket.recv(100) == b"WATCHDOG=1":
+                now = time.monotonic()
+                self.longest = max(self.longest, now - self.last)
+                self.last, self.count = now, self.count + 1
 
     def stop(self) -> None:
         """Stops it."""
-        self.goes_on = False
-        self.thread.join()
+        self.join()
         self.socket.close()
 
 
@@ -288,7 +277,7 @@ def check_slow_disk(
     key = secrets.token_hex(16)
     client.carry_out(f"A key 7 {key} 0", "A txsa 1 7 1 conf", "A txdel 1", "A retire 7")
     slowest, after = polls.stop(), a.counters()
-    client.socket.close()
+    client.close()
     lost = after["device NoReservation"] - before["device NoReservation"]
     protected = after["OutPktsEncrypted"] - before["OutPktsEncrypted"]
     report(lost == 0, f"disk: {lost} of {sent} frames were lost without a reservation")
@@ -313,13 +302,8 @@ def check_slow_disk(
 def new_key(client: Client, number: int, key: str, peer: str) -> None:
     """A new key in both directions, as a key agreement installs it; the old one goes."""
     an, old, name, before = number % 4, (number - 1) % 4, number % 4096, (number - 1) % 4096
-    client.carry_out(
-        f"A key {name} {key} 0",
-        f"A rxsa {peer} {an} {name} 1",
-        f"A rxon {peer} {an}",
-        f"A txsa {an} {name} 1 conf",
-        f"A txon {an}",
-    )
+    client.carry_out(f"A key {name} {key} 0", f"A rxsa {peer} {an} {name} 1", f"A rxon {peer} {an}")
+    client.carry_out(f"A txsa {an} {name} 1 conf", f"A txon {an}")
     if number > 0:
         client.carry_out(f"A txdel {old}", f"A rxdel {peer} {old}", f"A retire {before}")
 
@@ -328,7 +312,7 @@ def use_keys(client: Client, keys: range, sender: pathlib.Path) -> tuple[float, 
     """New keys, one after another. A frame is sent under each, and under some one is received. Returns the seconds, the
     longest pause and the polls that show it."""
     injector, polls, began = Packets(client.end.namespace, "macsec0"), Polls(client.end, 0.002), time.monotonic()
-    peer = client.end.world.ends[2 - client.end.number].namespace
+    peer = client.end.peer.namespace
     for number in keys:
         key = secrets.token_hex(16)
         new_key(client, number, key, sci_of(5))
@@ -336,11 +320,9 @@ def use_keys(client: Client, keys: range, sender: pathlib.Path) -> tuple[float, 
         if number % 20 == 0:
             an = f"{number % 4}"
             call("ip", "netns", "exec", peer, str(sender), "sealed", "link0", key, "1", "1", "100000", an)
-            report(
-                until(lambda: f" 000000000000000{2} " in client.ask(f"numbers rx {sci_of(5)} {an}")), "keys: no frame"
-            )
+            is_next = lambda an=an: f" {2:016x} " in client.ask(f"numbers rx {sci_of(5)} {an}")
+            report(until(is_next), "keys: no frame")
     seconds, pause = time.monotonic() - began, polls.stop()
-    injector.close()
     return seconds, pause, polls
 
 
@@ -354,25 +336,22 @@ def take_over(end: End) -> Client:
 def check_many_keys(world: World, sender: pathlib.Path, keys: int, longest: float) -> None:
     """Keys of a key agreement, one after another: nothing pauses, and the journal stays short, also over a restart."""
     a = world.ends[0]
-    a.write_config()
-    a.config.write_text("device link link0\ndevice shared\ndevice transient\n")
+    a.write("device link link0\ndevice shared\ndevice transient\n")
     a.create_journal()
     a.prefix = ["chrt", "-f", "10"] if shutil.which("chrt") else []  # other processes make no pauses
     a.start()
     client = take_over(a)
     seconds, pause, polls = use_keys(client, range(keys), sender)
     shown, lacked = json.loads(client.ask("json")), a.counters()["device NoReservation"]
-    size = (a.folder / "state/macsec0.journal").stat().st_size
-    report(
-        pause < longest + polls.machine,
-        f"keys: a pause of {1000 * pause:.0f} ms, the machine {1000 * polls.machine:.0f}",
-    )
+    size = a.journal.stat().st_size
+    told = f"a pause of {1000 * pause:.0f} ms, the machine {1000 * polls.machine:.0f}"
+    report(pause < longest + polls.machine, f"keys: {told}")
     # The names of the last 256 keys that were given up stay, and the names of the keys in use.
     names = shown["journal_names"]
     report(256 <= names < 300, f"keys: the journal has {names} names after {keys} keys")
     report(size <= 1 << 17, f"keys: the journal has {size} octets after {keys} keys")
     report(lacked == 0, f"keys: {lacked} frames lacked a reservation")
-    client.socket.close()
+    client.close()
     a.stop(signal.SIGKILL)
     began = time.monotonic()
     a.start()
@@ -382,7 +361,7 @@ def check_many_keys(world: World, sender: pathlib.Path, keys: int, longest: floa
     use_keys(client, range(300), sender)
     names = json.loads(client.ask("json"))["journal_names"]
     report(names < 300, f"keys: the journal has {names} names after a restart and 300 keys")
-    client.socket.close()
+    client.close()
     print(
         f"keys: {keys} in {seconds:.1f} s, longest pause {1000 * pause:.1f} ms of {polls.count} answers (the "
         f"machine {1000 * polls.machine:.1f} ms), "
@@ -392,11 +371,6 @@ def check_many_keys(world: World, sender: pathlib.Path, keys: int, longest: floa
 
 
 # ---- Which names stay
-
-
-def next_of(client: Client, an: int) -> int:
-    """The next packet number of a transmit association."""
-    return int(client.ask(f"numbers tx {an}").split()[3], 16)
 
 
 def check_given_up(world: World) -> None:
@@ -419,11 +393,11 @@ def check_given_up(world: World) -> None:
     report(answers[0].startswith("ok pn"), f"given up: a recent key begins again at 1: {answers}")
     report(answers[1] == "ok\n", f"given up: an old key has not left the journal: {answers}")
     report(answers[2].startswith("ok pn"), f"given up: a key that came again before begins at 1: {answers}")
-    client.socket.close()
+    client.close()
     a.stop()
     log = len(a.log())
     a.start()
-    number, said = next_of(Client(a), 0), a.log()[log:]
+    number, said = next_of(a), a.log()[log:]
     report(number > 1000, f"given up: a key of the configuration begins again, at {number}: {said}")
 
 
@@ -441,7 +415,7 @@ def check_refused(world: World) -> None:
         report(answers[0] == "fault Count\n" and answers[1].startswith("refused"), f"refused: {answers}")
     median = sorted(took)[len(took) // 2]
     report(median < 0.5, f"refused: after a key was given up, the answer takes {1000 * median:.0f} ms")
-    client.socket.close()
+    client.close()
 
 
 # ---- Threads
@@ -449,12 +423,10 @@ def check_refused(world: World) -> None:
 
 def check_threads(world: World, programs: pathlib.Path) -> None:
     """Requests of several clients, frames and the thread of the journal, under ThreadSanitizer."""
-    world.prepare()
-    a, b = world.ends
+    a = world.ends[0]
     a.program = programs / "macsecd"
     a.more_environment = {"TSAN_OPTIONS": "exitcode=66 halt_on_error=1"}
-    for end in (a, b):
-        end.start()
+    world.start()
     stream = Stream(a, 0.001)
 
     def keys(own: int) -> None:
@@ -463,7 +435,7 @@ def check_threads(world: World, programs: pathlib.Path) -> None:
             client.carry_out(f"A key {number} {secrets.token_hex(16)} 0", f"A txsa {own} {number} 1 conf")
             client.carry_out(f"A txdel {own}", f"A retire {number}")
             client.ask(hand_over_lines(secrets.token_hex(16)) if number % 8 == 0 else "json")
-        client.socket.close()
+        client.close()
 
     try:
         with concurrent.futures.ThreadPoolExecutor() as pool:
@@ -485,7 +457,7 @@ def check_fill(world: World) -> None:
     """A journal that is half full, and one that is full."""
     world.prepare()
     a = world.ends[0]
-    journal = a.folder / "state/macsec0.journal"
+    journal = a.journal
     header = journal.read_bytes()[:64]
     for names, text in ((16000, ""), (16500, "is full to 50 percent"), (33000, "File too large")):
         journal.write_bytes(header + b"".join(record(5) for _ in range(names)))

@@ -28,8 +28,7 @@ class Secrets:
     """The keys that a macsecd has had, and parts of what was prepared from them."""
 
     def __init__(self, end: End) -> None:
-        assert end.process is not None
-        self.end, self.number = end, end.process.pid
+        self.end, self.number = end, end.pid
         self.parts: dict[bytes, dict[bytes, int]] = {}
         # The keys beside which each part was found. What is beside two of them is prepared from neither.
         self.beside: dict[bytes, set[bytes]] = {}
@@ -69,8 +68,7 @@ class Secrets:
 
 def check_locked(end: End) -> None:
     """The memory is locked, except the stack of the thread that writes the journal."""
-    assert end.process is not None
-    free = [it for it in mappings(end.process.pid) if "lo" not in it.flags]
+    free = [it for it in mappings(end.pid) if "lo" not in it.flags]
     size = sum(it.last - it.first for it in free)
     report(size <= LEFT, f"{size} octets in {[it.place for it in free]} are not locked")
     report("may be swapped" not in end.log(), f"a message about locked memory: {end.log()}")
@@ -78,8 +76,7 @@ def check_locked(end: End) -> None:
 
 def memory_at_exit(end: End, number: int = signal.SIGTERM) -> list[Region]:
     """Ends macsecd by a signal. Returns its memory when all its code has run."""
-    assert end.process is not None
-    pid = end.process.pid
+    pid = end.pid
     if LIBC.ptrace(SEIZE, pid, None, ctypes.c_void_p(STOPS_AT_EXIT)):
         raise Failed(f"ptrace: {os.strerror(ctypes.get_errno())}")
     os.kill(pid, number)
@@ -104,18 +101,14 @@ def change_keys(world: World, phase: int, octets: int) -> tuple[str, str]:
     an, old, key = phase % 4, (phase - 1) % 4, 2 * phase
     keys = secrets.token_hex(octets), secrets.token_hex(octets)
     for end in world.ends:
-        peer = world.ends[2 - end.number]
-        end.carry_out(
-            key_line(end, key, keys[end.number - 1]),
-            key_line(end, key + 1, keys[peer.number - 1]),
-            f"A rxsa {peer.sci} {an} {key + 1} 1 0000000{peer.number}",
-            f"A rxon {peer.sci} {an}",
-        )
+        peer = end.peer
+        end.carry_out(key_line(end, key, keys[end.number - 1]), key_line(end, key + 1, keys[peer.number - 1]))
+        end.carry_out(f"A rxsa {peer.sci} {an} {key + 1} 1 0000000{peer.number}", f"A rxon {peer.sci} {an}")
     for end in world.ends:
         end.carry_out(f"A txsa {an} {key} 1 conf", f"A txon {an}")
     report(ping(world.ends[0], 1) == 1, f"no reply under keys {phase}")
     for end in world.ends:
-        peer = world.ends[2 - end.number]
+        peer = end.peer
         end.carry_out(f"A txdel {old}", f"A rxdel {peer.sci} {old}", f"A retire {key - 2}", f"A retire {key - 1}")
     return keys
 
@@ -174,7 +167,6 @@ def check_end(a: End, known: Secrets, suite: str, octets: int) -> None:
     key = secrets.token_hex(octets)
     a.carry_out(f"open {a.sci} {suite}", key_line(a, 0, key), "A txsa 0 0 1 conf", "A txon 0", "port on")
     client.send(PLAIN + bytes(100))
-    client.close()
     known.note(key)
     known.judge("after open", [key])
     known.judge("at the end", memory=memory_at_exit(a))

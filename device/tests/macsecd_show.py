@@ -37,9 +37,8 @@ def rows_of_text(text: str) -> tuple[list[tuple[str, ...]], list[tuple[str, ...]
 
 def send_in_clear(end: End) -> None:
     """Brings a frame without a tag to LINK, from the other end of the wire."""
-    other = Packets(end.world.ends[2 - end.number].link_namespace, "link0")
+    other = Packets(end.peer.link_namespace, "link0")
     other.send(bytes.fromhex("ffffffffffff02000000009988b5") + bytes(50))
-    other.close()
 
 
 def check_rows(end: End) -> None:
@@ -51,7 +50,7 @@ def check_rows(end: End) -> None:
 
 def check_show(end: End) -> None:
     """The text of a device that has sent, received and dropped frames."""
-    peer = f"02000000000{3 - end.number}0001"
+    peer = end.peer.sci
     report(ping(end) == 3, "no replies")
     check_rows(end)
     text = end.ask("show")

@@ -20,9 +20,8 @@ def check_end(world: World, number: int, seconds: float) -> None:
     """A signal ends macsecd while frames are sent."""
     world.start()
     a = world.ends[0]
-    assert a.process is not None
     for each in (signal.SIGHUP, signal.SIGUSR1, signal.SIGUSR2, signal.SIGPIPE):
-        a.process.send_signal(each)
+        a.send_signal(each)
     stream = Stream(a, 0)
     time.sleep(seconds)
     began = time.monotonic()
@@ -49,17 +48,14 @@ def check_stops(world: World, programs: pathlib.Path, stops: int) -> None:
     streams = [Stream(a, 0.0005), Stream(b, 0.0005, port=9011)]
     for _ in range(stops):
         for end in world.ends:
-            assert end.process is not None
-            end.process.send_signal(signal.SIGSTOP)
+            end.send_signal(signal.SIGSTOP)
             time.sleep(0.002)
-            end.process.send_signal(signal.SIGCONT)
+            end.send_signal(signal.SIGCONT)
         time.sleep(0.002)
     for stream in streams:
         sent, arrived = stream.stop()
-        report(
-            sent == arrived == stream.received > 100,
-            f"signals: {sent} datagrams were sent, {arrived} arrived, " f"and {stream.received} with repeated ones",
-        )
+        told = f"{sent} datagrams were sent, {arrived} arrived, and {stream.received} with repeated ones"
+        report(sent == arrived == stream.received > 100, f"signals: {told}")
     after = settled(a, b)
     frames = [number for _, number in numbers_of(recorder.stop())]
     report(frames == list(range(frames[0], frames[0] + len(frames))), "signals: packet numbers do not rise by 1")

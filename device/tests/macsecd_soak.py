@@ -4,12 +4,13 @@ from __future__ import annotations
 
 import pathlib
 import random
-import threading
 import time
+from collections.abc import Sequence
 
 from house.reporting import report
 from macsecd_handover import clients, losses, rekey
-from macsecd_world import IN, OUT, RX, End, Packets, Stream, World, protected
+from macsecd_losses import settled
+from macsecd_world import IN, OUT, RX, Background, End, Packets, Stream, World, protected
 
 REKEYS = 60
 
@@ -21,15 +22,14 @@ GROWS = 64 + (REKEYS - 10) * 2 * 5
 WORDS = "A B key txsa txon rxsa rxsc numbers counters json metrics load own rx tx 0 1 3 4096 ffffffffffffffff #".split()
 
 
-class Noise:
-    """Random frames on LINK and random requests, in a thread, until it is stopped."""
+class Noise(Background):
+    """Random frames on LINK and random requests."""
 
     def __init__(self, end: End, peer: End, rng: random.Random, good: bytes) -> None:
         self.peer, self.rng, self.good = peer, rng, good
         self.injector = Packets(end.link_namespace, "link0")
-        self.frames, self.requests, self.goes_on = 0, 0, True
-        self.thread = threading.Thread(target=self.run)
-        self.thread.start()
+        self.frames, self.requests = 0, 0
+        super().__init__()
 
     def frame(self) -> bytes:
         """A frame of random octets, or a recorded one that is altered, cut or sent again."""
@@ -40,30 +40,22 @@ class Noise:
             frame[self.rng.randrange(12, len(frame))] = self.rng.randrange(256)
         return bytes(frame[: self.rng.randint(14, len(frame))])
 
-    def run(self) -> None:
-        """Sends some frames and requests ten times a second."""
-        while self.goes_on:
-            for _ in range(20):
-                self.injector.send(self.frame())
-                self.frames += 1
-            for _ in range(5):
-                words = self.rng.choices(WORDS, k=self.rng.randint(1, 5))
-                self.peer.ask("wrong " * (words[0] in ("own", "A", "load")) + " ".join(words))
-                self.requests += 1
-            time.sleep(0.1)
-
-    def stop(self) -> None:
-        """Stops it."""
-        self.goes_on = False
-        self.thread.join()
-        self.injector.close()
+    def step(self) -> None:
+        """Sends some frames and requests, ten times a second."""
+        for _ in range(20):
+            self.injector.send(self.frame())
+            self.frames += 1
+        for _ in range(5):
+            words = self.rng.choices(WORDS, k=self.rng.randint(1, 5))
+            self.peer.ask("wrong " * (words[0] in ("own", "A", "load")) + " ".join(words))
+            self.requests += 1
+        time.sleep(0.1)
 
 
 def heap_of(end: End) -> int:
     """The memory of the heap that its macsecd has used, in kB. Its addresses are there from the start."""
-    assert end.process is not None
     found, inside = 0, False
-    with open(f"/proc/{end.process.pid}/smaps", encoding="utf-8") as lines:
+    with open(f"/proc/{end.pid}/smaps", encoding="utf-8") as lines:
         for line in lines:
             inside = "[heap]" in line if "-" in line.split()[0] else inside
             found += int(line.split()[1]) if inside and line.startswith("Rss:") else 0
@@ -72,35 +64,21 @@ def heap_of(end: End) -> int:
 
 def resident(end: End) -> int:
     """All of its resident memory, in kB."""
-    assert end.process is not None
-    status = pathlib.Path(f"/proc/{end.process.pid}/status").read_text()
+    status = pathlib.Path(f"/proc/{end.pid}/status").read_text()
     return next(int(line.split()[1]) for line in status.splitlines() if line.startswith("VmRSS:"))
 
 
 def files_of(end: End) -> int:
     """How many files its macsecd has open."""
-    assert end.process is not None
-    return len(list(pathlib.Path(f"/proc/{end.process.pid}/fd").iterdir()))
+    return len(list(pathlib.Path(f"/proc/{end.pid}/fd").iterdir()))
 
 
-def settled(world: World) -> list[dict[str, int]]:
-    """The counters of both ends, when no frame is under way."""
-    for _ in range(50):
-        before = [end.counters() for end in world.ends]
-        time.sleep(0.3)
-        after = [end.counters() for end in world.ends]
-        if all(x[it] == y[it] for x, y in zip(before, after) for it in ("device LinkIn", "device LinkOut")):
-            return after
-    report(False, "frames come all the time")
-    return after
-
-
-def check_counts(world: World, before: list[dict[str, int]], noise: list[Noise]) -> None:
+def check_counts(world: World, before: Sequence[dict[str, int]], noise: list[Noise]) -> None:
     """Each frame is in the counters of both ends."""
-    after = settled(world)
+    after = settled(*world.ends)
     grown = [{name: now[name] - old.get(name, 0) for name in now} for now, old in zip(after, before)]
     for end, it, other, injected in zip(world.ends, grown, grown[::-1], noise[::-1]):
-        peer = world.ends[2 - end.number].sci
+        peer = end.peer.sci
         came = it["device LinkIn"] + it["device LinkLost"]
         sent = other["device LinkOut"] + injected.frames
         report(came == sent, f"{end.number}: {sent} frames were sent to it, and {came} counted")
@@ -121,6 +99,7 @@ def check_counts(world: World, before: list[dict[str, int]], noise: list[Noise])
 
 def check_soak(world: World, minutes: float, seed: str) -> None:
     """The run: datagrams, which all have to arrive, 60 changes of keys, and noise in both directions."""
+    world.start()
     a, b = world.ends
     link = Packets(b.link_namespace, "link0")
     streams = [Stream(a, 0.002, 400), Stream(b, 0.002, 400, port=9011)]
@@ -128,10 +107,10 @@ def check_soak(world: World, minutes: float, seed: str) -> None:
     for each in streams:
         each.stop()
     good = protected(link.frames(), a.sci)[0]
-    link.close()
-    before = settled(world)
+    link.socket.close()
+    before = settled(*world.ends)
     rng = random.Random(seed)
-    noise = [Noise(end, world.ends[2 - end.number], rng, good) for end in world.ends]
+    noise = [Noise(end, end.peer, rng, good) for end in world.ends]
     streams = [Stream(a, 0.002, 400), Stream(b, 0.002, 400, port=9011)]
     memory: list[list[int]] = []
     with clients(world) as pair:
@@ -145,7 +124,7 @@ def check_soak(world: World, minutes: float, seed: str) -> None:
         slowest = max(it.slowest for it in pair)
         files = [files_of(end) for end in world.ends]
     for each in noise:
-        each.stop()
+        each.join()
     for sent, arrived in (it.stop() for it in streams):
         report(sent == arrived and sent > 1000, f"{sent} datagrams were sent and {arrived} arrived")
         print(f"soak: {sent} datagrams were sent and {arrived} arrived", flush=True)

@@ -8,7 +8,6 @@ from __future__ import annotations
 
 import os
 import pathlib
-import socket
 import subprocess
 
 from house import ROOT
@@ -16,7 +15,7 @@ from house.compiling import INCLUDED, WARNINGS
 from house.reporting import Failed, call, report
 from macsecd_controls import altered
 from macsecd_losses import settled
-from macsecd_world import End, World, build, inside, tcp
+from macsecd_world import End, World, build, processor_time, tcp, udp_socket
 
 # The octets of a datagram whose Ethernet frame has 1,400.
 DATAGRAM = 1400 - 14 - 20 - 8
@@ -52,22 +51,13 @@ def frames_one_way(folder: pathlib.Path, programs: pathlib.Path, frames: int) ->
     with World(folder, programs) as world:
         world.start()
         a, b = world.ends
-        with inside(a.namespace):
-            sender = socket.socket(socket.AF_INET, socket.SOCK_DGRAM)
-        for _ in range(frames):
-            sender.sendto(bytes(DATAGRAM), ("10.9.0.2", 9))
-        sender.close()
+        with udp_socket(a.namespace) as sender:
+            for _ in range(frames):
+                sender.sendto(bytes(DATAGRAM), ("10.9.0.2", 9))
         settled(a, b)
         for end in world.ends:
             report(end.stop() == 0, f"{end.number}: {end.log()}")
         return clocked(a.log()), clocked(b.log())
-
-
-def processor_time(end: End) -> float:
-    """The microseconds of a processor that all threads of its macsecd have used, with those of the system for them."""
-    assert end.process is not None
-    threads = pathlib.Path(f"/proc/{end.process.pid}/task").glob("*/schedstat")
-    return sum(int(it.read_text().split()[0]) for it in threads) / 1000
 
 
 def run_tcp(folder: pathlib.Path, programs: pathlib.Path, octets: int) -> list[float]:
@@ -80,6 +70,9 @@ def run_tcp(folder: pathlib.Path, programs: pathlib.Path, octets: int) -> list[f
         seconds = tcp(world.ends[0], octets)
         times = [processor_time(end) - old for end, old in zip(world.ends, used)]
         after = settled(*world.ends)
+        report(
+            [it.stop() for it in world.ends] == [0, 0], f"macsecd does not end well: {[it.log() for it in world.ends]}"
+        )
     grown = [{name: now[name] - old[name] for name in now} for now, old in zip(after, before)]
     frames = grown[0]["device LinkOut"]
     lost = [it["device LinkLost"] + it["device LinkRefused"] + it["device TapRefused"] for it in grown]

@@ -5,11 +5,10 @@ from __future__ import annotations
 import os
 import pathlib
 import socket
-import struct
 import time
 
 from house.reporting import report
-from macsecd_world import End, World, checksum, inside, is_answered, tcp
+from macsecd_world import End, World, echo_request, inside, is_answered, tcp
 
 MOST = 8
 
@@ -27,8 +26,7 @@ def workers_of(end: End) -> int:
 def workers_at(end: End) -> list[pathlib.Path]:
     """The folders of its workers in /proc. Threads are listed in the order in which they began: the endpoint's thread,
     the journal's, and the workers'."""
-    assert end.process is not None
-    tasks = pathlib.Path(f"/proc/{end.process.pid}/task")
+    tasks = pathlib.Path(f"/proc/{end.pid}/task")
     return [tasks / it for it in os.listdir(tasks)[2:]]
 
 
@@ -64,8 +62,7 @@ def echoes(end: End, count: int, at_once: int) -> int:
     replies = 0
     for first in range(0, count, at_once):
         for sequence in range(first, first + at_once):
-            octets = struct.pack("!BBHHH", 8, 0, 0, 1, sequence) + bytes(56)
-            it.sendto(octets[:2] + struct.pack("!H", checksum(octets)) + octets[4:], (f"10.9.0.{3 - end.number}", 0))
+            it.sendto(echo_request(1, sequence), (f"10.9.0.{end.peer.number}", 0))
         replies += sum(is_answered(it, 4, 1, sequence, 5.0) for sequence in range(first, first + at_once))
         time.sleep(0.002)
     it.close()

@@ -4,9 +4,11 @@ from __future__ import annotations
 
 import contextlib
 import ctypes
+import json
 import os
 import pathlib
 import secrets
+import shutil
 import signal
 import socket
 import struct
@@ -26,6 +28,7 @@ SANITIZED = [*compiling.SANITIZED, "-O1", "-DMACSECD_UNFILTERED"]
 BOUND = ["-Wl,-z,relro", "-Wl,-z,now"]
 ALL_FRAMES = socket.htons(3)
 SOL_PACKET, PACKET_AUXDATA, VLAN_VALID = 263, 8, 1 << 4
+Ended = subprocess.CompletedProcess
 SALT = "0102030405060708090a0b0c"
 
 # The endpoint's counters: of frames of a receive channel, of other frames of LINK, and of frames of TAP.
@@ -47,11 +50,6 @@ def build(
     return out
 
 
-def late_frames(counters: dict[str, int], sci: str) -> int:
-    """How many frames of a receive channel were dropped as late."""
-    return counters[f"{sci} InPktsLate"]
-
-
 @contextlib.contextmanager
 def inside(namespace: str) -> Iterator[None]:
     """Lets this thread be in the network namespace of a name or path. A socket stays where it was made."""
@@ -69,7 +67,7 @@ def inside(namespace: str) -> Iterator[None]:
 
 
 class Packets:
-    """A packet socket in a namespace."""
+    """A packet socket in a namespace. It is closed when nothing refers to it any more."""
 
     def __init__(self, namespace: str, device: str) -> None:
         with inside(namespace):
@@ -93,9 +91,26 @@ class Packets:
                     got.append(with_tag(frame, about))
         return got
 
-    def close(self) -> None:
-        """Closes it."""
-        self.socket.close()
+
+@contextlib.contextmanager
+def judged(name: str) -> Iterator[None]:
+    """Notes an error of a check as something that does not hold, and prints how long the check takes."""
+    began = time.monotonic()
+    try:
+        yield
+    except (Failed, OSError, LookupError, ValueError, subprocess.SubprocessError) as why:
+        report(False, f"{name}: {type(why).__name__}: {why}")
+    print(f"{name}: {time.monotonic() - began:.1f} s", flush=True)
+
+
+def may_make_namespaces(*tools: str) -> bool:
+    """Are there these programs, and the right to make network namespaces and TAPs?"""
+    return (
+        os.geteuid() == 0
+        and all(map(shutil.which, ("ip", *tools)))
+        and os.path.exists("/dev/net/tun")
+        and subprocess.run(["unshare", "-m", "-n", "true"], capture_output=True).returncode == 0
+    )
 
 
 def with_tag(frame: bytes, about: list[tuple[int, int, bytes]]) -> bytes:
@@ -163,18 +178,44 @@ def let_go(holder: subprocess.Popen[bytes]) -> None:
     holder.wait()
 
 
-class Namespace:
-    """A namespace, and a folder with the files of a macsecd in it."""
+def as_nobody(rights: str) -> list[str]:
+    """A command that runs the one after it as another user, with some rights."""
+    words = "setpriv --reuid=65534 --regid=65534 --clear-groups".split()
+    return words + [f"--{each}=-all,{rights}" for each in ("inh-caps", "ambient-caps", "bounding-set")]
 
-    def __init__(self, namespace: str, folder: pathlib.Path) -> None:
-        self.namespace, self.folder = namespace, folder
+
+def lines_of_end(own: int, keys: Sequence[str], suite: str = "gcm128", max_frame: int = 1514) -> str:
+    """The lines of an endpoint, which sends under its own key, on association 0, and receives under the peer's."""
+    peer = 3 - own
+    return f"""end A {suite} 02000000000{own}0001 {max_frame} sci
+A key 0 {keys[own - 1]} 0 0000000{own} {SALT}
+A key 1 {keys[peer - 1]} 0 0000000{own} {SALT}
+A txsa 0 0 1 conf
+A txon 0
+A rxsc 02000000000{peer}0001
+A rxsa 02000000000{peer}0001 0 1 1 0000000{peer}
+A rxon 02000000000{peer}0001 0
+"""
+
+
+def attempt(words: Sequence[str], seconds: float = 60, environment: dict[str, str] | None = None) -> Ended:
+    """Runs a command, which may fail."""
+    return subprocess.run(
+        words, stdin=subprocess.DEVNULL, capture_output=True, text=True, timeout=seconds, env=environment
+    )
+
+
+class Namespace:
+    """A namespace, and a macsecd in it with a folder for its files."""
+
+    def __init__(self, namespace: str, folder: pathlib.Path, program: pathlib.Path) -> None:
+        self.namespace, self.folder, self.program = namespace, folder, program
+        self.config, self.journal = folder / "conf/macsec0.conf", folder / "state/macsec0.journal"
+        self.socket = str(folder / "run/macsec0.sock")
+        self.process: subprocess.Popen[bytes] | None = None
         self.more_environment: dict[str, str] = {}
         for each in ("conf", "state", "run"):
             (self.folder / each).mkdir(parents=True)
-
-    def ip(self, *words: str) -> str:
-        """Runs `ip` in the namespace."""
-        return call("ip", "-n", self.namespace, *words)
 
     @property
     def environment(self) -> dict[str, str]:
@@ -184,9 +225,77 @@ class Namespace:
         return {**os.environ, **more, "ASAN_OPTIONS": "detect_leaks=0", **self.more_environment}
 
     @property
-    def socket(self) -> str:
-        """The path of its control socket."""
-        return str(self.folder / "run/macsec0.sock")
+    def enter(self) -> list[str]:
+        """A command that runs the one after it in the namespace."""
+        return ["ip", "netns", "exec", self.namespace]
+
+    @property
+    def pid(self) -> int:
+        """The number of the process."""
+        assert self.process is not None
+        return self.process.pid
+
+    def ip(self, *words: str) -> str:
+        """Runs `ip` in the namespace."""
+        return call("ip", "-n", self.namespace, *words)
+
+    def sysctl(self, *settings: str) -> None:
+        """Sets kernel settings in the namespace."""
+        call("ip", "netns", "exec", self.namespace, "sysctl", "-qw", *settings)
+
+    def without_ipv6(self, device: str) -> None:
+        """Lets a device send nothing unasked."""
+        self.sysctl(f"net.ipv6.conf.{device}.disable_ipv6=1")
+
+    def write(self, text: str) -> None:
+        """Writes the configuration."""
+        self.config.write_text(text)
+        self.config.chmod(0o600)
+
+    def spawn(self, *words: str, log: str = "log", **more: str) -> subprocess.Popen[bytes]:
+        """Starts a program in the namespace, which writes into a log, with more environment variables."""
+        with open(self.folder / log, "ab") as it:
+            command, environment = [*self.enter, *words], {**self.environment, **more}
+            return subprocess.Popen(command, stdin=subprocess.DEVNULL, stdout=it, stderr=it, env=environment)
+
+    def attempt(self, *words: str, seconds: float = 60, **more: str) -> subprocess.CompletedProcess[str]:
+        """Runs a command in the namespace, which may fail, with more environment variables."""
+        return attempt([*self.enter, *words], seconds, {**self.environment, **more})
+
+    def run_program(self, *words: str) -> subprocess.CompletedProcess[str]:
+        """Runs macsecd until it ends."""
+        return self.attempt(str(self.program), *words, seconds=30)
+
+    def create_journal(self) -> None:
+        """Creates its journal, which is not there."""
+        ended = self.run_program("--create-journal", "macsec0")
+        if ended.returncode:
+            raise Failed(f"--create-journal: {ended.stderr}")
+
+    def launch(self, text: str) -> None:
+        """Starts macsecd with this configuration, and waits until it answers. If there is no journal it creates one."""
+        self.write(text)
+        if not self.journal.exists():
+            self.create_journal()
+        self.process = self.spawn(str(self.program), "macsec0")
+        self.wait_for_answer()
+
+    def wait_for_answer(self) -> None:
+        """Waits until macsecd answers."""
+        if not until(self.answers, 20):
+            raise Failed(f"macsecd does not answer: {self.log()}")
+
+    def answers(self) -> bool:
+        """Does macsecd answer? It is an error if it has ended."""
+        if self.process is not None and self.process.poll() is not None:
+            raise Failed(f"macsecd ended with {self.process.poll()}: {self.log()}")
+        with contextlib.suppress(OSError):
+            return bool(self.ask("port"))
+        return False
+
+    def log(self) -> str:
+        """What it said."""
+        return (self.folder / "log").read_text(errors="replace")
 
     def ask(self, *requests: str) -> str:
         """Makes requests over one connection. Returns the last answer."""
@@ -197,138 +306,6 @@ class Namespace:
                 got = it.recv(1 << 20)
         return got.decode()
 
-    def counters(self) -> dict[str, int]:
-        """The answer to `counters`."""
-        lines = (line.rsplit(" ", 1) for line in self.ask("counters").splitlines())
-        return {name: int(value) for name, value in lines}
-
-
-class End(Namespace):
-    """A namespace with a macsecd in it."""
-
-    isolated = False  # is LINK in a separate namespace?
-    workers: int | None = None  # how many threads do the work of the cipher; None: what macsecd takes
-
-    def __init__(self, world: World, number: int) -> None:
-        super().__init__(f"macsecd-{os.getpid()}-{world.folder.name}-{number}", world.folder / str(number))
-        self.world, self.number = world, number
-        self.sci = f"02000000000{number}0001"
-        self.process: subprocess.Popen | None = None
-        self.program = world.programs / "macsecd"
-        self.prefix: list[str] = []
-        self.holder: subprocess.Popen[bytes] | None = None
-
-    @property
-    def environment(self) -> dict[str, str]:
-        """Where macsecd finds its files, and macsec-link macsecd."""
-        return {"MACSECD": str(self.program), **super().environment}
-
-    @property
-    def enter(self) -> list[str]:
-        """A command that runs the one after it in the namespace."""
-        if self.holder is None:
-            return ["ip", "netns", "exec", self.namespace]
-        return ["nsenter", "-t", str(self.holder.pid), "-m", "-n"]
-
-    @property
-    def link_namespace(self) -> str:
-        """The namespace of LINK, as `inside` takes it."""
-        if self.holder is None:
-            return self.namespace
-        return f"/proc/{self.holder.pid}/root/run/netns/macsec-macsec0"
-
-    def isolate(self) -> None:
-        """Moves LINK into a separate namespace, if it is to be isolated, and makes TAP."""
-        if not self.isolated:
-            return
-        if self.holder is None:
-            self.holder = hold("nsenter", f"--net=/run/netns/{self.namespace}")
-        ended = subprocess.run(
-            [*self.enter, str(ROOT / "device/macsec-link"), "isolate", "macsec0"],
-            stdin=subprocess.DEVNULL,
-            capture_output=True,
-            text=True,
-            env=self.environment,
-        )
-        if ended.returncode:
-            raise Failed(f"macsec-link: {ended.stderr}")
-
-    @property
-    def config(self) -> pathlib.Path:
-        """The path of its configuration."""
-        return self.folder / "conf/macsec0.conf"
-
-    def write_config(self, suite: str = "gcm128", more: str = "", device: str = "device link link0\n") -> None:
-        """Writes a configuration: it sends under its own key, on association 0, and receives under the peer's."""
-        peer, own = 3 - self.number, self.number
-        keys = self.world.keys if suite.endswith("128") else [it * 2 for it in self.world.keys]
-        text = f"""{device}end A {suite} {self.sci} {self.world.max_frame} sci
-A key 0 {keys[own - 1]} 0 0000000{own} {SALT}
-A key 1 {keys[peer - 1]} 0 0000000{own} {SALT}
-A txsa 0 0 1 conf
-A txon 0
-A rxsc 02000000000{peer}0001
-A rxsa 02000000000{peer}0001 0 1 1 0000000{peer}
-A rxon 02000000000{peer}0001 0
-{more}"""
-        if self.workers is not None:
-            text += f"device workers {self.workers}\n"
-        if not self.isolated:
-            text += "device shared\n" + ("" if "device persist" in device else "device transient\n")
-        self.config.write_text(text)
-        self.config.chmod(0o600)
-
-    def run(self, *words: str) -> subprocess.CompletedProcess:
-        """Runs macsecd until it ends."""
-        command = [*self.enter, str(self.program), *words]
-        return subprocess.run(
-            command, stdin=subprocess.DEVNULL, capture_output=True, text=True, timeout=30, env=self.environment
-        )
-
-    def create_journal(self) -> None:
-        """Creates its journal."""
-        ended = self.run("--create-journal", "macsec0")
-        if ended.returncode:
-            raise Failed(f"--create-journal: {ended.stderr}")
-
-    def start(self, wait: bool = True) -> None:
-        """Starts macsecd, and gives its TAP addresses once it answers."""
-        log = open(self.folder / "log", "ab")
-        self.isolate()
-        command = [*self.enter, *self.prefix, str(self.program), "macsec0"]
-        self.process = subprocess.Popen(command, stdin=subprocess.DEVNULL, stdout=log, stderr=log, env=self.environment)
-        log.close()
-        if not wait:
-            return
-        if not until(self.answers, 20):
-            raise Failed(f"macsecd does not answer: {self.log()}")
-        self.start_addresses()
-
-    def start_addresses(self) -> None:
-        """Gives TAP its addresses."""
-        self.ip("addr", "replace", f"10.9.0.{self.number}/24", "dev", "macsec0")
-        self.ip("addr", "replace", f"fd09::{self.number}/64", "dev", "macsec0", "nodad")
-        self.ip("link", "set", "macsec0", "up")
-        peer = self.world.ends[2 - self.number]
-        self.ip("neigh", "replace", f"10.9.0.{peer.number}", "lladdr", peer.address(), "dev", "macsec0")
-
-    def address(self) -> str:
-        """LINK's address."""
-        with inside(self.link_namespace):
-            return call("ip", "-br", "link", "show", "link0").split()[2]
-
-    def answers(self) -> bool:
-        """Does macsecd answer? It is an error if it has ended."""
-        if self.process is not None and self.process.poll() is not None:
-            raise Failed(f"macsecd ended with {self.process.poll()}: {self.log()}")
-        with contextlib.suppress(OSError):
-            return self.ask("numbers") is not None
-        return False
-
-    def log(self) -> str:
-        """What it said."""
-        return (self.folder / "log").read_text(errors="replace")
-
     def carry_out(self, *lines: str) -> None:
         """Carries out lines. Each of them has to be done."""
         for line in lines:
@@ -336,12 +313,14 @@ A rxon 02000000000{peer}0001 0
             if not answer.startswith("ok"):
                 raise Failed(f"{line}: {answer}")
 
-    def hand_over(self, octets: int = 16) -> None:
-        """Lets a second endpoint take over: a copy does not know the retired keys, and takes the number of one."""
-        keys = [secrets.token_hex(octets) for _ in range(2)]
-        self.ask(f"A key 4000 {keys[0]} 0", "A retire 4000")
-        got = self.ask(hand_over_lines(keys[1]))
-        report(got == "1 ok\n2 ok\n", f"a second endpoint does not take over: {got}")
+    def counters(self) -> dict[str, int]:
+        """The answer to `counters`."""
+        lines = (line.rsplit(" ", 1) for line in self.ask("counters").splitlines())
+        return {name: int(value) for name, value in lines}
+
+    def send_signal(self, number: int) -> None:
+        """Sends a signal to macsecd."""
+        os.kill(self.pid, number)
 
     def ended(self, seconds: float = 15.0) -> int | None:
         """The exit status of macsecd, or None if it does not end."""
@@ -363,20 +342,140 @@ A rxon 02000000000{peer}0001 0
         return status
 
 
+class End(Namespace):
+    """A namespace with a macsecd in it."""
+
+    isolated = False  # is LINK in a separate namespace?
+    workers: int | None = None  # how many threads do the work of the cipher; None: what macsecd takes
+
+    def __init__(self, world: World, number: int) -> None:
+        name = f"macsecd-{os.getpid()}-{world.folder.name}-{number}"
+        super().__init__(name, world.folder / str(number), world.programs / "macsecd")
+        self.world, self.number = world, number
+        self.sci = f"02000000000{number}0001"
+        self.prefix: list[str] = []
+        self.holder: subprocess.Popen[bytes] | None = None
+
+    @property
+    def peer(self) -> End:
+        """The other end."""
+        return self.world.ends[2 - self.number]
+
+    @property
+    def environment(self) -> dict[str, str]:
+        """Where macsecd finds its files, and macsec-link macsecd."""
+        return {"MACSECD": str(self.program), **super().environment}
+
+    @property
+    def enter(self) -> list[str]:
+        """A command that runs the one after it in the namespace."""
+        return super().enter if self.holder is None else ["nsenter", "-t", str(self.holder.pid), "-m", "-n"]
+
+    @property
+    def link_namespace(self) -> str:
+        """The namespace of LINK, as `inside` takes it."""
+        if self.holder is None:
+            return self.namespace
+        return f"/proc/{self.holder.pid}/root/run/netns/macsec-macsec0"
+
+    def isolate(self) -> None:
+        """Moves LINK into a separate namespace, if it is to be isolated, and makes TAP."""
+        if not self.isolated:
+            return
+        if self.holder is None:
+            self.holder = hold("nsenter", f"--net=/run/netns/{self.namespace}")
+        ended = self.attempt(str(ROOT / "device/macsec-link"), "isolate", "macsec0")
+        if ended.returncode:
+            raise Failed(f"macsec-link: {ended.stderr}")
+
+    def write_config(self, suite: str = "gcm128", more: str = "", device: str = "device link link0\n") -> None:
+        """Writes a configuration."""
+        keys = self.world.keys if suite.endswith("128") else [it * 2 for it in self.world.keys]
+        text = device + lines_of_end(self.number, keys, suite, self.world.max_frame) + more
+        if self.workers is not None:
+            text += f"device workers {self.workers}\n"
+        if not self.isolated:
+            text += "device shared\n" + ("" if "device persist" in device else "device transient\n")
+        self.write(text)
+
+    def start(self, wait: bool = True) -> None:
+        """Starts macsecd, and gives its TAP addresses once it answers."""
+        self.isolate()
+        self.process = self.spawn(*self.prefix, str(self.program), "macsec0")
+        if wait:
+            self.wait_for_answer()
+            self.start_addresses()
+
+    def start_addresses(self) -> None:
+        """Gives TAP its addresses."""
+        self.ip("addr", "replace", f"10.9.0.{self.number}/24", "dev", "macsec0")
+        self.ip("addr", "replace", f"fd09::{self.number}/64", "dev", "macsec0", "nodad")
+        self.ip("link", "set", "macsec0", "up")
+        self.ip("neigh", "replace", f"10.9.0.{self.peer.number}", "lladdr", self.peer.address(), "dev", "macsec0")
+
+    def address(self) -> str:
+        """LINK's address."""
+        with inside(self.link_namespace):
+            return call("ip", "-br", "link", "show", "link0").split()[2]
+
+    def hand_over(self, octets: int = 16) -> None:
+        """Lets a second endpoint take over: a copy does not know the retired keys, and takes the number of one."""
+        keys = [secrets.token_hex(octets) for _ in range(2)]
+        self.ask(f"A key 4000 {keys[0]} 0", "A retire 4000")
+        got = self.ask(hand_over_lines(keys[1]))
+        report(got == "1 ok\n2 ok\n", f"a second endpoint does not take over: {got}")
+
+
 def hand_over_lines(key: str) -> str:
     """A request by which a second endpoint takes over, if the key 4000 is retired."""
     return f"load\nA key 4000 {key} 0\nA retire 4000"
 
 
-def expect(end: End, what: str, status: int, text: str) -> None:
+def expect(end: Namespace, what: str, status: int, text: str, before: Sequence[str] = ()) -> None:
     """macsecd must end at its start with this status and say this."""
     try:
-        ended = end.run("macsec0")
+        ended = end.attempt(*before, str(end.program), "macsec0", seconds=30)
     except subprocess.TimeoutExpired:
         report(False, f"{what}: macsecd runs")
         return
+    expect_end(ended, what, status, text)
+
+
+def expect_end(ended: Ended, what: str, status: int, text: str) -> None:
+    """A program must have ended with this status and said this."""
     holds = ended.returncode == status and text in ended.stderr
     report(holds, f"{what}: {ended.returncode}, {ended.stderr.strip()!r}, and not {status}, {text!r}")
+
+
+class Client:
+    """A connection to a control socket, for many lines."""
+
+    def __init__(self, end: Namespace) -> None:
+        self.end, self.socket = end, connected(end.socket, 20)
+        self.slowest = 0.0
+
+    def ask(self, request: str) -> str:
+        """Makes a request."""
+        began = time.monotonic()
+        self.socket.send(request.encode())
+        answer = self.socket.recv(1 << 20).decode()
+        self.slowest = max(self.slowest, time.monotonic() - began)
+        return answer
+
+    def carry_out(self, *lines: str) -> None:
+        """Carries out lines. None may be refused."""
+        for line in lines:
+            answer = self.ask(line)
+            if not answer.startswith("ok"):
+                raise Failed(f"{line}: {answer}")
+
+    def close(self) -> None:
+        """Ends it."""
+        self.socket.close()
+
+    def keys_left(self) -> int:
+        """How many keys the endpoint can still take."""
+        return json.loads(self.ask("json"))["keys_left"]
 
 
 class World:
@@ -391,8 +490,7 @@ class World:
     def __enter__(self) -> World:
         for end in self.ends:
             call("ip", "netns", "add", end.namespace)
-            settings = ["net.ipv6.conf.default.disable_ipv6=0", "net.ipv6.conf.all.accept_dad=0"]
-            call("ip", "netns", "exec", end.namespace, "sysctl", "-qw", *settings)
+            end.sysctl("net.ipv6.conf.default.disable_ipv6=0", "net.ipv6.conf.all.accept_dad=0")
             end.ip("link", "set", "lo", "up")
         self.join("link0")
         return self
@@ -402,8 +500,7 @@ class World:
         a, b = (end.namespace for end in self.ends)
         call("ip", "link", "add", name, "netns", a, "type", "veth", "peer", "name", name, "netns", b)
         for end in self.ends:
-            quiet = f"net.ipv6.conf.{name}.disable_ipv6=1"
-            call("ip", "netns", "exec", end.namespace, "sysctl", "-qw", quiet)
+            end.without_ipv6(name)
             end.ip("link", "set", name, "mtu", str(self.mtu), "up")
 
     def prepare(self, suite: str = "gcm128", more: str = "") -> None:
@@ -412,9 +509,9 @@ class World:
             end.write_config(suite, more)
             end.create_journal()
 
-    def start(self, suite: str = "gcm128") -> None:
+    def start(self, suite: str = "gcm128", more: str = "") -> None:
         """Writes configurations and journals, and starts both ends."""
-        self.prepare(suite)
+        self.prepare(suite, more)
         for end in self.ends:
             end.isolate()  # while one LINK moves, the other has no carrier
         for end in self.ends:
@@ -422,8 +519,7 @@ class World:
 
     def __exit__(self, *_: object) -> None:
         for end in self.ends:
-            if end.process is not None:
-                end.stop(signal.SIGKILL)
+            end.stop(signal.SIGKILL)
         for end in self.ends:
             if end.holder is not None:
                 let_go(end.holder)
@@ -433,12 +529,57 @@ class World:
 # ---- Traffic of the clients
 
 
+def processor_time(end: Namespace) -> float:
+    """The microseconds of a processor that all threads of its macsecd have used, with those of the system for them."""
+    threads = pathlib.Path(f"/proc/{end.pid}/task").glob("*/schedstat")
+    return sum(int(it.read_text().split()[0]) for it in threads) / 1000
+
+
 def checksum(octets: bytes) -> int:
     """The Internet checksum."""
     total = sum(struct.unpack(f"!{len(octets) // 2}H", octets[: len(octets) // 2 * 2]))
     total += octets[-1] << 8 if len(octets) % 2 else 0
     total = (total & 0xFFFF) + (total >> 16)
     return ~((total & 0xFFFF) + (total >> 16)) & 0xFFFF
+
+
+def echo_request(name: int, sequence: int, data: bytes = bytes(56)) -> bytes:
+    """An echo request of IPv4."""
+    octets = struct.pack("!BBHHH", 8, 0, 0, name, sequence) + data
+    return octets[:2] + struct.pack("!H", checksum(octets)) + octets[4:]
+
+
+def udp_socket(namespace: str, port: int = 0, address: str = "0.0.0.0") -> socket.socket:
+    """A socket for datagrams in a namespace, of IPv6 if the address is."""
+    with inside(namespace):
+        it = socket.socket(socket.AF_INET6 if ":" in address else socket.AF_INET, socket.SOCK_DGRAM)
+    it.setsockopt(socket.SOL_SOCKET, 33, 64 << 20)  # SO_RCVBUFFORCE
+    it.setsockopt(socket.SOL_SOCKET, socket.SO_REUSEADDR, 1)  # a process that begins can have the last one still open
+    it.bind((address, port))
+    return it
+
+
+class Background:
+    """Does a step again and again in a thread, until it is stopped."""
+
+    def __init__(self) -> None:
+        self.goes_on = True
+        self.thread = threading.Thread(target=self.run, daemon=True)
+        self.thread.start()
+
+    def run(self) -> None:
+        """Does them."""
+        while self.goes_on:
+            self.step()
+
+    def step(self) -> None:
+        """Does one."""
+        raise NotImplementedError
+
+    def join(self) -> None:
+        """Ends the thread."""
+        self.goes_on = False
+        self.thread.join()
 
 
 def ping(end: End, count: int = 3, size: int = 56, seconds: float = 5.0, version: int = 4) -> int:
@@ -451,9 +592,9 @@ def ping(end: End, count: int = 3, size: int = 56, seconds: float = 5.0, version
         it.setsockopt(socket.IPPROTO_IP, 10, 2)  # IP_MTU_DISCOVER: IP_PMTUDISC_DO
     replies, name = 0, secrets.randbelow(65536)
     for sequence in range(count):
-        octets = struct.pack("!BBHHH", 8 if version == 4 else 128, 0, 0, name, sequence) + bytes(size)
-        if version == 4:
-            octets = octets[:2] + struct.pack("!H", checksum(octets)) + octets[4:]
+        octets = echo_request(name, sequence, bytes(size))
+        if version == 6:
+            octets = struct.pack("!BBHHH", 128, 0, 0, name, sequence) + bytes(size)
         with contextlib.suppress(OSError):
             it.sendto(octets, (target, 0))
             replies += is_answered(it, version, name, sequence, seconds)
@@ -483,14 +624,8 @@ class Stream:
     """Numbered datagrams from one client to the other, in a thread, until it is stopped."""
 
     def __init__(self, end: End, interval: float, size: int = 64, port: int = 9009) -> None:
-        peer = end.world.ends[2 - end.number]
-        with inside(peer.namespace):
-            self.receiver = socket.socket(socket.AF_INET, socket.SOCK_DGRAM)
-            self.receiver.setsockopt(socket.SOL_SOCKET, 33, 64 << 20)  # SO_RCVBUFFORCE
-            self.receiver.bind(("0.0.0.0", port))
-        with inside(end.namespace):
-            self.sender = socket.socket(socket.AF_INET, socket.SOCK_DGRAM)
-        self.target, self.interval, self.size = (f"10.9.0.{peer.number}", port), interval, size
+        self.receiver, self.sender = udp_socket(end.peer.namespace, port), udp_socket(end.namespace)
+        self.target, self.interval, self.size = (f"10.9.0.{end.peer.number}", port), interval, size
         self.sent, self.received, self.goes_on = 0, 0, True
         self.arrived: set[bytes] = set()
         self.threads = [threading.Thread(target=each) for each in (self.send, self.receive)]
@@ -529,17 +664,22 @@ class Stream:
 
 def tcp_pair(end: End) -> tuple[socket.socket, socket.socket]:
     """A TCP connection from one client to the other: the socket that sends, and the one that receives."""
-    peer = end.world.ends[2 - end.number]
-    with inside(peer.namespace):
-        listener = socket.create_server(("0.0.0.0", 9010))
-    with inside(end.namespace):
-        sender = socket.socket(socket.AF_INET, socket.SOCK_STREAM)
-    listener.settimeout(20)
-    sender.settimeout(20)
-    sender.connect((f"10.9.0.{peer.number}", 9010))
-    receiver, _ = listener.accept()
+    return connect(end, end.peer, f"10.9.0.{end.peer.number}")
+
+
+def connect(by: Namespace, to: Namespace, address: str) -> tuple[socket.socket, socket.socket]:
+    """A TCP connection to an address in another namespace: the socket that connects, and the one that accepts."""
+    family = socket.AF_INET6 if ":" in address else socket.AF_INET
+    with inside(to.namespace):
+        listener = socket.create_server((address, 9010), family=family)
+    with inside(by.namespace):
+        sender = socket.socket(family, socket.SOCK_STREAM)
+    with listener:
+        for each in (listener, sender):
+            each.settimeout(20)
+        sender.connect((address, 9010))
+        receiver, _ = listener.accept()
     receiver.settimeout(20)
-    listener.close()
     return sender, receiver
 
 

@@ -17,8 +17,8 @@ from re import Pattern
 from typing import NamedTuple
 
 from house import captures
-from house.reporting import Failed, call, until
-from macsecd_world import ALL_FRAMES, Namespace, checksum, connected, inside
+from house.reporting import call
+from macsecd_world import ALL_FRAMES, Namespace, connected, echo_request, inside
 
 CAK, CKN = secrets.token_hex(16), secrets.token_hex(32)
 MACSEC, EAPOL = "88e5", "888e"
@@ -50,41 +50,20 @@ class End(Namespace):
 
     def __init__(self, world: World, number: int, settings: dict[str, str]) -> None:
         self.name = "abc"[number - 1]
-        super().__init__(f"{world.prefix}{self.name}", world.folder / self.name)
+        super().__init__(f"{world.prefix}{self.name}", world.folder / self.name, world.programs / "macsecd")
         self.world, self.number, self.settings = world, number, settings
         self.address, self.mac = f"10.9.0.{number}", f"02:00:00:00:00:0{number}"
         self.sci = f"02000000000{number}0001"
         self.allow: list[str] = []
         self.relay: Relay | None = None
-        self.device: subprocess.Popen[bytes] | None = None
         self.wpa: subprocess.Popen[bytes] | None = None
-
-    def spawn(self, log: str, *words: str) -> subprocess.Popen[bytes]:
-        with open(self.folder / log, "ab") as it:
-            command = ["ip", "netns", "exec", self.namespace, *words]
-            return subprocess.Popen(command, stdin=subprocess.DEVNULL, stdout=it, stderr=it, env=self.environment)
 
     def start_device(self) -> None:
         """Starts macsecd, and gives its TAP an address."""
         lines = ["device link link0", "device shared", *(f"device allow {it}" for it in self.allow)]
-        config = self.folder / "conf/macsec0.conf"
-        config.write_text("\n".join(lines) + "\n")
-        config.chmod(0o600)
-        program = str(self.world.programs / "macsecd")
-        if not (self.folder / "state/macsec0.journal").exists():
-            self.spawn("macsecd.log", program, "--create-journal", "macsec0").wait(10)
-        self.device = self.spawn("macsecd.log", program, "macsec0")
-        if not until(self.answers, 20):
-            raise Failed(f"macsecd does not answer: {(self.folder / 'macsecd.log').read_text()}")
+        self.launch("\n".join(lines) + "\n")
         self.ip("addr", "replace", f"{self.address}/24", "dev", "macsec0")
         self.ip("link", "set", "macsec0", "up")
-
-    def answers(self) -> bool:
-        if self.device is not None and self.device.poll() is not None:
-            raise Failed(f"macsecd ended: {(self.folder / 'macsecd.log').read_text()}")
-        with contextlib.suppress(OSError):
-            return bool(self.ask("numbers"))
-        return False
 
     def start_wpa(self) -> None:
         path = self.relay.path if self.relay else self.socket
@@ -92,7 +71,8 @@ class End(Namespace):
         config.write_text(f"ctrl_interface={self.folder}/control\ndriver_param=socket={path}\n{network(self.settings)}")
         config.chmod(0o600)
         program = str(self.world.wpa / "wpa_supplicant")
-        self.wpa = self.spawn("wpa.log", program, "-D", "macsec_macsecd", "-i", "link0", "-c", str(config), "-ddtK")
+        words = ["-D", "macsec_macsecd", "-i", "link0", "-c", str(config), "-ddtK"]
+        self.wpa = self.spawn(program, *words, log="wpa.log")
 
     def start(self) -> None:
         self.start_device()
@@ -103,8 +83,15 @@ class End(Namespace):
         return self.ask("port").strip() == "port on"
 
     def cli(self, *words: str) -> str:
-        there = ["ip", "netns", "exec", self.namespace]
-        command = [*there, str(self.world.wpa / "wpa_cli"), "-p", str(self.folder / "control"), "-i", "link0", *words]
+        command = [
+            *self.enter,
+            str(self.world.wpa / "wpa_cli"),
+            "-p",
+            str(self.folder / "control"),
+            "-i",
+            "link0",
+            *words,
+        ]
         return subprocess.run(command, stdin=subprocess.DEVNULL, capture_output=True, text=True).stdout
 
     def status(self) -> dict[str, str]:
@@ -116,9 +103,9 @@ class End(Namespace):
         """When wpa_supplicant logged lines with this pattern."""
         return logged(self.folder / "wpa.log", pattern)
 
-    def stop(self) -> None:
+    def close(self) -> None:
         stopped(self.wpa)
-        stopped(self.device)
+        stopped(self.process)
         if self.relay:
             self.relay.close()
 
@@ -182,14 +169,14 @@ class World:
 
     def __enter__(self) -> World:
         call("ip", "netns", "add", self.hub)
-        quiet = ["sysctl", "-qw", "net.ipv6.conf.all.disable_ipv6=1", "net.ipv6.conf.default.disable_ipv6=1"]
-        call("ip", "netns", "exec", self.hub, *quiet)
+        quiet = ["net.ipv6.conf.all.disable_ipv6=1", "net.ipv6.conf.default.disable_ipv6=1"]
+        call("ip", "netns", "exec", self.hub, "sysctl", "-qw", *quiet)
         call("ip", "-n", self.hub, "link", "add", "hub0", "type", "bridge", "mcast_snooping", "0")
         self.forward_eapol(True)
         call("ip", "-n", self.hub, "link", "set", "hub0", "up")
         for end in self.ends:
             call("ip", "netns", "add", end.namespace)
-            call("ip", "netns", "exec", end.namespace, *quiet)
+            end.sysctl(*quiet)
             end.ip("link", "set", "lo", "up")
             port = f"p{end.number}"
             end.ip("link", "add", "link0", "address", end.mac, "type", "veth", "peer", "name", port, "netns", self.hub)
@@ -236,7 +223,7 @@ class World:
         for ping in self.pings:
             ping.goes_on = False
         for end in self.ends:
-            end.stop()
+            end.close()
         for process in self.processes:
             stopped(process)
         self.capture.goes_on = False
@@ -272,8 +259,7 @@ class Ping:
         """Sends until it is stopped, and catches up if it is late. What the system refuses has no reply either."""
         begun = time.monotonic()
         while self.goes_on:
-            octets = struct.pack("!BBHHHI", 8, 0, 0, self.name, self.sent & 0xFFFF, self.sent) + bytes(48)
-            octets = octets[:2] + struct.pack("!H", checksum(octets)) + octets[4:]
+            octets = echo_request(self.name, self.sent & 0xFFFF, self.sent.to_bytes(4, "big") + bytes(48))
             with contextlib.suppress(OSError):
                 self.socket.sendto(octets, (self.target, 0))
             self.sent += 1
@@ -372,9 +358,3 @@ class Relay(threading.Thread):
 
     def close(self) -> None:
         self.listener.close()
-
-
-def ivs(records: list[tuple[str, str, int]]) -> tuple[int, int]:
-    """Of opened frames, each as key, SCI and packet number: how many IVs there are, and how many occur twice."""
-    count = len(set(records))
-    return count, len(records) - count
