@@ -27,6 +27,13 @@ class Sak(ctypes.Structure):
     ]  # fmt: skip
 
 
+class Command(ctypes.Structure):
+    _fields_ = [
+        ("sak", Sak), ("pn", c_uint64), ("sci", Sci), ("ssci", c_uint32), ("kind", c_uint32), ("choice", c_uint32),
+        ("key", c_uint16), ("an", c_uint8), ("flag", c_uint8), ("reserved", c_uint64 * 5),
+    ]  # fmt: skip
+
+
 class Sent(ctypes.Structure):
     _fields_ = [
         ("frame", c_void_p), ("length", c_size_t), ("status", c_uint32), ("fate", c_uint32), ("key", c_uint16),
@@ -98,9 +105,9 @@ class Record(ctypes.Structure):
 
 # The structures by their names in the header without macsec_.
 STRUCTURES = {
-    "endpoint": Endpoint, "config": Config, "sak": Sak, "sent": Sent, "received": Received, "options": Options,
-    "counters": Counters, "tx_counters": TxCounters, "rx_counters": RxCounters, "tx_sa": TxSa, "rx_sa": RxSa,
-    "record": Record,
+    "endpoint": Endpoint, "config": Config, "sak": Sak, "command": Command, "sent": Sent, "received": Received,
+    "options": Options, "counters": Counters, "tx_counters": TxCounters, "rx_counters": RxCounters, "tx_sa": TxSa,
+    "rx_sa": RxSa, "record": Record,
 }  # fmt: skip
 
 # The arguments of each call after the handle. An SCI and a frame are octets that the call only reads.
@@ -152,6 +159,8 @@ CALLS = {
 }
 # The calls without a handle.
 FREE_CALLS = {
+    "parse_line_raw": (c_char_p, c_size_t, _TO_FILL),
+    "parse_end_raw": (c_char_p, c_size_t, _TO_FILL),
     "journal_header": (c_char_p, _TO_FILL),
     "journal_compacted_raw": (c_char_p, c_size_t, _TO_FILL, c_size_t, _TO_FILL),
     "seal_raw": (_TO_FILL, _SCI, c_uint64, c_bool, c_size_t, _TO_FILL, c_size_t),

@@ -92,7 +92,7 @@ class Associations:
         command = next((it for it in self._configuration.commands if it.line == change.line), None)
         if change.cause != "refused" or command is None or command.keyword != "rxsa":
             return change
-        digits = f"{command.values[3]:x}"
+        digits = f"{command.pn:x}"
         if len(digits) < 9 or not digits.isdecimal():
             return change
         return change._replace(text=f"{change.text}; packet numbers are hex, and decimal {digits} is {int(digits):x}")
@@ -101,14 +101,18 @@ class Associations:
         """The first refused line without which there is no such association: for its key, its channel or itself."""
         configuration = self._configuration
         refusals = {it.line: it for it in configuration.refusals}
-        wanted = [it for it in configuration.commands if it.keyword == "rxsa" and it.values[:2] == (sci, an)]
-        keys = [it.values[2] for it in wanted]
+        wanted = self._lines_of(sci, an)
+        keys = [it.key for it in wanted]
         for command in configuration.commands:
-            is_of = command.keyword == "key" and command.values[0] in keys
-            is_of = is_of or command.keyword == "rxsc" and command.values[0] == sci or command in wanted
+            is_of = command.keyword == "key" and command.key in keys
+            is_of = is_of or command.keyword == "rxsc" and command.sci == sci or command in wanted
             if is_of and command.line in refusals:
                 return command, refusals[command.line]
         return None
+
+    def _lines_of(self, sci: bytes, an: int) -> list[Command]:
+        """The lines `rxsa` for an association."""
+        return [it for it in self._configuration.commands if (it.keyword, it.sci, it.an) == ("rxsa", sci, an)]
 
     def settings(self, an: int) -> list[Setting]:
         """What CONFIG opens frames with an association number under, whoever sends them."""
@@ -131,11 +135,10 @@ class Associations:
         sci, an = sender_of(frame, tag), tag.an
         refused = self._configuration.refused_keys()
         lines = {**{it.number: it for it in refused}, **self._configuration.keys}
-        for it in self._configuration.commands:
-            line = lines.get(it.values[2]) if it.keyword == "rxsa" and it.values[:2] == (sci, an) else None
-            if line:
-                ssci = int.from_bytes(it.values[4], "big") if len(it.values) > 4 else 1
-                yield Setting(key_of(line), sci, an, ssci, it.values[3] >> 32)
+        for it in self._lines_of(sci, an):
+            if it.key in lines:
+                # Without an SSCI it is likely the first one.
+                yield Setting(key_of(lines[it.key]), sci, an, it.ssci or 1, it.pn >> 32)
         for row in sorted(rows, key=lambda it: (it.sci != sci) + (it.an != an)):
             setting = self.setting_of(row._replace(sci=sci, an=an))
             if setting:

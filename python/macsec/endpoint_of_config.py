@@ -40,11 +40,9 @@ _OTHER_LENGTH = {it: suite_of(32 if it.key_octets == 16 else 16, it.is_extended)
 
 
 def key_line(command: Command, default: Suite) -> KeyLine:
-    """The key of a line `key`. After the offset come no words, a suite, an SSCI and a salt, or all three."""
-    number, octets, offset, *rest = command.values
-    suite = Suite[rest[0]] if len(rest) in (1, 3) else default
-    ssci, salt = rest[-2:] if len(rest) > 1 else (bytes(4), bytes(12))
-    return KeyLine(command.line, number, octets, offset, suite, int.from_bytes(ssci, "big"), salt)
+    """The key of a line `key`. One that names no suite is of the endpoint's."""
+    it = command
+    return KeyLine(it.line, it.key, it.octets, it.offset, it.suite or default, it.ssci, it.salt)
 
 
 def without_device_lines(text: bytes) -> bytes:
@@ -53,21 +51,18 @@ def without_device_lines(text: bytes) -> bytes:
     >>> without_device_lines(b" device link eth0\\nend A\\ndevices\\n")
     b' #evice link eth0\\nend A\\ndevices\\n'
     """
-    return re.sub(rb"^([ \t]*)device(?=[ \t\r]|$)", rb"\1#evice", text, flags=re.M)
+    return re.sub(rb"^((?:\xef\xbb\xbf)?[ \t]*)device(?=[ \t\r]|$)", rb"\1#evice", text, flags=re.M)
 
 
 class Configuration:
     """A CONFIG that the library has carried out; or macsecd's file, without what is for the device alone."""
 
     def __init__(self, text: bytes) -> None:
-        self.commands, faults = parse(without_device_lines(text))
-        if faults:
+        end, self.commands, faults = parse(without_device_lines(text))
+        if faults or end is None:
             raise UsageError(str(faults[0]))
         self.text = text
-        end = self.commands[0]
-        self.end_line = end.line
-        _, suite, self.sci, self.max_frame, self.form = end.values
-        self.suite = Suite[suite]
+        self.end_line, self.suite, self.sci, self.max_frame, self.form = end
         self.keys: dict[int, KeyLine] = {}
         self.refusals: list[Refusal] = []
         self._lines = text.split(b"\n")
@@ -79,14 +74,13 @@ class Configuration:
     def _made(self, is_first: bool) -> SecY:
         """An endpoint of this text."""
         secy = SecY(self.sci, self.suite, self.form, self.max_frame)
-        for command in self.commands[1:]:
+        for command in self.commands:
             try:
                 secy.command(self._lines[command.line - 1])
             except Refused as why:
                 if is_first:
-                    self.refusals.append(
-                        Refusal(command.line, why.number, why.name, str(error(why.number, command.line)))
-                    )
+                    told = str(error(why.number, command.line))
+                    self.refusals.append(Refusal(command.line, why.number, why.name, told))
                 continue
             if is_first and command.keyword == "key":
                 made = key_line(command, self.suite)
@@ -148,8 +142,8 @@ class Configuration:
             self._alone = self.fresh()
         return self._alone
 
-    def _line_of(self, keyword: str, *values: object) -> int | None:
-        found = [it.line for it in self.commands if it.keyword == keyword and it.values[: len(values)] == values]
+    def _line_of(self, *wanted: object) -> int | None:
+        found = [it.line for it in self.commands if (it.keyword, it.sci, it.an) == wanted]
         return found[-1] if found else None
 
     def line_of_rxsa(self, sci: bytes, an: int) -> int | None:
@@ -158,8 +152,8 @@ class Configuration:
 
     def line_of_rxsc(self, sci: bytes) -> int | None:
         """The number of the last line `rxsc` for a channel."""
-        return self._line_of("rxsc", sci)
+        return self._line_of("rxsc", sci, 0)
 
     def line_of_validate(self) -> int | None:
         """The number of the last line `validate`."""
-        return self._line_of("validate")
+        return self._line_of("validate", bytes(8), 0)

@@ -1,25 +1,61 @@
-"""The lines of a CONFIG (macsec(5)): what each word has to be, and what is wrong with one.
+"""The lines of a CONFIG (macsec(5)). The library reads each one, and says whether it is a line and what it means.
 
-The program reports the first fault of the first line that has one, by its name. This reads the same language, reports
-every line, and says which word is wrong and what is expected.
+It names the first fault of a line. This finds which argument that is, and says what is expected there: it asks the
+library about the same line with all other arguments replaced by right ones.
 """
 
 from __future__ import annotations
 
+import ctypes
 import difflib
+import itertools
 from collections.abc import Sequence
-from typing import Any, Callable, NamedTuple
+from typing import NamedTuple
 
-from . import names
-from .errors import without_keys
+from . import _library
+from .errors import MEANINGS, MacsecError, error, without_keys
+from .names import SUITES, Form, Kind, Status, Suite
+from .secy import SecY
 
-MOST_OCTETS, MOST_LINES, LONGEST_LINE = 1_048_576, 65_536, 20_000
-BYTE_ORDER_MARK = b"\xef\xbb\xbf".decode("latin-1")
-HEX_DIGITS = frozenset("0123456789abcdefABCDEF")
+# What is read of a file: the library takes no longer text.
+MOST_OCTETS = 1_048_576
+BYTE_ORDER_MARK = b"\xef\xbb\xbf"
+END = "end A SUITE SCI MAX FORM"
+
+# What follows each keyword of a command.
+USAGES = {
+    # made: usages of tools/families.json
+    "protect": "on|off",
+    "validate": "strict|check|disabled",
+    "replay": "on|off WINDOW",
+    "tag": "auto|sci|es|scb",
+    "key": "N KEY OFFSET [SUITE] [SSCI SALT]",
+    "retire": "N",
+    "txsa": "AN N PN int|conf",
+    "txon": "AN",
+    "txoff": "AN",
+    "txdel": "AN",
+    "rxsc": "SCI",
+    "rxscdel": "SCI",
+    "rxsa": "SCI AN N PN [SSCI]",
+    "rxon": "SCI AN",
+    "rxoff": "SCI AN",
+    "rxlow": "SCI AN PN",
+    "rxdel": "SCI AN",
+    # end
+}
+# What is said of each argument: the numbers from and to which it is decimal, how many hex digits it has, or its words;
+# and a right one.
+_NUMBERS = {"AN": (0, 3), "N": (0, 4095), "OFFSET": (0, 255), "WINDOW": (0, 2**64 - 1), "MAX": (64, 9248)}
+_DIGITS = {"KEY": "32 or 64", "SCI": "16", "SSCI": "8", "SALT": "24", "PN": "1 to 16"}
+_WORDS = {"SUITE": "|".join(it.name for it in SUITES), "FORM": USAGES["tag"]}
+_RIGHT = {"KEY": "00" * 16, "SCI": "0200000000000001", "SSCI": "00000001", "SALT": "00" * 12, "PN": "1"}
+_AFTER_END = "A|B SUITE SCI MAX FORM".split()
+_OTHER_NAMES = {**{it.in_ip: it.name for it in SUITES}, "default": "gcm128"}
 
 
 class Fault(NamedTuple):
-    """What is wrong with a text: the line and the word from 1 (0: none), the program's name of the fault, a message."""
+    """What is wrong with a text: the line and the word from 1 (0: none), the library's name of the fault, a message."""
 
     line: int
     word: int
@@ -31,25 +67,197 @@ class Fault(NamedTuple):
         return f"{where}, argument {self.word}: {self.message}" if self.word else f"{where}: {self.message}"
 
 
+class End(NamedTuple):
+    """The line `end`: its number from 1, and what it says."""
+
+    line: int
+    suite: Suite
+    sci: bytes
+    max_frame: int
+    form: Form
+
+
 class Command(NamedTuple):
-    """A line that is not skipped: its number from 1, its keyword, and the values of its other words."""
+    """A line of a command: its number from 1, its keyword, and what its arguments mean. Those that its keyword does not
+    have are 0. `octets` to `suite` are of a `key`, whose number is `key`."""
 
     line: int
     keyword: str
-    values: tuple[Any, ...]
+    an: int
+    key: int
+    pn: int
+    sci: bytes
+    ssci: int
+    is_conf: bool
+    octets: bytes
+    salt: bytes
+    offset: int
+    suite: Suite
 
 
-class _Wrong(Exception):
-    """A fault of a line: the word from 0 or None, its name, and a message."""
+class Text(NamedTuple):
+    """The text of a CONFIG: its lines that are not skipped, and all faults. The first one is the one that the library
+    names. `end` is None if that line is missing or wrong."""
 
-    def __init__(self, word: int | None, name: str, message: str) -> None:
-        super().__init__(word, name, message)
-        self.word, self.name, self.message = word, name, message
+    end: End | None
+    commands: list[Command]
+    faults: list[Fault]
 
 
-Reader = Callable[[str, int], Any]
+# What the library says.
 
-_OTHER_NAMES = {**{it.in_ip: it.name for it in names.SUITES}, "default": "gcm128"}
+
+def _status_of_end(line: bytes) -> tuple[int, _library.Config]:
+    config = _library.Config()
+    return int(_library.load().macsec_parse_end_raw(line, len(line), ctypes.byref(config))), config
+
+
+def _status_of_line(line: bytes, number: int = 0) -> tuple[int, Command | None]:
+    """The status of a line, and its command; None if it is skipped or wrong."""
+    it = _library.Command()
+    status = int(_library.load().macsec_parse_line_raw(line, len(line), ctypes.byref(it)))
+    made = _command_of(number, it) if it.kind else None
+    # It can have a key.
+    ctypes.memset(ctypes.addressof(it), 0, ctypes.sizeof(it))
+    return status, made
+
+
+def _status_of_text(text: bytes) -> int:
+    """What is wrong with a text as a whole, or 0."""
+    try:
+        SecY.configure(text).close()
+    except MacsecError as why:
+        return 0 if why.line or why.number < Status.Word else why.number
+    return 0
+
+
+def _command_of(number: int, it: _library.Command) -> Command:
+    sak, keyword = it.sak, Kind(it.kind).name
+    return Command(
+        number, keyword, it.an, it.key, it.pn, bytes(it.sci), sak.ssci if keyword == "key" else it.ssci, bool(it.flag),
+        bytes(sak.bytes)[: sak.length], bytes(sak.salt), sak.offset, Suite(sak.suite),
+    )  # fmt: skip
+
+
+def parse(text: bytes) -> Text:
+    """The lines of a CONFIG.
+
+    >>> parse(b"end A gcm128 0200000000010001 1546 sci\\nA key 0 ad7a2bd03eac835a6f620fdcb506b345f 0\\n").faults[0]
+    Fault(line=2, word=4, name='Hex', message='33 digits, 32 or 64 expected')
+    """
+    status = _status_of_text(text)
+    if status:
+        is_empty = status == Status.Ends
+        why = f"every line is skipped; the first has to be {END}" if is_empty else MEANINGS[Status(status)]
+        return Text(None, [], [Fault(0, 0, Status(status).name, why)])
+    made = Text(None, [], [])
+    is_first = True
+    for number, line in enumerate(text.split(b"\n"), 1):
+        if number == 1 and line.startswith(BYTE_ORDER_MARK):
+            made.faults.append(_fault_of(number, line, _status_of_line(line)[0], is_first))
+            line = line[len(BYTE_ORDER_MARK) :]
+        status, command = _status_of_line(line, number)
+        if status == Status.OK and command is None:
+            continue
+        if is_first:
+            status, config = _status_of_end(line)
+            suite, form = Suite(config.suite), Form(config.form)
+            made = made._replace(end=None if status else End(number, suite, bytes(config.sci), config.max_frame, form))
+        elif command is not None:
+            made.commands.append(command)
+        if status:
+            made.faults.append(_fault_of(number, line, status, is_first))
+        is_first = False
+    return made
+
+
+# What is wrong with a line, in words.
+
+
+def _fault_of(number: int, line: bytes, status: int, is_first: bool) -> Fault:
+    if status == Status.Memory:
+        raise error(status)
+    named = Status(status)
+    words = line.decode("latin-1").removesuffix("\r").replace("\t", " ").split(" ")
+    place, message = _explained([it for it in words if it], named, is_first)
+    return Fault(number, place, named.name, message)
+
+
+def _explained(words: list[str], status: Status, is_first: bool) -> tuple[int, str]:
+    """Which word is wrong, from 1 (0: none), and a message."""
+    if status == Status.LineLong:
+        return 0, MEANINGS[status]
+    if status == Status.Ends:
+        return _explained_place(words, is_first)
+    if words[0] not in ("A", "B", "end"):
+        return _explained_start(words[0], status)
+    if words[0] == "end":
+        return _explained_arguments(words[:1], words[1:], status)
+    if len(words) == 1:
+        return 0, "a command is missing"
+    if words[1] in USAGES:
+        return _explained_arguments(words[:2], words[2:], status)
+    # The library reads the keywords of scripts too.
+    if status != Status.Word:
+        return 0, f"{words[1]} is for scripts alone"
+    return 2, f"{_quoted(words[1])} is no command{_suggestion(words[1], list(USAGES))}"
+
+
+def _explained_place(words: list[str], is_first: bool) -> tuple[int, str]:
+    if is_first and words[:2] == ["end", "A"]:
+        return 6, f"{words[5]} needs an SCI with port {'0001' if words[5] == 'es' else '0000'}"
+    if is_first:
+        return 0, f"the first line has to be {END}"
+    if words[0] != "A":
+        return 0, "every line after the first has to be a command at A"
+    return 0, f"{words[1]} is for scripts alone"
+
+
+def _explained_start(word: str, status: Status) -> tuple[int, str]:
+    """A line that begins with another word than A, B or end."""
+    if status != Status.Word:
+        return 0, f"{word} is for scripts alone"
+    if word.encode("latin-1").startswith(BYTE_ORDER_MARK):
+        return 1, "the file begins with a byte order mark (EF BB BF); save it without one"
+    return 1, f"{_quoted(word)}, A or end expected"
+
+
+def _explained_arguments(before: list[str], words: list[str], status: Status) -> tuple[int, str]:
+    """What is wrong with the words after the keyword."""
+    keyword = before[-1]
+    if status == Status.Count:
+        usage = END if keyword == "end" else f"A {keyword} {USAGES[keyword]}"
+        counts = " or ".join(str(len(before) + len(it)) for it in _forms_of(keyword))
+        why = "; a comment needs a line of its own" if any(it.startswith("#") for it in words) else ""
+        return 0, f"{len(before) + len(words)} words, {counts} expected: {usage}{why}"
+    kinds = next(it for it in _forms_of(keyword) if len(it) == len(words))
+    for place, (kind, word) in enumerate(zip(kinds, words)):
+        asked = ["end"] if keyword == "end" else ["A", keyword]
+        asked += [word if at == place else _right(it) for at, it in enumerate(kinds)]
+        line = " ".join(asked).encode("latin-1")
+        if (_status_of_end(line) if keyword == "end" else _status_of_line(line))[0] == status:
+            return len(before) + place + 1, _expected(kind, word, status)
+    return 0, MEANINGS[status]
+
+
+def _forms_of(keyword: str) -> list[list[str]]:
+    """What can follow a keyword: without its optional arguments, and with them, fewer first.
+
+    >>> [len(it) for it in _forms_of("key")], _forms_of("rxsa")
+    ([3, 4, 5, 6], [['SCI', 'AN', 'N', 'PN'], ['SCI', 'AN', 'N', 'PN', 'SSCI']])
+    """
+    if keyword == "end":
+        return [_AFTER_END]
+    needed, *groups = USAGES[keyword].replace("]", "").split("[")
+    chosen = itertools.product(*([[], it.split()] for it in groups))
+    return sorted(([*needed.split(), *itertools.chain(*it)] for it in chosen), key=len)
+
+
+def _right(kind: str) -> str:
+    """An argument that is right."""
+    if kind in _NUMBERS:
+        return str(_NUMBERS[kind][0])
+    return _RIGHT.get(kind) or _WORDS.get(kind, kind).split("|")[0]
 
 
 def _quoted(word: str) -> str:
@@ -62,180 +270,17 @@ def _suggestion(word: str, choices: Sequence[str]) -> str:
     return f"; write {other}" if other in choices else ""
 
 
-def _one_of(*choices: str) -> Reader:
-    def read(word: str, at: int) -> str:
-        if word not in choices:
-            expected = f"{', '.join(choices[:-1])} or {choices[-1]}"
-            raise _Wrong(at, "Word", f"{_quoted(word)}, {expected} expected{_suggestion(word, choices)}")
-        return word
-
-    return read
-
-
-def _decimal(low: int, high: int) -> Reader:
-    def read(word: str, at: int) -> int:
-        if not (1 <= len(word) <= 20 and all(it in "0123456789" for it in word) and low <= int(word) <= high):
-            raise _Wrong(at, "Number", f"{_quoted(word)}, a decimal number from {low} to {high} expected")
-        return int(word)
-
-    return read
-
-
-def _digits_of(word: str, at: int) -> None:
-    wrong = next((it for it in word if it not in HEX_DIGITS), None)
+def _expected(kind: str, word: str, status: Status) -> str:
+    """What is expected in place of an argument."""
+    if kind in _NUMBERS:
+        low, high = _NUMBERS[kind]
+        return f"{_quoted(word)}, a decimal number from {low} to {high} expected"
+    if kind not in _DIGITS:
+        choices = _WORDS.get(kind, kind).split("|")
+        expected = f"{', '.join(choices[:-1])} or {choices[-1]}"
+        return f"{_quoted(word)}, {expected} expected{_suggestion(word, choices)}"
+    wrong = next((it for it in word if it not in "0123456789abcdefABCDEF"), None)
     if wrong is None:
-        return
+        return f"{len(word)} digits, {_DIGITS[kind]} expected"
     advice = "leave 0x out" if word[:2].lower() == "0x" else "leave them out" if wrong in ":-" else "0 to 9, a to f"
-    raise _Wrong(at, "Hex", f"{_quoted(wrong)} is no hex digit: {advice}")
-
-
-def _hex(*lengths: int) -> Reader:
-    def read(word: str, at: int) -> bytes:
-        _digits_of(word, at)
-        if len(word) not in [2 * it for it in lengths]:
-            expected = " or ".join(str(2 * it) for it in lengths)
-            raise _Wrong(at, "Hex", f"{len(word)} digits, {expected} expected")
-        return bytes.fromhex(word)
-
-    return read
-
-
-def _packet_number(word: str, at: int) -> int:
-    _digits_of(word, at)
-    if not 1 <= len(word) <= 16:
-        raise _Wrong(at, "Hex", f"{len(word)} digits, 1 to 16 expected")
-    return int(word, 16)
-
-
-SUITES = tuple(it.name for it in names.SUITES)
-FORMS, MODES = ("auto", "sci", "es", "scb"), ("disabled", "check", "strict")
-_SWITCH, _SUITE, _FORM = _one_of("on", "off"), _one_of(*SUITES), _one_of(*FORMS)
-_AN, _N, _SCI, _SSCI, _SALT = _decimal(0, 3), _decimal(0, 4095), _hex(8), _hex(4), _hex(12)
-_KEY = (_N, _hex(16, 32), _decimal(0, 255))
-
-END = "end A SUITE SCI MAX FORM"
-# Each command: how it is written, and what its words after the keyword have to be, for each number of them.
-COMMANDS: dict[str, tuple[str, list[tuple[Reader, ...]]]] = {
-    "protect": ("on|off", [(_SWITCH,)]),
-    "validate": ("strict|check|disabled", [(_one_of(*MODES),)]),
-    "replay": ("on|off WINDOW", [(_SWITCH, _decimal(0, 2**64 - 1))]),
-    "tag": ("FORM", [(_FORM,)]),
-    "key": (
-        "N KEY OFFSET [SUITE] [SSCI SALT]",
-        [_KEY, (*_KEY, _SUITE), (*_KEY, _SSCI, _SALT), (*_KEY, _SUITE, _SSCI, _SALT)],
-    ),
-    "retire": ("N", [(_N,)]),
-    "txsa": ("AN N PN int|conf", [(_AN, _N, _packet_number, _one_of("int", "conf"))]),
-    "txon": ("AN", [(_AN,)]),
-    "txoff": ("AN", [(_AN,)]),
-    "txdel": ("AN", [(_AN,)]),
-    "rxsc": ("SCI", [(_SCI,)]),
-    "rxscdel": ("SCI", [(_SCI,)]),
-    "rxsa": ("SCI AN N PN [SSCI]", [(_SCI, _AN, _N, _packet_number), (_SCI, _AN, _N, _packet_number, _SSCI)]),
-    "rxon": ("SCI AN", [(_SCI, _AN)]),
-    "rxoff": ("SCI AN", [(_SCI, _AN)]),
-    "rxlow": ("SCI AN PN", [(_SCI, _AN, _packet_number)]),
-    "rxdel": ("SCI AN", [(_SCI, _AN)]),
-}
-# What only scripts have: the words after the keyword. In a CONFIG a good one is in a wrong place.
-_LINK_NUMBER = _decimal(0, 2**32 - 1)
-
-
-def _frame(word: str, at: int) -> bytes:
-    _digits_of(word, at)
-    if not word or len(word) % 2:
-        raise _Wrong(at, "Hex", f"{len(word)} digits, two for each octet expected")
-    return bytes.fromhex(word)
-
-
-_EVENTS: dict[str, list[tuple[Reader, ...]]] = {
-    "send": [(_frame,)], "sendu": [(_frame,)], "deliver": [(_LINK_NUMBER,)], "counters": [()], "numbers": [()],
-}  # fmt: skip
-_PLAIN: dict[str, list[tuple[Reader, ...]]] = {
-    "end": [(_one_of("A", "B"), _SUITE, _SCI, _decimal(64, 9248), _FORM)],
-    "alter": [(_LINK_NUMBER, _LINK_NUMBER, _hex(1))], "pad": [(_LINK_NUMBER,)], "inject": [(_frame,)],
-}  # fmt: skip
-
-
-def form_fits(form: str, sci: bytes) -> bool:
-    """Can an endpoint with this SCI have this tag form?"""
-    return form not in ("es", "scb") or sci[6:] == (b"\0\1" if form == "es" else b"\0\0")
-
-
-def _forms_of(words: list[str]) -> tuple[int, list[tuple[Reader, ...]]]:
-    """The place of the keyword, and what can follow it."""
-    if words[0] not in ("A", "B"):
-        if words[0] in _PLAIN:
-            return 0, _PLAIN[words[0]]
-        has_mark = words[0].startswith(BYTE_ORDER_MARK)
-        advice = "; the text begins with a byte-order mark" if has_mark else ""
-        raise _Wrong(0, "Word", f"{_quoted(words[0])}, A or end expected{advice}")
-    if len(words) == 1:
-        raise _Wrong(None, "Count", "a command is missing")
-    if words[1] in _EVENTS:
-        return 1, _EVENTS[words[1]]
-    if words[1] not in COMMANDS:
-        raise _Wrong(1, "Word", f"{_quoted(words[1])} is no command{_suggestion(words[1], list(COMMANDS))}")
-    return 1, COMMANDS[words[1]][1]
-
-
-def _values_of(words: list[str]) -> tuple[str, tuple[Any, ...]]:
-    """The keyword of a line, and the values of the words after it."""
-    at, forms = _forms_of(words)
-    keyword, rest = words[at], words[at + 1 :]
-    fitting = next((it for it in forms if len(it) == len(rest)), None)
-    if fitting is None:
-        usage = f"A {keyword} {COMMANDS[keyword][0]}" if at and keyword in COMMANDS else END if keyword == "end" else ""
-        counts = " or ".join(str(at + 1 + len(it)) for it in forms)
-        comment = next((n for n, it in enumerate(rest, at + 1) if it.startswith("#")), None)
-        why = "; a comment needs a line of its own" if comment is not None else ""
-        raise _Wrong(None, "Count", f"{len(words)} words, {counts} expected" + (f": {usage}" if usage else "") + why)
-    values = tuple(read(word, place) for place, (read, word) in enumerate(zip(fitting, rest), at + 1))
-    if keyword == "end" and not form_fits(values[4], values[2]):
-        port = "0001" if values[4] == "es" else "0000"
-        raise _Wrong(5, "Ends", f"{values[4]} needs an SCI with port {port}")
-    return keyword, values
-
-
-def read_line(words: list[str], is_first: bool) -> tuple[str, tuple[Any, ...]]:
-    """The same, of a line in its place."""
-    keyword, values = _values_of(words)
-    if is_first and (keyword != "end" or values[0] != "A"):
-        raise _Wrong(None, "Ends", f"the first line has to be {END}")
-    if not is_first and words[0] != "A":
-        raise _Wrong(None, "Ends", "every line after the first has to be a command at A")
-    if not is_first and keyword in _EVENTS:
-        raise _Wrong(None, "Ends", f"{keyword} is for scripts alone")
-    return keyword, values
-
-
-def parse(text: bytes) -> tuple[list[Command], list[Fault]]:
-    """The commands of a CONFIG, the line `end` among them, and all faults. The first is the one that the program names.
-
-    >>> parse(b"end A gcm128 0200000000010001 1546 sci\\nA key 0 ad7a2bd03eac835a6f620fdcb506b345f 0\\n")[1][0]
-    Fault(line=2, word=4, name='Hex', message='33 digits, 32 or 64 expected')
-    """
-    lines = text.split(b"\n")
-    if not lines[-1]:
-        lines.pop()
-    if len(text) > MOST_OCTETS or len(lines) > MOST_LINES:
-        return [], [Fault(0, 0, "ScriptLong", f"more than {MOST_OCTETS} octets or {MOST_LINES} lines")]
-    commands: list[Command] = []
-    faults: list[Fault] = []
-    is_first = True
-    for number, line in enumerate(lines, 1):
-        if len(line) > LONGEST_LINE:
-            faults.append(Fault(number, 0, "LineLong", f"{len(line)} octets, at most {LONGEST_LINE} expected"))
-            continue
-        line = line[:-1] if line.endswith(b"\r") else line
-        words = [it for it in line.decode("latin-1").replace("\t", " ").split(" ") if it]
-        if not words or words[0].startswith("#"):
-            continue
-        try:
-            commands.append(Command(number, *read_line(words, is_first)))
-        except _Wrong as it:
-            faults.append(Fault(number, 0 if it.word is None else it.word + 1, it.name, it.message))
-        is_first = False
-    if is_first and not faults:
-        faults.append(Fault(0, 0, "Ends", f"every line is skipped; the first has to be {END}"))
-    return commands, faults
+    return f"{_quoted(wrong)} is no hex digit: {advice}"

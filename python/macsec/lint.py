@@ -1,18 +1,62 @@
-"""What is wrong with a CONFIG, and where: faults of its text, lines that the library refuses, and likely slips."""
+"""What is wrong with a CONFIG, and where: lines that the library cannot read or refuses, and likely slips.
+
+`macsecd --check` (device/check.c) says the same of these lines, and also looks at the host and at its own lines.
+"""
 
 from __future__ import annotations
 
+from collections.abc import Iterator
 from typing import NamedTuple
 
-from .endpoint_of_config import Configuration, without_device_lines
-from .grammar import Command, parse
+from .endpoint_of_config import without_device_lines
+from .errors import Refused
+from .grammar import Command, Text, parse
+from .names import Status
+from .secy import SecY
 
 # How files begin that are no text: pcap in its four forms, pcapng, gzip.
 _CAPTURES = tuple(map(bytes.fromhex, "a1b2c3d4 d4c3b2a1 a1b23c4d 4d3cb2a1 0a0d0d0a 1f8b0800".split()))
+# The SCI of an endpoint for the other lines if the line `end` is wrong.
+_OTHER_SCI = "0200000000000001"
+
+# What to do after a refusal.
+_REMEDIES = {
+    # made: remedies of tools/families.json
+    Status.KeyLength: "gcm128 and xpn128 need 32 digits, gcm256 and xpn256 64",
+    Status.Offset: "write 0",
+    Status.KeyNumberUsed: "write another number",
+    Status.KeyRepeated: "make another key",
+    Status.NoKey: "install it in a line before this one",
+    Status.KeyRetired: "install another one",
+    Status.KeyInUse: "name another key, or delete that first",
+    Status.OwnSci: "write the peer's",
+    Status.ScTaken: "delete one of the two lines",
+    Status.ScFull: "delete lines `rxsc`",
+    Status.NoSc: "write A rxsc SCI before this line",
+    Status.AnTaken: "write another AN",
+    Status.NoSa: "begin it in a line before this one",
+    Status.PnRange: "write 1",
+    Status.PnLower: "write a higher one",
+    Status.PnFloor: "write a higher one",
+    Status.SsciOwn: "write the peer's",
+    Status.Window: "write 0",
+    Status.SciForm: "write sci",
+    # end
+}
+# What is said of likely slips.
+# made: slips of tools/families.json
+UNUSED_KEY = "no association uses key %u"
+BOTH_DIRECTIONS = "key %u is for both directions: AES-GCM breaks if both ends ever have one SCI. Write two keys"
+READABLE_OCTETS = "the first %u octets of each frame stay readable under this key: write 0"
+DECIMAL_NUMBER = "packet numbers are hex: decimal %s is %x"
+INTEGRITY_ALONE = "int does not encrypt: everybody on the link can read the frames; write conf"
+NOT_ENABLED_TX = "no transmit association is enabled, so no frame is sent: A txon %u"
+NOT_ENABLED_RX = "this association is never enabled, so it receives nothing: A rxon %s %u"
+# end
 
 
 class Finding(NamedTuple):
-    """Something about a line. `kind` is fault, refused or hint, `name` the program's name of a fault or refusal."""
+    """Something about a line. `kind` is fault, refused or hint, `name` the library's name of a fault or refusal."""
 
     kind: str
     line: int
@@ -28,7 +72,7 @@ class Finding(NamedTuple):
 
 
 def lint(text: bytes) -> list[Finding]:
-    """All findings of a text, by lines. If it has a fault, nothing of it is carried out.
+    """All findings of a text, by lines. After a wrong line `end` nothing is known of refusals.
 
     >>> for each in lint(b"end A gcm-aes-128 0200000000010001 1546 sci\\nA key 0 00 0\\n"):
     ...     print(each)
@@ -37,53 +81,66 @@ def lint(text: bytes) -> list[Finding]:
     """
     if text[:4] in _CAPTURES:
         return [Finding("fault", 0, 0, "Word", "this is a capture, not a CONFIG")]
-    commands, faults = parse(without_device_lines(text))
-    if faults:
-        return [Finding("fault", *it) for it in faults]
-    configuration = Configuration(text)
-    refused = {it.line for it in configuration.refusals}
-    found = [Finding("refused", it.line, 0, it.name, it.message.split(": ", 1)[1]) for it in configuration.refusals]
-    found += _hints([it for it in commands[1:] if it.line not in refused], text, configuration)
-    return sorted(found, key=lambda it: (it.line, it.word))
+    made = parse(without_device_lines(text))
+    found = [Finding("fault", *it) for it in made.faults] + [*_carried_out(made, text)]
+    return sorted(found, key=lambda it: it.line)
 
 
-def _hint(line: int, word: int, message: str) -> Finding:
-    return Finding("hint", line, word, "", message)
+def _carried_out(made: Text, text: bytes) -> Iterator[Finding]:
+    """The refusals of the lines, and the likely slips in those that the library carries out."""
+    lines, slips = text.split(b"\n"), _Slips(made.commands)
+    end = made.end
+    with SecY(end.sci, end.suite, end.form, end.max_frame) if end else SecY(_OTHER_SCI) as secy:
+        for it in made.commands:
+            line = lines[it.line - 1]
+            try:
+                secy.command(line)
+            except Refused as why:
+                if end:
+                    remedy = _REMEDIES.get(Status(why.number))
+                    yield Finding("refused", it.line, 0, why.name, f"{why}; {remedy}" if remedy else str(why))
+            else:
+                words = line.decode("latin-1").split()
+                yield from (Finding("hint", it.line, word, "", said) for word, said in slips.of(it, words))
 
 
-def _hints(commands: list[Command], text: bytes, configuration: Configuration) -> list[Finding]:
-    """Slips that no line's text shows."""
-    found: list[Finding] = []
-    lines = text.decode("latin-1").split("\n")
-    used = {it.values[1] for it in commands if it.keyword == "txsa"} | {
-        it.values[2] for it in commands if it.keyword == "rxsa"
-    }
-    for it in commands:
-        words = lines[it.line - 1].split()
-        if it.keyword in ("txsa", "rxsa"):
-            place = 5 if it.keyword == "txsa" else 6
-            found += _decimal_hint(it.line, place, words[place - 1])
-        if it.keyword == "rxsa" and not _is_enabled(configuration, it):
-            found.append(
-                _hint(it.line, 0, f"this association is never enabled: A rxon {it.values[0].hex()} {it.values[1]}")
-            )
-        if it.keyword == "key" and it.values[0] not in used:
-            found.append(_hint(it.line, 3, f"no association uses key {it.values[0]}"))
-    transmits = [it for it in commands if it.keyword == "txsa"]
-    if transmits and not any(it.keyword == "txon" for it in commands):
-        found.append(
-            _hint(transmits[0].line, 0, f"no transmit association is enabled: A txon {transmits[0].values[0]}")
-        )
-    return found
+class _Slips:
+    """What a whole CONFIG is looked at for: slips that no line's text shows."""
+
+    def __init__(self, commands: list[Command]) -> None:
+        self._sends = {it.key for it in commands if it.keyword == "txsa"}
+        self._receives = {it.key for it in commands if it.keyword == "rxsa"}
+        self._enabled = {(it.sci, it.an) for it in commands if it.keyword == "rxon"}
+        self._enables = any(it.keyword == "txon" for it in commands)
+        self._has_sent = False
+
+    def of(self, it: Command, words: list[str]) -> Iterator[tuple[int, str]]:
+        """The slips of a line, each with its word from 1, or 0."""
+        if it.keyword == "key":
+            yield from self._of_key(it)
+        if it.keyword == "txsa":
+            yield from _of_number(5, words)
+            if not it.is_conf:
+                yield 6, INTEGRITY_ALONE
+            if not self._has_sent and not self._enables:
+                yield 0, NOT_ENABLED_TX % it.an
+            self._has_sent = True
+        if it.keyword == "rxsa":
+            yield from _of_number(6, words)
+            if (it.sci, it.an) not in self._enabled:
+                yield 0, NOT_ENABLED_RX % (it.sci.hex(), it.an)
+
+    def _of_key(self, it: Command) -> Iterator[tuple[int, str]]:
+        if it.key not in self._sends | self._receives:
+            yield 3, UNUSED_KEY % it.key
+        if it.key in self._sends & self._receives:
+            yield 3, BOTH_DIRECTIONS % it.key
+        if it.offset:
+            yield 5, READABLE_OCTETS % it.offset
 
 
-def _decimal_hint(line: int, place: int, word: str) -> list[Finding]:
-    """A packet number of several digits without a letter may have been meant in decimal, as `ip` writes it."""
-    if len(word) < 2 or not word.isdecimal() or word.strip("0") in ("", "1") or len(word) > 8:
-        return []
-    return [_hint(line, place, f"packet numbers are hex: {word} is {int(word, 16)}; decimal {word} is {int(word):x}")]
-
-
-def _is_enabled(configuration: Configuration, it: Command) -> bool:
-    sa: object | None = configuration.rx_sa(it.values[0], it.values[1])
-    return sa is None or bool(getattr(sa, "on", False))
+def _of_number(place: int, words: list[str]) -> Iterator[tuple[int, str]]:
+    """A packet number of several digits without a letter may be meant in decimal, as `ip` writes it."""
+    word = words[place - 1]
+    if 2 <= len(word) <= 8 and word.isdecimal() and int(word) >= 2:
+        yield place, DECIMAL_NUMBER % (word, int(word))

@@ -150,6 +150,30 @@ class Mode(IntEnum):
     strict = 2
 
 
+class Kind(_Number):
+    """A kind of command (10.7), named as the keyword of its line."""
+
+    # made: kinds of tools/families.json
+    protect = 1
+    validate = 2
+    replay = 3
+    tag = 4
+    key = 5
+    retire = 6
+    txsa = 7
+    txon = 8
+    txoff = 9
+    txdel = 10
+    rxsc = 11
+    rxscdel = 12
+    rxsa = 13
+    rxon = 14
+    rxoff = 15
+    rxlow = 16
+    rxdel = 17
+    # end
+
+
 class Fate(_Number):
     """What becomes of a client frame (10.5)."""
 

@@ -25,7 +25,7 @@ def next_config(config: bytes, text: str) -> bytes:
             "the text does not end with the counters of macsec protect: the run did not end; use a new key"
         )
     refused = {it.line: f"refused {it.number} {it.name}" for it in configuration.refusals}
-    expected = {it.line: refused.get(it.line, "done") for it in configuration.commands[1:]}
+    expected = {it.line: refused.get(it.line, "done") for it in configuration.commands}
     if _results(text) != expected:
         raise UsageError("the text is of another CONFIG")
     sent = counts["OutPktsProtected"] + counts["OutPktsEncrypted"]
@@ -44,8 +44,8 @@ def next_config(config: bytes, text: str) -> bytes:
 
 def _changed(configuration: Configuration, an: int, number: int) -> bytes:
     """The text with another packet number in the last line `txsa` of an association."""
-    command = [it for it in configuration.commands if it.keyword == "txsa" and it.values[0] == an][-1]
-    is_extended = configuration.keys[command.values[1]].suite.is_extended
+    command = [it for it in configuration.commands if it.keyword == "txsa" and it.an == an][-1]
+    is_extended = configuration.keys[command.key].suite.is_extended
     if number >= 1 << (64 if is_extended else 32):
         raise UsageError("the association has no packet number left: use a new key")
     lines = configuration.text.split(b"\n")

@@ -1,4 +1,4 @@
-"""macsec-config: from captures, from ip and back, lint, and the next run."""
+"""macsec-config: from captures, from ip and back, and the next run."""
 
 from __future__ import annotations
 
@@ -6,18 +6,16 @@ import collections
 import json
 import os
 import pathlib
-import random
 import subprocess
-import sys
 import unittest
 from collections import Counter
 
-from macsec import MacsecError, SecY, Suite, capture, grammar
+from macsec import SecY, Suite, capture
 from macsec.cli.config import main
 from macsec.endpoint_of_config import Configuration
 
 from .frames import client_frames, protected
-from .helpers import CAPTURES, DATA, KEYS, OTHER, ROOT, SALT, SENDER, InFolder, main_of
+from .helpers import CAPTURES, DATA, KEYS, OTHER, SALT, SENDER, InFolder, main_of
 
 LONG_KEY = bytes.fromhex("e3c08a8f06c6e3ad95a70557b23f75483ce33021a9c72b7025666204c69c0b72")
 IP_COMMANDS = """
@@ -225,58 +223,6 @@ class Linux(Made):
             text = self.config("--capture", path, "--wpa", DATA / log)
             self.assertIn("AN 0 is under key 5 from record 24 on", text)
             self.assertEqual(self.verdicts(text, path), {"OK": 24, "NotValid": 6})
-
-
-class Lint(Made):
-    def test_where_and_what(self) -> None:
-        good = f"end A gcm128 {SENDER} 1546 sci\nA key 0 {KEYS[0].hex()} 0\nA txsa 0 0 1 conf\nA txon 0\n"
-        self.assertEqual(self.config("--lint", self.put("CONFIG", good)), "")
-        suites = " or ".join((", ".join(grammar.SUITES[:-1]), grammar.SUITES[-1]))
-        alone = "a comment needs a line of its own"
-        refused = "line 3: refused: 5 NoKey: there is no such key\n"
-        refused += "line 4: refused: 13 NoSa: there is no such association\n"
-        other, where = (f"end B gcm128 {OTHER} 99 sci", "line 4: every line after the first has to be a command at A\n")
-        for old, new, expected in (
-            ("345 0", "345f 0", "line 2, argument 4: 33 digits, 32 or 64 expected\n"),
-            (KEYS[0].hex(), KEYS[0].hex(":"), "line 2, argument 4: ':' is no hex digit: leave them out\n"),
-            ("gcm128", "gcm-aes-128", f"line 1, argument 3: 'gcm-aes-128', {suites} expected; write gcm128\n"),
-            ("A key", "A keys", "line 2, argument 2: 'keys' is no command; write key\n"),
-            ("A key", "a key", "line 2, argument 1: 'a', A or end expected\n"),
-            ("0 1 conf", "0 0x1 conf", "line 3, argument 5: 'x' is no hex digit: leave 0x out\n"),
-            ("1546", "9249", "line 1, argument 5: '9249', a decimal number from 64 to 9248 expected\n"),
-            (" sci", "", f"line 1: 5 words, 6 expected: {grammar.END}\n"),
-            ("A txon 0", "A txon 0 # on", f"line 4: 5 words, 3 expected: A txon AN; {alone}\n"),
-            ("A txon 0", "A counters", "line 4: counters is for scripts alone\n"),
-            ("A txon 0", other, where),
-            ("txsa 0 0", "txsa 0 1", f"line 2, argument 3: hint: no association uses key 0\n{refused}"),
-        ):  # fmt: skip
-            text = self.put("CONFIG", good.replace(old, new, 1))
-            self.assertEqual(self.config("--lint", text, status=3), expected)
-        hinted = self.config("--lint", self.put("CONFIG", good.replace("0 1 conf", "0 57 conf")))
-        self.assertEqual(hinted, "line 3, argument 5: hint: packet numbers are hex: 57 is 87; decimal 57 is 39\n")
-        text = self.put("CONFIG", good.replace("345 0", "345f 0"))
-        shown = json.loads(self.config("--lint", text, "--json", status=3))
-        self.assertEqual((shown["name"], shown["line"], shown["word"]), ("Hex", 2, 4))
-
-    def test_the_first_fault_is_the_library_s(self) -> None:
-        """Random texts: the first line and the name of its fault are the library's."""
-        sys.path.insert(0, str(ROOT / "fuzz"))
-        try:
-            import calls
-        finally:
-            sys.path.remove(str(ROOT / "fuzz"))
-        source, met = calls.Calls(str(random.random())), collections.Counter()
-        for _ in range(1500):
-            text = source.text()
-            _, faults = grammar.parse(text)
-            try:
-                SecY.configure(text).close()
-                expected = None
-            except MacsecError as why:
-                expected = (why.name, why.line or 0) if why.number > 20 else None
-            self.assertEqual((faults[0].name, faults[0].line) if faults else None, expected, text[:2000])
-            met[expected and expected[0]] += 1
-        self.assertLessEqual({"Word", "Count", "Hex", "Number", "Ends"}, set(met))
 
 
 class Next(Made):

@@ -227,8 +227,6 @@ def compared_words() -> Compared:
     )
     yield "commands", commands, {name.lower(): int(number) for name, number in kinds}
     yield "keywords of commands", set(commands), keywords()
-    in_python = part_of("python/macsec/grammar.py", r"^COMMANDS: .*?^\}")
-    yield "commands in Python", list(commands), re.findall(r'^    "(\w+)": \(', in_python, re.M)
     for does, place in (("reads", r"readers\[\]"), ("changes", r"change\(")):
         here = {it["name"] for it in family("requests") if does in it["does"].split(", ")}
         there = requests_of(place)

@@ -140,6 +140,21 @@ def meanings() -> str:
     return lines(f"    Status.{it['name']}: {quoted(meaning(it))}," for it in rows)
 
 
+def usages_in_python() -> str:
+    """What follows each keyword of a command: its usage without A, the keyword, and what is said of the arguments."""
+    rows = [it for it in family("commands") if it["number"]]
+    return lines(f'    "{it["name"]}": {quoted(it["usage"].partition(",")[0].split(maxsplit=2)[2])},' for it in rows)
+
+
+def remedies() -> str:
+    rows = (it for it in refusals() if it.get("remedy"))
+    return lines(f"    Status.{it['name']}: {quoted(it['remedy'])}," for it in rows)
+
+
+def slips_in_python() -> str:
+    return lines(f'{it["c"]} = {quoted(it["text"])}' for it in family("slips"))
+
+
 # The device, and tests in C.
 
 
@@ -293,12 +308,15 @@ def parts() -> dict[str, dict[str, str]]:
         "python/macsec/names.py": {
             "statuses": variants(family("statuses")),
             "suites": variants(family("suites")),
+            "kinds": variants([it for it in family("commands") if it["number"]]),
             "fates": variants([it for it in family("fates") if it["number"]]),
             "verdicts": variants([it for it in family("verdicts") if it["number"]]),
             "of-suites": of_suites(),
             "counters": names_of_counters(),
         },
         "python/macsec/errors.py": {"meanings": meanings()},
+        "python/macsec/grammar.py": {"usages": usages_in_python()},
+        "python/macsec/lint.py": {"remedies": remedies(), "slips": slips_in_python()},
         "python/macsec/_library.py": {f"{of}-counters": fields(of) for of in ROOM},
         "device/answers.c": answers(),
         "device/check.c": check_of_device(),
