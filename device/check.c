@@ -188,6 +188,17 @@ static bool create(struct check *c, const struct commands *it, macsec_config *en
 
 /* ---- Likely slips ---- */
 
+/* What `macsec-config --lint` says of them too. */
+/* made: slips of tools/families.json */
+#define UNUSED_KEY "no association uses key %u"
+#define BOTH_DIRECTIONS "key %u is for both directions: AES-GCM breaks if both ends ever have one SCI. Write two keys"
+#define READABLE_OCTETS "the first %u octets of each frame stay readable under this key: write 0"
+#define DECIMAL_NUMBER "packet numbers are hex: decimal %s is %x"
+#define INTEGRITY_ALONE "int does not encrypt: everybody on the link can read the frames; write conf"
+#define NOT_ENABLED_TX "no transmit association is enabled, so no frame is sent: A txon %u"
+#define NOT_ENABLED_RX "this association is never enabled, so it receives nothing: A rxon %s %u"
+/* end */
+
 /* Is there a line that enables this receive association? */
 static bool is_enabled(const struct check *c, const macsec_command *of) {
     struct commands it = { .text = (const char *)c->config.text, .left = c->config.length };
@@ -201,12 +212,11 @@ static bool is_enabled(const struct check *c, const macsec_command *of) {
 static void look_at_key(struct check *c, const macsec_sak *sak) {
     unsigned key = sak->number;
     if (!c->sends[key] && !c->receives[key])
-        say(c, HINT, "no association uses key %u", key);
+        say(c, HINT, UNUSED_KEY, key);
     if (c->sends[key] && c->receives[key])
-        say(c, HINT,
-            "key %u is for both directions: AES-GCM breaks if both ends ever have one SCI. Write a key for each", key);
+        say(c, HINT, BOTH_DIRECTIONS, key);
     if (sak->offset != 0)
-        say(c, HINT, "the first %u octets of each frame stay readable under this key: write 0", sak->offset);
+        say(c, HINT, READABLE_OCTETS, sak->offset);
 }
 
 /* Packet numbers of several digits without a letter may be meant in decimal. */
@@ -216,7 +226,7 @@ static void look_at_number(struct check *c, unsigned index) {
     if (!words_copy(&c->words, index, word, sizeof word) || strlen(word) < 2 || strlen(word) > 8 ||
         !words_number(&c->words, index, &number) || number < 2)
         return;
-    say(c, HINT, "packet numbers are hex: decimal %s is %llx", word, (unsigned long long)number);
+    say(c, HINT, DECIMAL_NUMBER, word, (unsigned)number);
 }
 
 static void look_at_association(struct check *c, const macsec_command *it) {
@@ -225,11 +235,11 @@ static void look_at_association(struct check *c, const macsec_command *it) {
     sci_text(it->sci, sci);
     look_at_number(c, sends ? 4 : 5);
     if (sends && !it->flag)
-        say(c, HINT, "int does not encrypt: everybody on LINK can read the frames; write conf");
+        say(c, HINT, INTEGRITY_ALONE);
     if (sends && !c->has_sent && !c->enables)
-        say(c, HINT, "no transmit association is enabled, so no frame is sent: A txon %u", it->an);
+        say(c, HINT, NOT_ENABLED_TX, it->an);
     if (!sends && !is_enabled(c, it))
-        say(c, HINT, "this association is never enabled, so it receives nothing: A rxon %s %u", sci, it->an);
+        say(c, HINT, NOT_ENABLED_RX, sci, it->an);
     c->has_sent = c->has_sent || sends;
 }
 
