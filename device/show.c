@@ -112,6 +112,29 @@ static void add_transmit(struct text *t, const struct device *d) {
     }
 }
 
+/* A counter of a receive association: its heading, and its place. */
+struct column {
+    const char *heading;
+    unsigned counter;
+};
+
+/* made: columns of tools/families.json */
+static const struct column columns[] = {
+    { "OK", 0 },
+    { "late", 3 },
+    { "not valid", 5 },
+};
+/* end */
+
+enum { COLUMNS = sizeof columns / sizeof *columns };
+
+static void add_heading(struct text *t) {
+    text_add(t, "  AN   key  state          next PN       lowest PN");
+    for (size_t i = 0; i < COLUMNS; i++)
+        text_add(t, " %11s", columns[i].heading);
+    text_add(t, "\n");
+}
+
 static void add_associations(struct text *t, const struct device *d, const uint8_t sci[8]) {
     bool any = false;
     for (uint8_t an = 0; an < MACSEC_AN_COUNT; an++) {
@@ -121,12 +144,14 @@ static void add_associations(struct text *t, const struct device *d, const uint8
         if (macsec_get_rx_sa(d->endpoint, sci, an, &sa) != MACSEC_OK || totals_rx(d, sci, an, values) != MACSEC_OK)
             continue;
         if (!any)
-            text_add(t, "  AN   key  state          next PN       lowest PN          OK        late   not valid\n");
+            add_heading(t);
         any = true;
         number_text(sa.next, sa.next_high, next);
         number_text(sa.lowest, sa.lowest_high, lowest);
-        text_add(t, "  %2u  %4u  %-5s  %15s %15s %11" PRIu64 " %11" PRIu64 " %11" PRIu64 "\n", an, sa.key,
-                 sa.on ? "on" : "off", next, lowest, values[0], values[3], values[5]);
+        text_add(t, "  %2u  %4u  %-5s  %15s %15s", an, sa.key, sa.on ? "on" : "off", next, lowest);
+        for (size_t i = 0; i < COLUMNS; i++)
+            text_add(t, " %11" PRIu64, values[columns[i].counter]);
+        text_add(t, "\n");
     }
 }
 

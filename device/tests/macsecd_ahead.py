@@ -13,7 +13,19 @@ import time
 
 from house.reporting import report, until
 from macsecd_losses import count_all, settled
-from macsecd_world import Client, End, Packets, Stream, World, hand_over_lines, numbers_of, ping, protected, udp_socket
+from macsecd_world import (
+    Client,
+    End,
+    Packets,
+    Stream,
+    World,
+    hand_over_lines,
+    late_frames,
+    numbers_of,
+    ping,
+    protected,
+    udp_socket,
+)
 
 # A reservation has the packet numbers of so many seconds of a channel's frames, and at least so many.
 LASTS, LEAST = 2, 16
@@ -63,7 +75,7 @@ def check_recorded(world: World, replay: bool, times: int) -> None:
     time.sleep(TICK)
     what = f"ahead: a recorded frame, {times} times, replay protection {'on' if replay else 'off'}"
     report(grown["device TapOut"] == 0 == grown[f"{a.sci} InPktsOK"], f"{what}: delivered: {grown}")
-    late, earlier = grown[f"{a.sci} InPktsLate"], grown["device LinkEarlierRun"]
+    late, earlier = late_frames(grown, a.sci), grown["device LinkEarlierRun"]
     wanted = (times, 0) if replay else (0, times)
     report((late, earlier) == wanted, f"{what}: {late} late, {earlier} of an earlier run")
     report(b.journal.read_bytes() == journal, f"{what}: the journal has changed")
@@ -148,7 +160,7 @@ def check_crash(world: World) -> None:
     b.start()
     passes = until(lambda: b.counters()[f"{a.sci} InPktsOK"] > 0, 20)
     sent, arrived = stream.stop()
-    late = b.counters()[f"{a.sci} InPktsLate"]
+    late = late_frames(b.counters(), a.sci)
     most = int(1.5 * max(LEAST, LASTS * rate))
     report(passes, f"ahead: no frame passes after a crash, {late} late")
     report(0 < late <= most, f"ahead: a crash lost {late} frames at {rate} a second, and not at most {most}")
@@ -167,7 +179,7 @@ def check_crash_of_both(world: World) -> None:
     for end in (a, b):
         end.start()
     replies = ping(a), ping(b)
-    dropped = [end.counters()[f"{peer.sci} InPktsLate"] for end, peer in ((a, b), (b, a))]
+    dropped = [late_frames(end.counters(), peer.sci) for end, peer in ((a, b), (b, a))]
     report(replies == (3, 3), f"ahead: after a crash of both ends {replies} of 3 requests are answered")
     report(dropped == [0, 0], f"ahead: after a crash of both ends {dropped} frames are late")
 
@@ -265,7 +277,7 @@ def check_handovers(world: World, count: int) -> None:
     sent, arrived = stream.stop()
     client.close()
     c = b.counters()
-    lost = c["device LinkNoReservation"], c["device LinkEarlierRun"], c[f"{a.sci} InPktsLate"]
+    lost = c["device LinkNoReservation"], c["device LinkEarlierRun"], late_frames(c, a.sci)
     report(sent == arrived and lost == (0, 0, 0), f"ahead: {count} endpoints: {arrived} of {sent} arrived, lost {lost}")
     report("a second endpoint goes on after `load`" in b.log(), "ahead: no second endpoint has taken over")
     frames = protected(link.frames(), a.sci)

@@ -5,6 +5,7 @@ from __future__ import annotations
 import json
 import re
 
+from house import families
 from house.reporting import report, until
 from macsecd_world import End, Packets, ping
 
@@ -12,6 +13,8 @@ from macsecd_world import End, Packets, ping
 SENDS = re.compile(r"^ +(\d) +(\d+)  (on|off), (encrypts|integrity only) +(\d+|none left) +(\S+( 10\^12)?)$", re.M)
 RECEIVES = re.compile(r"^ +(\d) +(\d+)  (on|off) +(\d+|none left) +(\d+|none left) +(\d+) +(\d+) +(\d+)$", re.M)
 AGE = r"\d+ s ago"
+# The counters in the last columns.
+COLUMNS = {it["name"]: it["column"] for it in families.family("counters", of="rx") if "column" in it}
 
 
 def rows_of_json(end: End) -> tuple[list[tuple[str, ...]], list[tuple[str, ...]]]:
@@ -25,7 +28,7 @@ def rows_of_json(end: End) -> tuple[list[tuple[str, ...]], list[tuple[str, ...]]
         sends.append((f"{it['an']}", f"{it['key']}", *state, f"{number}", "> 10^12" if left > 10**12 else f"{left}"))
     for channel in shown["receive"]:
         for it in channel["associations"]:
-            counts = (f"{it['counters'][name]}" for name in ("InPktsOK", "InPktsLate", "InPktsNotValid"))
+            counts = (f"{it['counters'][name]}" for name in COLUMNS)
             numbers = (f"{int(it[name], 16)}" for name in ("next", "lowest"))
             receives.append((f"{it['an']}", f"{it['key']}", "on" if it["on"] else "off", *numbers, *counts))
     return sends, receives
@@ -45,6 +48,8 @@ def check_rows(end: End) -> None:
     """The tables have the rows of `json`, with one association in each."""
     report(until(lambda: rows_of_text(end.ask("show")) == rows_of_json(end)), f"show has other rows: {end.ask('show')}")
     text = end.ask("show")
+    heading = "lowest PN" + "".join(f" {it:>11}" for it in COLUMNS.values())
+    report(f"{heading}\n" in text, f"show has not the heading {heading}: {text}")
     report(len(rows_of_text(text)[0]) == 1 == len(rows_of_text(text)[1]), f"show has not one row each: {text}")
 
 

@@ -50,6 +50,11 @@ def build(
     return out
 
 
+def late_frames(counters: dict[str, int], sci: str) -> int:
+    """How many frames of a receive channel were dropped as late."""
+    return counters[f"{sci} {families.names('counters', column='late')[0]}"]
+
+
 @contextlib.contextmanager
 def inside(namespace: str) -> Iterator[None]:
     """Lets this thread be in the network namespace of a name or path. A socket stays where it was made."""

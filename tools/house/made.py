@@ -173,6 +173,13 @@ def answers() -> dict[str, str]:
     return {**made, "device-counters": array("const char *const ", "device_names[COUNT_OF_COUNTS]", device)}
 
 
+def columns() -> str:
+    """The counters of a receive association that `show` shows, by their places."""
+    rows = enumerate(family("counters", of="rx"))
+    shown = (f"{{ {quoted(it['column'])}, {place} }}" for place, it in rows if "column" in it)
+    return array("const struct column ", "columns[]", shown)
+
+
 def check_of_device() -> dict[str, str]:
     rows = [it for it in family("statuses") if "remedy" in it]
     remedies = (quoted(it["remedy"]) if it["remedy"] else "NULL" for it in rows)
@@ -327,7 +334,10 @@ def parts() -> dict[str, dict[str, str]]:
             "last-suite": f"    uint32_t suite = MACSEC_{suites()[-1]['c']};\n",
             "key-octets": f"    unsigned length = {is_one_of(suites_with(key_octets=16))} ? 16 : 32;\n",
         },
-        "device/show.c": {"is-extended": f"    return {is_one_of(suites_with(extended=True))};\n"},
+        "device/show.c": {
+            "is-extended": f"    return {is_one_of(suites_with(extended=True))};\n",
+            "columns": columns(),
+        },
         "tests/library/suites.h": {"suites": suites_in_c()},
         "docs/ENDPOINT.md": endpoint_page(),
         "docs/SCRIPT.md": script_page(),
