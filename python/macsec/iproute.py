@@ -217,7 +217,7 @@ class Devices:
         options = chosen.options
         cipher = options.get("cipher", "default").lower()
         if cipher not in CIPHERS:
-            raise UsageError(f"{cipher} is no cipher suite of ip macsec")
+            raise UsageError(f"{without_keys(cipher)} is no cipher suite of ip macsec")
         plan = Plan(self._sci_of(chosen), CIPHERS[cipher], _form_of(options), mtu + 14)
         plan.encrypt, plan.protect = options.get("encrypt") == "on", options.get("protect") != "off"
         plan.validate, plan.replay = options.get("validate", "strict"), options.get("replay") == "on"
@@ -324,7 +324,7 @@ def _plan_of_json(text: str, keys: Sequence[KeyArgument], name: str | None, mtu:
     it = found[0]
     cipher = str(it.get("cipher_suite", "GCM-AES-128")).lower()
     if cipher not in CIPHERS:
-        raise UsageError(f"{cipher} is no cipher suite of ip macsec")
+        raise UsageError(f"{without_keys(cipher)} is no cipher suite of ip macsec")
     options = {
         key: on
         for key in ("send_sci", "inc_sci", "end_station", "scb")
