@@ -70,9 +70,8 @@ def run_tcp(folder: pathlib.Path, programs: pathlib.Path, octets: int) -> list[f
         seconds = tcp(world.ends[0], octets)
         times = [processor_time(end) - old for end, old in zip(world.ends, used)]
         after = settled(*world.ends)
-        report(
-            [it.stop() for it in world.ends] == [0, 0], f"macsecd does not end well: {[it.log() for it in world.ends]}"
-        )
+        for end in world.ends:
+            report(end.stop() == 0, f"macsecd does not end well: {end.log()}")
     grown = [{name: now[name] - old[name] for name in now} for now, old in zip(after, before)]
     frames = grown[0]["device LinkOut"]
     lost = [it["device LinkLost"] + it["device LinkRefused"] + it["device TapRefused"] for it in grown]
