@@ -5,7 +5,6 @@
  *     journal keys JOURNAL LIMIT COUNT
  *     journal receive JOURNAL LIMIT SUITE CAPTURE IN..
  *     journal accept JOURNAL LIMIT SUITE AMOUNT CAPTURE PREFIX COUNT
- *     journal floors JOURNAL PREFIX STEP SEED NUMBER..
  *
  * send protects frames under two keys, one after another, and writes each to CAPTURE before it protects the next
  * one. It ends after FRAMES of them, or never if FRAMES is 0. keys makes four reservations for each of COUNT keys.
@@ -13,10 +12,7 @@
  * delivers to CAPTURE, once their packet numbers are saved. accept gives all frames of the captures PREFIX0, PREFIX1,
  * .. to an endpoint that reserves AMOUNT packet numbers ahead of receiving, and writes those that it delivers to
  * CAPTURE at once. It ends after COUNT captures. If COUNT is 0 it never ends: it waits for more frames of the last
- * capture, and for the next one. floors writes each prefix of JOURNAL to PREFIX, alone and followed by random octets,
- * and opens it. It prints how many of the NUMBERs, from the first on, are refused as the first of each key. With a STEP
- * of 5 it does so for every fifth prefix, and for those around the end of a record. The status is 3 if the journal
- * can't be created or opened. */
+ * capture, and for the next one. The status is 3 if the journal can't be created or opened. */
 #define _GNU_SOURCE
 #include "journal.h"
 #include "../../tests/library/suites.h"
@@ -24,7 +20,7 @@
 #include <errno.h>
 #include <inttypes.h>
 
-enum { HELD = 16, SECTOR = 512, LIMIT = 1 << 16 };
+enum { HELD = 16 };
 
 static const uint8_t sender[8] = { 2, 0, 0, 0, 0, 1, 0, 1 }, receiver[8] = { 2, 0, 0, 0, 0, 2, 0, 1 };
 
@@ -388,87 +384,6 @@ static int run_accept(char **words) {
     return end(&a.journal, &a.e, a.file, "delivered", &a.counts);
 }
 
-/* ---- floors ---- */
-
-static uint64_t random_state;
-
-static uint8_t random_octet(void) {
-    random_state ^= random_state << 13;
-    random_state ^= random_state >> 7;
-    random_state ^= random_state << 17;
-    return (uint8_t)(random_state >> 32);
-}
-
-static void write_file(const char *name, const uint8_t *octets, size_t length) {
-    int file = open(name, O_WRONLY | O_CREAT | O_TRUNC | O_CLOEXEC, 0600);
-    if (file < 0 || write(file, octets, length) != (ssize_t)length || close(file) != 0)
-        fail(name);
-}
-
-/* How many of the numbers, from the first on, are refused as the first one of an association: those up to the floor. */
-static int count_refused(macsec_endpoint *e, uint8_t an, int count, char **numbers) {
-    for (int it = 0; it < count; it++) {
-        uint64_t number = number_of(numbers[it]);
-        uint32_t status = add_sending(e, an, number);
-        if ((status == MACSEC_E_PN_FLOOR) != (number <= sending_floor(e, an))) {
-            fprintf(stderr, "journal: %" PRIu64 " is refused, and the floor is lower, or the reverse\n", number);
-            exit(1);
-        }
-        if (status == MACSEC_OK) {
-            must("delete", macsec_delete_tx_sa(e, an));
-            return it;
-        }
-        if (status != MACSEC_E_PN_FLOOR)
-            must("add", status);
-    }
-    return count;
-}
-
-/* Opens a journal of these octets, and prints a line. */
-static void print_floors(const char *name, const uint8_t *octets, size_t length, int count, char **numbers) {
-    struct journal journal;
-    struct journal_fault fault;
-    macsec_endpoint e = MACSEC_ENDPOINT_INIT;
-    uint32_t status;
-    write_file(name, octets, length);
-    if (journal_open(&journal, name, LIMIT, &fault) != 0) {
-        printf(" %s", journal_step_name(fault.step));
-        return;
-    }
-    status = make_endpoint(&e, sender, MACSEC_SUITE_GCM_AES_128, &journal, false);
-    if (status != MACSEC_OK)
-        printf(" %s", macsec_status_name(status));
-    else
-        printf(" %d,%d", count_refused(&e, 0, count, numbers), count_refused(&e, 1, count, numbers));
-    macsec_free(&e);
-    journal_close(&journal);
-}
-
-static int run_floors(int count, char **words) {
-    static uint8_t octets[1 << 16];
-    const size_t step = (size_t)number_of(words[2]);
-    size_t length, random;
-    FILE *file = fopen(words[0], "r");
-    if (file == NULL)
-        fail(words[0]);
-    length = fread(octets, 1, sizeof octets / 2, file);
-    fclose(file);
-    random_state = number_of(words[3]);
-    for (size_t at = length; at <= length; at--) {
-        size_t around = (at + 2) % MACSEC_RECORD_LENGTH;
-        if (at % step != 0 && around > 4)
-            continue;
-        printf("%zu", at);
-        print_floors(words[1], octets, at, count - 4, words + 4);
-        random = 1 + 2U * random_octet() % (SECTOR - at % SECTOR); /* as a crash leaves them */
-        for (size_t it = 0; it < random; it++)
-            octets[at + it] = random_octet();
-        print_floors(words[1], octets, at + random, count - 4, words + 4);
-        printf("\n");
-    }
-    return 0;
-}
-
 /* ---- */
 
 static int run_create(const char *name) {
@@ -490,8 +405,6 @@ int main(int count, char **words) {
         return run_receive(count - 2, words + 2);
     if (count == 9 && strcmp(words[1], "accept") == 0)
         return run_accept(words + 2);
-    if (count >= 6 && strcmp(words[1], "floors") == 0)
-        return run_floors(count - 2, words + 2);
-    fprintf(stderr, "usage: journal create|send|keys|receive|accept|floors ..: see device/tests/journal.c\n");
+    fprintf(stderr, "usage: journal create|send|keys|receive|accept ..: see device/tests/journal.c\n");
     return 2;
 }
