@@ -185,12 +185,7 @@ def has_frames(capture: pathlib.Path, more_than: int = 24) -> Callable[[], bool]
 # ---- The disk
 
 
-class State(NamedTuple):
-    """The files that a power failure leaves, by their names."""
-
-    files: dict[str, bytes]
-
-
+State = dict[str, bytes]  # the files that a power failure leaves, by their names
 After = Callable[[pathlib.Path], State]
 Words = Callable[[pathlib.Path, int], list[str]]
 
@@ -202,7 +197,7 @@ class Chain:
 
     def __init__(self, options: Options, start: bytes, names: list[bytes], what: str) -> None:
         self.options, self.names, self.what = options, names, what
-        self.state = State({"journal": start})
+        self.state: State = {"journal": start}
         self.seen: set[Frame] = set()
         self.last: dict[int, int] = {}  # the last packet number under each name
 
@@ -211,7 +206,7 @@ class Chain:
         (folder / "files").mkdir()
         (folder / "disk").mkdir()
         names = []
-        for name, octets in self.state.files.items():
+        for name, octets in self.state.items():
             (folder / "files" / name).write_bytes(octets)
             inode = (folder / "files" / name).stat().st_ino
             (folder / "disk" / str(inode)).write_bytes(octets)
@@ -248,34 +243,26 @@ class Chain:
         for sci, an, number in frames:
             place = an if sci == SENDER else len(ANS) + an
             self.last[place] = max(self.last.get(place, 0), number)
-        octets = self.state.files.get("journal", b"")
+        octets = self.state.get("journal", b"")
         for place, last in self.last.items():
             reserved = highest(octets, self.names[place]) if place < len(self.names) else 0
             how = "sent" if place < len(ANS) else "accepted"
             report(last <= reserved, f"{self.what}: packet number {last} was {how}, {reserved} is reserved")
 
 
-def disk_content(folder: pathlib.Path, inode: str) -> bytes:
-    """What the disk has of a file."""
-    path = folder / "disk" / inode
-    return path.read_bytes() if path.is_file() else b""
-
-
 def state_after(folder: pathlib.Path, renamed: bool, tail: str, seed: str) -> State:
     """What a power failure leaves: the names that were made durable, or those that were there at last. Of each file,
     what was made durable. After the journal's octets there may be those that were not: random ones, or some records and
     zeros for others."""
-    names = {}
-    for line in (folder / "disk/names").read_text().splitlines():
-        inode, name = line.split(" ", 1)
-        names[name] = inode
+    names = dict(line.split(" ", 1)[::-1] for line in (folder / "disk/names").read_text().splitlines())
     if renamed:
         names = {it.name: str(it.stat().st_ino) for it in (folder / "files").iterdir()}
-    files = {name: disk_content(folder, inode) for name, inode in names.items()}
+    paths = {name: folder / "disk" / inode for name, inode in names.items()}
+    files = {name: path.read_bytes() if path.is_file() else b"" for name, path in paths.items()}
     rest = random.Random(seed)
     inode, now = names.get("journal"), folder / "files/journal"
     if inode is None or not (folder / f"disk/{inode}.torn").exists():
-        return State(files)
+        return files
     is_same = now.exists() and str(now.stat().st_ino) == inode
     more = now.read_bytes()[len(files["journal"]) :] if is_same else bytes(SECTOR)
     parts = [more[at : at + RECORD] for at in range(0, len(more), RECORD)]
@@ -284,4 +271,4 @@ def state_after(folder: pathlib.Path, renamed: bool, tail: str, seed: str) -> St
     elif tail == "written":
         parts = [it if rest.random() < 0.5 else bytes(len(it)) for it in parts]
     files["journal"] += b"".join(parts)[: rest.randrange(len(more) + 1) if tail != "none" else 0]
-    return State(files)
+    return files

@@ -8,11 +8,6 @@
 
 enum { LIMIT = 256 };
 
-int LLVMFuzzerInitialize(int *count, char ***arguments) {
-    (void)count, (void)arguments;
-    return 0;
-}
-
 /* Opens the journal, and reads its names from a block of memory that has nothing after them. */
 static bool read_file(struct journal *journal, struct names *names) {
     struct journal_fault fault;
