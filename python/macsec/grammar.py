@@ -230,14 +230,15 @@ def _explained_arguments(before: list[str], words: list[str], status: Status) ->
         counts = " or ".join(str(len(before) + len(it)) for it in _forms_of(keyword))
         why = "; a comment needs a line of its own" if any(it.startswith("#") for it in words) else ""
         return 0, f"{len(before) + len(words)} words, {counts} expected: {usage}{why}"
-    kinds = next(it for it in _forms_of(keyword) if len(it) == len(words))
+    kinds = next((it for it in _forms_of(keyword) if len(it) == len(words)), [])
     for place, (kind, word) in enumerate(zip(kinds, words)):
         asked = ["end"] if keyword == "end" else ["A", keyword]
         asked += [word if at == place else _right(it) for at, it in enumerate(kinds)]
         line = " ".join(asked).encode("latin-1")
         if (_status_of_end(line) if keyword == "end" else _status_of_line(line))[0] == status:
-            return len(before) + place + 1, _expected(kind, word, status)
-    return 0, MEANINGS[status]
+            return len(before) + place + 1, _expected(kind, word)
+    # A library of a later version can have other forms of a line.
+    return 0, MEANINGS.get(status, status.name)
 
 
 def _forms_of(keyword: str) -> list[list[str]]:
@@ -270,7 +271,7 @@ def _suggestion(word: str, choices: Sequence[str]) -> str:
     return f"; write {other}" if other in choices else ""
 
 
-def _expected(kind: str, word: str, status: Status) -> str:
+def _expected(kind: str, word: str) -> str:
     """What is expected in place of an argument."""
     if kind in _NUMBERS:
         low, high = _NUMBERS[kind]
