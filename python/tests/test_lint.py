@@ -208,6 +208,7 @@ class Planted(InFolder):
         end = types.SimpleNamespace(
             number=1, world=world, sci=SENDER, workers=None, isolated=False, config=self.folder / "macsec0.conf"
         )
+        end.write = lambda text: end.config.write_text(text)
         end.write_config = lambda: End.write_config(end)  # type: ignore[arg-type]
         for lines, wanted in macsecd_check.PLANTED:
             macsecd_check.plant(end, lines)  # type: ignore[arg-type]
