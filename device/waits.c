@@ -19,7 +19,9 @@ static int64_t now(void) {
 
 bool waits_keep(struct device *d, int client, const char *answer, size_t length) {
     struct waiting *w = &d->waits.clients[client];
-    uint64_t ticket = numbers_ticket(d->numbers);
+    uint64_t ticket;
+    numbers_go_on(d->numbers, d->endpoint); /* `open` gives no order, and the mark of a key may wait for one */
+    ticket = numbers_ticket(d->numbers);
     if (numbers_is_written(d->numbers, ticket) || length > sizeof w->answer)
         return false;
     memcpy(w->answer, answer, length);

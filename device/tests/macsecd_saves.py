@@ -275,7 +275,10 @@ def check_slow_disk(
     before, polls, client = a.counters(), Polls(a, 0.005), Client(a)
     sent = send_plain(a, sender, rate * seconds, rate)
     key = secrets.token_hex(16)
-    client.carry_out(f"A key 7 {key} 0", "A txsa 1 7 1 conf", "A txdel 1", "A retire 7")
+    client.carry_out(f"A key 7 {key} 0", "A txsa 1 7 1 conf")
+    began = time.monotonic()
+    refused = client.ask("A txsa 1 7 1 conf"), time.monotonic() - began
+    client.carry_out("A txdel 1", "A retire 7")
     slowest, after = polls.stop(), a.counters()
     client.close()
     lost = after["device NoReservation"] - before["device NoReservation"]
@@ -285,6 +288,7 @@ def check_slow_disk(
     report(slowest < slow.answer + polls.machine, f"disk: an answer to `port` took {1000 * slowest:.0f} ms")
     report(manager.longest < WATCHDOG, f"disk: {manager.longest:.1f} s between two reports to the service manager")
     report(0.5 < client.slowest < 1.5, f"disk: a request took {client.slowest:.1f} s")
+    report(refused[0].startswith("refused") and refused[1] < 0.5, f"disk: a refused request: {refused}")
     print(
         f"disk: synchronizations of {slow.seconds} s{' suddenly' * slow.suddenly}, {sent} frames at {rate} a second, "
         f"{protected} protected, {lost} without a reservation, {dropped(a)} dropped by a full TAP, `port` in "
@@ -402,7 +406,7 @@ def check_given_up(world: World) -> None:
 
 
 def check_refused(world: World) -> None:
-    """A refused request is answered at once, also after a key was given up: it does not wait for the clock."""
+    """After a key was given up, the answers to what is refused and to `open` do not wait for the clock."""
     world.start()
     client, took = Client(world.ends[0]), []
     client.carry_out("own")
@@ -410,12 +414,15 @@ def check_refused(world: World) -> None:
         key = f"A key {number} {secrets.token_hex(16)} 0"
         client.carry_out(key, f"A txsa 2 {number} 1 conf", "A txdel 2", f"A retire {number}")
         began = time.monotonic()
-        answers = client.ask("A txsa 9"), client.ask(f"A txsa 2 {number} 1 conf")
+        answers = [
+            client.ask(it).split()[0]
+            for it in ("A txsa 9", f"A txsa 2 {number} 1 conf", f"open {world.ends[0].sci} gcm128")
+        ]
         took.append(time.monotonic() - began)
-        report(answers[0] == "fault Count\n" and answers[1].startswith("refused"), f"refused: {answers}")
+        report(answers == ["fault", "refused", "ok"], f"refused: {answers}")
     median = sorted(took)[len(took) // 2]
-    report(median < 0.5, f"refused: after a key was given up, the answer takes {1000 * median:.0f} ms")
-    client.close()
+    report(median < 0.5, f"refused: after a key was given up, the answers take {1000 * median:.0f} ms")
+    client.socket.close()
 
 
 # ---- Threads
