@@ -84,8 +84,7 @@ def framed(frame):
 
 
 # The statuses of the faults of a configuration.
-FAULTS = {it: "E_LINE_" + it.upper() for it in ("Word", "Count", "Hex", "Number", "Ends")}
-FAULTS |= {"LineLong": "E_LINE_LONG", "ScriptLong": "E_CONFIG_LONG"}
+FAULTS = {it["name"]: it["c"] for it in tables.TEXT_FAULTS}
 
 
 def parsed(text, told):
@@ -146,11 +145,7 @@ PLACES = {
     "switch": "flag", "protection": "flag", "mode": "choice", "form": "choice", "number": "key", "window": "pn",
     "an": "an", "pn": "pn", "sci": "sci", "ssci": "ssci",
 }  # fmt: skip
-KINDS = {
-    "protect": "PROTECT", "validate": "VALIDATE", "replay": "REPLAY", "tag": "TAG", "key": "KEY", "retire": "RETIRE",
-    "txsa": "TX_SA", "txon": "TX_ON", "txoff": "TX_OFF", "txdel": "TX_DEL", "rxsc": "RX_SC", "rxscdel": "RX_SC_DEL",
-    "rxsa": "RX_SA", "rxon": "RX_ON", "rxoff": "RX_OFF", "rxlow": "RX_LOW", "rxdel": "RX_DEL",
-}  # fmt: skip
+KINDS = {it["name"]: it["c"] for it in tables.COMMANDS}
 # The longest line of each keyword.
 FIELDS = {keyword: fields for keyword, *fields in sorted((it.split() for it in expected.LINES), key=len)}
 # A value of a line as a member, and a member as a value of a line.
@@ -467,8 +462,8 @@ class Model:
         """The command of a line that is the second one of a configuration."""
         _, *commands = parsed(b"end A gcm128 0200000000010001 1518 sci\n" + line, lambda _: shown_command())
         for _, keyword, _, values in commands:
-            self.met["COMMAND_" + KINDS[keyword]] += 1
-            kind = CONSTANTS["COMMAND_" + KINDS[keyword]]
+            self.met[KINDS[keyword]] += 1
+            kind = CONSTANTS[KINDS[keyword]]
             if keyword == "key":
                 return shown_command(sak_of(*values), kind=kind, key=values[0])
             fields = FIELDS[keyword][: len(values)]
@@ -486,7 +481,7 @@ class Model:
 
     def call_carry_out(self, handle, *row):
         sak, members = row[: len(NO_SAK)], dict(zip(MEMBERS, row[len(NO_SAK) :]))
-        keywords = {CONSTANTS["COMMAND_" + it]: keyword for keyword, it in KINDS.items()}
+        keywords = {CONSTANTS[it]: keyword for keyword, it in KINDS.items()}
         if members["kind"] == CONSTANTS["COMMAND_NONE"]:
             return
         keyword = named(keywords, members["kind"], "E_NO_SUCH_COMMAND")

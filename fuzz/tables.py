@@ -19,7 +19,9 @@ ENDPOINT_COUNTERS = families.names("counters", of="endpoint")
 TX_COUNTERS = families.names("counters", of="tx")
 RX_COUNTERS = families.names("counters", of="rx")
 CAPTURE_FAULTS = families.names("capture_faults")
-LINE_FAULTS = [it["name"] for it in families.text_faults() if it["name"] != "ScriptLong"]
+TEXT_FAULTS = families.text_faults()
+LINE_FAULTS = [it["name"] for it in TEXT_FAULTS if it["name"] != "ScriptLong"]
+COMMANDS = [it for it in families.family("commands") if it["number"]]
 VERDICTS = [it["name"] for it in families.verdicts()]
 # Why a client frame is not sent.
 DROPS = [it["name"] for it in families.family("fates") if it["c"] in ("FATE_NO_SA", "FATE_TOO_LONG")]
