@@ -28,7 +28,7 @@ import sys
 sys.dont_write_bytecode = True
 import expected
 import journals
-from handles import CALLS, CONSTANTS, ROOT, SUITES, asked, hex_of, without_memory
+from handles import CALLS, CONSTANTS, ROOT, SUITES, hex_of, without_memory
 from rarely import Rarely
 
 # The calls that allocate: whether one allocation is refused (!), or also all after it (?), since a text's vector that
@@ -457,26 +457,11 @@ def marked(lines):
         yield ALLOCATING[name] + line if tried and len(line) < MOST_REFUSED else line
 
 
-def compare_with_run(calls, program, run):
-    """Has a program answer lines about end A, and compares the text with the one that `macsec run` prints for them."""
-    ends = [calls.END[:-1].encode(), calls.END[:-1].replace("A", "B").replace("0001 ", "0002 ").encode()]
-    lines = [it for it in (calls.asked() for _ in range(1_000)) if asked(it)[0] is None]
-    text = subprocess.run([run, "run", "-"], input=b"\n".join([*ends, *lines]), stdout=subprocess.PIPE).stdout
-    made = [f"configure 0 {ends[0].hex()}"]
-    made += [f"answer 0 {number} {hex_of(line)} 9000" for number, line in enumerate(lines, 3)]
-    told = subprocess.run(program, input="\n".join(made), stdout=subprocess.PIPE, text=True).stdout.splitlines()[1:]
-    given = b"".join(bytes.fromhex(it.split()[2])[: int(it.split()[1])] for it in told)
-    if given != text or len(told) != len(lines):
-        sys.exit(f"{run} prints {text!r} for {lines}, and {program} answers {given!r}")
-    print(f"{len(lines)} lines are answered as {run} prints them: {len(text)} octets")
-
-
 def main():
     parser = argparse.ArgumentParser(description=__doc__, formatter_class=argparse.RawDescriptionHelpFormatter)
     parser.add_argument("--calls", type=int, default=100_000)
     parser.add_argument("--seed", default="1")
     parser.add_argument("--met-from", type=int, default=5_000, help="how many calls must meet everything (5,000)")
-    parser.add_argument("--run", help="the program macsec, which prints what the answers to lines are")
     parser.add_argument("--also", action="append", default=[], help="a program that makes the same calls")
     parser.add_argument("--program", nargs=argparse.REMAINDER, default=[str(ROOT / "build/c/calls")])
     options = parser.parse_args()
@@ -487,8 +472,6 @@ def main():
         refused |= compare(program, options.seed, list(marked(lines)), answers)
         print(f"{len(answers)} calls of seed {options.seed}: each was answered as expected by {program[-1]}")
     lines = collections.Counter(line.split()[0] for line in lines)
-    if options.run:
-        compare_with_run(calls, options.program, options.run)
     print("calls: " + ", ".join(f"{name} {count}" for name, count in sorted(lines.items())))
     print("met: " + ", ".join(f"{name} {count}" for name, count in sorted(calls.model.met.items())))
     print("allocations refused: " + ", ".join(f"{name} {count}" for name, count in sorted(refused.items())))
