@@ -394,7 +394,7 @@ class Calls(Rarely):
 
     def all(self, count):
         rarely = self.rarely_written, self.rarely_refused, self.rarely_made, self.rarely_reserved, self.rarely_forgotten
-        rarely += self.rarely_ahead, self.rarely_parsed, self.rarely_limited
+        rarely += self.rarely_ahead, self.rarely_parsed
         waiting = itertools.chain.from_iterable(it() for it in (self.crowded, *rarely))
         names, weights = list(self.MADE_OF), [int(weight) for weight, *_ in self.MADE_OF.values()]
         for _ in range(count):

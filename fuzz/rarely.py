@@ -273,52 +273,6 @@ class Rarely:
             for room in (0, needed - 1, needed):
                 yield from self.calls("answer 1 line room; get_tx_sa 0", line=line, room=room)
 
-    # Commands at an endpoint and lines of one, at the limits of each word. Those of parse_end come after them.
-    K16, PEER, OTHER = "000102030405060708090a0b0c0d0e0f", "0200000000020001", "ffFFffFFffFFffFF"
-    KEYS = "0f0e0d0c0b0a09080706050403020100", "ff0e0d0c0b0a09080706050403020100"
-    LINES = f""", \t ,\r,# A txon 0,#A txon,A protect off,A\tprotect\ton\r,A validate disabled,A validate check,
-        A validate strict,A replay off 4294967295,A replay on 4294967296,A replay on 18446744073709551615,
-        A replay on 18446744073709551616,A replay on 000000000000000000000,A replay on 00000000000000000000,A tag auto,
-        A tag es,A tag scb,A tag sci,A key 0 {K16} 0,A key 0 {K16}{KEYS[0]} 0 gcm256,A key 1 {K16} 0,
-        A key 1 {2 * K16} 0,A key 1 {2 * K16} 50 gcm256,A key 2 {2 * K16} 255 gcm256,A key 2 {2 * K16} 256 gcm256,
-        A key 4095 {K16}{KEYS[1]} 0 xpn256 ffffffff {"a0" * 12},A key 4096 {K16} 0,
-        A key 3 {KEYS[0]} 0 00000001 {"a0" * 12},A key 5 {KEYS[0]} 0 xpn128,A key 5 {KEYS[1]} 0 xpn128,A key 6 0f0e0d 0,
-        A key 6 {K16} 0 00000001,A retire 6,A retire 5,A retire 5,A retire 4096,A txsa 0 0 1 int,
-        A txsa 3 1 00000000FFFFffff conf,A txsa 1 3 0 conf,A txsa 1 3 100000000 conf,
-        A txsa 1 4095 ffffffffffffffff conf,A txsa 2 4095 10000000000000000 conf,A txsa 4 1 1 conf,A txsa 3 3 1 conf,
-        A txon 3,A txon 2,A txon 0,A txoff 0,A txoff 4,A txdel 3,A txdel 3,A retire 0,A rxsc {PEER},A rxsc {PEER},
-        A rxsc 0200000000010001,A rxsc {OTHER},A rxsc 02000000000200,A rxsa {PEER} 0 0 1,
-        A rxsa {PEER} 3 4095 7 FFFFffff,A rxsa {PEER} 3 4095 7 00000007,A rxsa {OTHER} 3 3 ffffffff,
-        A rxsa {OTHER} 4 3 1,A rxsa 0000000000000000 0 3 1,A rxon {PEER} 0,A rxon {PEER} 1,A rxon {OTHER} 3,
-        A rxoff {PEER} 0,A rxlow {PEER} 3 ffffffffffffffff,A rxlow {PEER} 3 8,A rxlow {PEER} 0 100000000,
-        A rxdel {PEER} 3,A rxdel {PEER} 3,A rxscdel {PEER},A rxscdel {PEER},A,A on,txon 0,A TXON 0,A txon,A txon 0 0,
-        A txon -1,A txon 0\r\r,A protect yes,A counters,A send 00,B txon 0,pad 0,end A gcm128 0200000000010001 1518 sci,
-        A txsa 2 1 5 conf"""
-    ENDS = """end A gcm128 0200000000010001 64 auto,end A gcm256 0200000000010002 09248 sci,
-        end\tA xpn128 0200000000010001 1518 es\r,end A xpn256 0a0B000000010000 1518 scb,
-        end A gcm128 0200000000010002 1518 es,end A gcm128 0200000000010001 63 sci,
-        end A gcm128 0200000000010001 9249 sci,end A gcm128 02 1518 sci,end A gcm 0200000000010001 1518 sci,
-        end A gcm128 0200000000010001 1518,end B gcm128 0200000000010001 1518 sci,A txon 0"""
-
-    def rarely_limited(self):
-        """Each line is carried out at handle 2. At handle 1 it is parsed, and its command is carried out as a struct:
-        both endpoints then show the same numbers, and at the end the same counters and options."""
-        own, ends = self.SCIS[0], self.ENDS.replace("\n        ", "").encode().split(b",")
-        for handle in (1, 2):
-            yield from self.calls("free; new own 1 1 1518", handle, own=own)
-        for line in self.LINES.replace("\n        ", "").encode().split(b","):
-            yield "command_line", (2, line)
-            yield "parse_line", (1, line)
-            *shown, _, status = self.model.answer("parse_line", 1, line).split()[1:]
-            if status == str(CONSTANTS["OK"]):
-                octets = (0, 1, 8)  # the key's octets, its salt, and the SCI
-                yield "carry_out", (1, *(bytes.fromhex(it) if at in octets else int(it) for at, it in enumerate(shown)))
-            for handle in (1, 2):
-                yield "answer", (handle, 1, b"A numbers", 9_000)
-        for handle in (1, 2):
-            yield from self.calls("answer 1 line 9000; get_options; keys_left", handle, line=b"A counters")
-        yield from self.each("parse_end", ends)
-
     def rarely_refused(self):
         """What random calls seldom come to."""
         own, other = self.SCIS[2], self.SCIS[0]
