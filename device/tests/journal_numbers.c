@@ -73,8 +73,13 @@ int confine_calls(enum thread thread) {
 
 /* ---- Both ends ---- */
 
-/* Carries out a line, without a journal if `n` is NULL. */
-static void carry_out(struct numbers *n, macsec_endpoint *e, const char *form, ...) {
+static struct numbers *n;
+static macsec_endpoint e = MACSEC_ENDPOINT_INIT, peer = MACSEC_ENDPOINT_INIT;
+static struct counts counts;
+static int out;
+
+/* Carries out a line. The peer has no journal. */
+static void carry_out(macsec_endpoint *to, const char *form, ...) {
     char line[LINE];
     va_list arguments;
     macsec_command command;
@@ -83,195 +88,174 @@ static void carry_out(struct numbers *n, macsec_endpoint *e, const char *form, .
     vsnprintf(line, sizeof line, form, arguments);
     va_end(arguments);
     must(line, macsec_parse_line((const uint8_t *)line, strlen(line), &command));
-    must(line, n == NULL ? macsec_carry_out(e, &command) : lines_carry_out(n, e, &command, &raised));
+    must(line, to == &peer ? macsec_carry_out(to, &command) : lines_carry_out(n, to, &command, &raised));
 }
 
 /* The octets of a key are only for this test. */
-static void install_key(struct numbers *n, macsec_endpoint *e, unsigned number) {
-    carry_out(n, e, "A key %u a0a1a2a3a4a5a6a7a8a9aaab%08x 0", number, number);
+static void install_key(macsec_endpoint *to, unsigned number) {
+    carry_out(to, "A key %u a0a1a2a3a4a5a6a7a8a9aaab%08x 0", number, number);
 }
 
-static void create(struct numbers *n, macsec_endpoint *e) {
+/* Creates both ends. */
+static void create(void) {
     char end[LINE];
     macsec_config config;
+    uint32_t line;
+    snprintf(end, sizeof end, "end A gcm128 %s 1600 sci", other);
+    must(end, macsec_configure(&peer, (const uint8_t *)end, strlen(end), &line));
     snprintf(end, sizeof end, "end A gcm128 %s 1600 sci", own);
     must(end, macsec_parse_end((const uint8_t *)end, strlen(end), &config));
-    if (numbers_configure(n, e, &config, NULL, 0) != MACSEC_OK)
+    if (numbers_configure(n, &e, &config, NULL, 0) != MACSEC_OK)
         exit(3);
 }
 
-static void create_peer(macsec_endpoint *e) {
-    char end[LINE];
-    uint32_t line;
-    snprintf(end, sizeof end, "end A gcm128 %s 1600 sci", other);
-    must(end, macsec_configure(e, (const uint8_t *)end, strlen(end), &line));
+static void create_association(unsigned an, unsigned key) {
+    carry_out(&e, "A rxsa %s %u %u 1", other, an, key);
+    carry_out(&e, "A rxon %s %u", other, an);
 }
 
-/* Creates the endpoint with its keys and associations. Key and association have the same number. */
-static void begin(struct numbers *n, macsec_endpoint *e) {
-    create(n, e);
-    for (unsigned an = 0; an < KEYS; an++) {
-        install_key(n, e, an);
-        carry_out(n, e, "A txsa %u %u 1 conf", an, an);
-        numbers_reserve(n, e);
-    }
-    carry_out(n, e, "A rxsc %s", other);
-    for (unsigned an = 0; an < KEYS; an++) {
-        carry_out(n, e, "A rxsa %s %u %u 1", other, an, an);
-        carry_out(n, e, "A rxon %s %u", other, an);
-    }
-    numbers_begin(n, e);
+/* Ends both. */
+static int end(void) {
+    macsec_free(&peer);
+    macsec_free(&e);
+    return close(out) == 0 ? 0 : 1;
 }
 
-/* The other end. */
-struct peer {
-    macsec_endpoint e;
-    uint64_t next[KEYS], first[KEYS]; /* the next packet number, and the first one that was not sent before */
-    unsigned long lacked;             /* new frames that were not delivered */
-};
+/* ---- send ---- */
 
-/* Creates it. Under each key it begins with packet numbers that the receiver may have accepted. */
-static void begin_peer(struct peer *p, const macsec_endpoint *receiver) {
-    memset(p, 0, sizeof *p);
-    create_peer(&p->e);
+/* The peer's next packet number, and the first one that was not sent before. New frames that were not delivered. */
+static uint64_t next[KEYS], first[KEYS];
+static unsigned long lacked;
+
+/* Creates the endpoints with their keys and associations. Key and association have the same number. Under each key the
+ * peer begins with packet numbers that the receiver may have accepted. */
+static void begin(void) {
+    create();
+    for (unsigned an = 0; an < KEYS; an++) {
+        install_key(&e, an);
+        carry_out(&e, "A txsa %u %u 1 conf", an, an);
+        numbers_reserve(n, &e);
+    }
+    carry_out(&e, "A rxsc %s", other);
+    for (unsigned an = 0; an < KEYS; an++)
+        create_association(an, an);
+    numbers_begin(n, &e);
     for (unsigned an = 0; an < KEYS; an++) {
         macsec_rx_sa sa;
-        must("rx_sa", macsec_get_rx_sa(receiver, other_sci, (uint8_t)an, &sa));
-        p->first[an] = sa.lowest;
-        p->next[an] = sa.lowest > RECORDED ? sa.lowest - RECORDED : 1;
-        install_key(NULL, &p->e, an);
-        carry_out(NULL, &p->e, "A txsa %u %u %llx conf", an, an, (unsigned long long)p->next[an]);
+        must("rx_sa", macsec_get_rx_sa(&e, other_sci, (uint8_t)an, &sa));
+        first[an] = sa.lowest;
+        next[an] = sa.lowest > RECORDED ? sa.lowest - RECORDED : 1;
+        install_key(&peer, an);
+        carry_out(&peer, "A txsa %u %u %llx conf", an, an, (unsigned long long)next[an]);
     }
 }
 
 /* The peer sends a frame, which is received. */
-static void receive_frame(struct numbers *n, macsec_endpoint *e, struct peer *p, unsigned an, int file) {
+static void receive_frame(unsigned an) {
     macsec_sent sent;
     macsec_received got;
-    must("send", macsec_send(&p->e, client_frame, sizeof client_frame, &sent));
-    must("receive", macsec_receive(e, sent.frame, sent.length, &got));
+    must("send", macsec_send(&peer, client_frame, sizeof client_frame, &sent));
+    must("receive", macsec_receive(&e, sent.frame, sent.length, &got));
     if (got.delivered)
-        capture(file, sent.frame, sent.length);
-    else if (p->next[an] >= p->first[an])
-        p->lacked++;
-    p->next[an]++;
-    numbers_received(n, e, &got, 1);
+        capture(out, sent.frame, sent.length);
+    else if (next[an] >= first[an])
+        lacked++;
+    next[an]++;
+    numbers_received(n, &e, &got, 1);
 }
 
-static int run_send(unsigned long frames, const char *out) {
-    macsec_endpoint e = MACSEC_ENDPOINT_INIT;
-    struct peer peer;
-    struct numbers *n;
-    struct counts counts = { 0 };
+static int run_send(unsigned long frames, const char *name) {
     unsigned long sent = 0;
     uint64_t failures = 0;
-    int file;
-    if (numbers_open(&n, "journal", &counts) != 0)
-        return 3;
-    begin(n, &e);
-    begin_peer(&peer, &e);
-    file = create_capture(out);
+    begin();
+    out = create_capture(name);
     for (unsigned long it = 0; it < frames; it++) {
         unsigned an = (unsigned)(it / TURN % KEYS);
         bool went;
         if (it % TURN == 0) {
-            carry_out(n, &e, "A txon %u", an);
-            carry_out(NULL, &peer.e, "A txon %u", an);
+            carry_out(&e, "A txon %u", an);
+            carry_out(&peer, "A txon %u", an);
         }
-        went = send_frame(&e, file);
+        went = send_frame(&e, out);
         sent += went;
         numbers_used(n, &e, went, !went);
-        receive_frame(n, &e, &peer, an, file);
+        receive_frame(an);
         if (counts.journal_failed != failures && it % TICK == TICK - 1) {
             failures = counts.journal_failed;
             numbers_tick(n, &e);
         }
     }
     numbers_close(n, &e);
-    if (peer.lacked > 0 && counts.journal_failed == 0)
+    if (lacked > 0 && counts.journal_failed == 0)
         return 1;
     printf("sent %lu dropped %lu failures %" PRIu64 " lacked %lu\n", sent, frames - sent, counts.journal_failed,
-           peer.lacked);
-    macsec_free(&peer.e);
-    macsec_free(&e);
-    return close(file) == 0 ? 0 : 1;
+           lacked);
+    return end();
 }
 
 /* ---- A key agreement ---- */
 
 /* Installs a key as the owner of the device does, at both ends, and creates the associations of one end. It sends from
  * this packet number on. */
-static void begin_key(struct numbers *n, macsec_endpoint *e, macsec_endpoint *peer, unsigned an, unsigned key,
-                      unsigned pn) {
-    install_key(n, e, key);
+static void begin_key(unsigned an, unsigned key, unsigned pn) {
+    install_key(&e, key);
     numbers_note_key(n, key, true);
-    carry_out(n, e, "A rxsa %s %u %u 1", other, an, key);
-    carry_out(n, e, "A rxon %s %u", other, an);
-    numbers_accept(n, e);
-    carry_out(n, e, "A txsa %u %u %x conf", an, key, pn);
-    numbers_reserve(n, e);
-    carry_out(n, e, "A txon %u", an);
-    install_key(NULL, peer, key);
+    create_association(an, key);
+    numbers_accept(n, &e);
+    carry_out(&e, "A txsa %u %u %x conf", an, key, pn);
+    numbers_reserve(n, &e);
+    carry_out(&e, "A txon %u", an);
+    install_key(&peer, key);
 }
 
-static void retire_key(struct numbers *n, macsec_endpoint *e, macsec_endpoint *peer, unsigned an, unsigned key) {
-    carry_out(n, e, "A rxdel %s %u", other, an);
-    carry_out(n, e, "A txdel %u", an);
-    carry_out(n, e, "A retire %u", key);
+static void retire_key(unsigned an, unsigned key) {
+    carry_out(&e, "A rxdel %s %u", other, an);
+    carry_out(&e, "A txdel %u", an);
+    carry_out(&e, "A retire %u", key);
     numbers_note_retired(n, key, true);
-    numbers_go_on(n, e);
-    carry_out(NULL, peer, "A retire %u", key);
+    numbers_go_on(n, &e);
+    carry_out(&peer, "A retire %u", key);
 }
 
 /* A frame is sent, and the peer sends one with this packet number, which is given again if it lacks a reservation. */
-static void pass_frames(struct numbers *n, macsec_endpoint *e, macsec_endpoint *peer, unsigned an, unsigned key,
-                        unsigned pn, int file) {
+static void pass_frames(unsigned an, unsigned key, unsigned pn) {
     macsec_sent sent;
     macsec_received got;
-    (void)send_frame(e, file);
-    carry_out(NULL, peer, "A txsa %u %u %x conf", an, key, pn);
-    carry_out(NULL, peer, "A txon %u", an);
-    must("send", macsec_send(peer, client_frame, sizeof client_frame, &sent));
-    must("receive", macsec_receive(e, sent.frame, sent.length, &got));
-    numbers_received(n, e, &got, 1);
+    (void)send_frame(&e, out);
+    carry_out(&peer, "A txsa %u %u %x conf", an, key, pn);
+    carry_out(&peer, "A txon %u", an);
+    must("send", macsec_send(&peer, client_frame, sizeof client_frame, &sent));
+    must("receive", macsec_receive(&e, sent.frame, sent.length, &got));
+    numbers_received(n, &e, &got, 1);
     if (got.verdict == MACSEC_VERDICT_NO_RESERVATION)
-        must("receive", macsec_receive(e, sent.frame, sent.length, &got));
+        must("receive", macsec_receive(&e, sent.frame, sent.length, &got));
     if (got.delivered)
-        capture(file, sent.frame, sent.length);
-    carry_out(NULL, peer, "A txdel %u", an);
+        capture(out, sent.frame, sent.length);
+    carry_out(&peer, "A txdel %u", an);
 }
 
-static int run_agree(unsigned count, const char *out) {
-    macsec_endpoint e = MACSEC_ENDPOINT_INIT, peer = MACSEC_ENDPOINT_INIT;
-    struct numbers *n;
-    struct counts counts = { 0 };
-    int file;
-    if (numbers_open(&n, "journal", &counts) != 0)
-        return 3;
-    file = create_capture(out);
+static int run_agree(unsigned count, const char *name) {
+    out = create_capture(name);
     for (unsigned number = 0; number < 2; number++) {
-        create(n, &e);
-        create_peer(&peer);
-        carry_out(n, &e, "A rxsc %s", other);
+        create();
+        carry_out(&e, "A rxsc %s", other);
         numbers_begin(n, &e);
-        begin_key(n, &e, &peer, 0, 0, 1);
-        pass_frames(n, &e, &peer, 0, 0, 1 + number, file); /* the first reservation is enough for both */
+        begin_key(0, 0, 1);
+        pass_frames(0, 0, 1 + number); /* the first reservation is enough for both */
         if (number == 1)
             break;
-        retire_key(n, &e, &peer, 0, 0);
+        retire_key(0, 0);
         numbers_note_accepted(n, &e, NULL);
         numbers_forget(n);
         macsec_free(&e);
         macsec_free(&peer);
     }
     for (unsigned key = 1; key <= count; key++) { /* with packet numbers that no other key has */
-        begin_key(n, &e, &peer, 1, key, 16 * key);
-        pass_frames(n, &e, &peer, 1, key, 16 * key, file);
-        retire_key(n, &e, &peer, 1, key);
+        begin_key(1, key, 16 * key);
+        pass_frames(1, key, 16 * key);
+        retire_key(1, key);
     }
-    macsec_free(&e);
-    macsec_free(&peer);
-    return close(file) == 0 ? 0 : 1;
+    return end();
 }
 
 /* ---- Amounts ---- */
@@ -319,6 +303,8 @@ int main(int count, char **words) {
         return numbers_create("journal") == 0 ? 0 : 3;
     if (count > 3 && setenv("LIMIT", words[3], 1) != 0)
         return 1;
+    if (numbers_open(&n, "journal", &counts) != 0)
+        return 3;
     if (count == 6 && strcmp(words[1], "agree") == 0)
         return run_agree((unsigned)strtoul(words[4], NULL, 10), words[5]);
     return count == 8 && strcmp(words[1], "send") == 0 ? run_send(strtoul(words[6], NULL, 10), words[7]) : 2;
