@@ -51,8 +51,6 @@ static uint64_t number_of(const char *word) {
 
 void *__real_malloc(size_t size);
 void *__real_realloc(void *old, size_t size);
-void *__wrap_malloc(size_t size);
-void *__wrap_realloc(void *old, size_t size);
 
 static bool is_refused(void) {
     static unsigned long made;

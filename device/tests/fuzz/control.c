@@ -12,9 +12,6 @@ static struct device *device;
 static struct input input;
 static size_t answers;
 
-ssize_t __wrap_recv(int socket, void *buffer, size_t room, int flags);
-ssize_t __wrap_send(int socket, const void *octets, size_t length, int flags);
-
 /* The next request. macsecd puts a zero after it. */
 ssize_t __wrap_recv(int socket, void *buffer, size_t room, int flags) {
     const uint8_t *end = memmem(input.at, input.left, "\n\n", 2);

@@ -16,8 +16,6 @@ static struct device *device;
 static struct input input;
 static unsigned given;
 
-int __wrap_recvmmsg(int socket, struct mmsghdr *headers, unsigned count, int flags, struct timespec *timeout);
-
 /* Gives auxiliary data, as much of them as fits. */
 static void give_control(struct msghdr *header, uint8_t length) {
     struct tpacket_auxdata data;

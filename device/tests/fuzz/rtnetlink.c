@@ -15,11 +15,6 @@ static struct device *device;
 static struct input input;
 static bool has_carrier;
 
-ssize_t __wrap_recvfrom(int socket, void *buffer, size_t room, int flags, struct sockaddr *from, socklen_t *length);
-ssize_t __wrap_send(int socket, const void *octets, size_t length, int flags);
-int __wrap_ioctl(int file, unsigned long request, ...);
-int __wrap_setsockopt(int socket, int level, int option, const void *value, socklen_t length);
-
 ssize_t __wrap_recvfrom(int socket, void *buffer, size_t room, int flags, struct sockaddr *from, socklen_t *length) {
     uint8_t sender;
     size_t count;
