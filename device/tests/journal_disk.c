@@ -52,13 +52,15 @@ static void *next(const char *name) {
     return found;
 }
 
+/* The call itself. */
+#define REAL(name) ((__typeof__(name) *)next(#name))
+
 static int disk_file(const char *name, int flags) {
-    int (*real)(const char *, int, ...) = (int (*)(const char *, int, ...))next("open");
     char path[PATH_MAX];
     int file;
     if (snprintf(path, sizeof path, "%s/%s", getenv("DISK"), name) >= (int)sizeof path)
         abort();
-    file = real(path, flags | O_CREAT | O_CLOEXEC, 0600);
+    file = REAL(open)(path, flags | O_CREAT | O_CLOEXEC, 0600);
     if (file < 0)
         abort();
     return file;
@@ -72,12 +74,9 @@ static int applies(const char *item, int call, char *kind) {
     unsigned long first, count, made;
     if (sscanf(item, "%15[^:]:%lu:%lu:%15[^,]", name, &first, &count, kind) != 4)
         abort();
-    if (strcmp(name, "any") == 0)
-        made = calls[ANY].made;
-    else if (strcmp(name, calls[call].name) == 0)
-        made = calls[call].made;
-    else
+    if (strcmp(name, "any") != 0 && strcmp(name, calls[call].name) != 0)
         return 0;
+    made = calls[strcmp(name, "any") == 0 ? ANY : call].made;
     return made >= first && made - first < count;
 }
 
@@ -146,7 +145,6 @@ static void write_dirty(int file, off_t at, size_t length) {
 
 /* Copies what is dirty to the disk. */
 static void keep(int file, struct dirty *dirty) {
-    ssize_t (*real)(int, const void *, size_t, off_t) = (ssize_t(*)(int, const void *, size_t, off_t))next("pwrite");
     char name[32];
     uint8_t page[PAGE];
     int disk;
@@ -154,7 +152,7 @@ static void keep(int file, struct dirty *dirty) {
     disk = disk_file(name, O_WRONLY);
     for (off_t at = dirty->from; at < dirty->to; at += PAGE) {
         ssize_t count = pread(file, page, PAGE, at);
-        if (count < 0 || real(disk, page, (size_t)count, at) != count)
+        if (count < 0 || REAL(pwrite)(disk, page, (size_t)count, at) != count)
             abort();
     }
     close(disk);
@@ -175,33 +173,31 @@ static void keep_names(int folder) {
     close(file);
 }
 
-static int sync_file(int file, int is_failed) {
+static void sync_file(int file, int is_failed) {
     struct dirty *dirty = dirty_of(file);
     if (!is_failed) {
         keep(file, dirty);
         (void)take_note(torn_of(dirty->inode));
     }
     dirty->from = dirty->to = 0;
-    return is_failed ? -1 : 0;
 }
 
 /* ---- The calls ---- */
 
 int fdatasync(int file) {
     int refused = is_refused(FDATASYNC), error = errno;
-    if (getenv("DISK") != NULL) {
-        int result = sync_file(file, refused);
-        errno = error;
-        return result;
-    }
-    return refused ? -1 : ((int (*)(int))next("fdatasync"))(file);
+    if (getenv("DISK") == NULL)
+        return refused ? -1 : REAL(fdatasync)(file);
+    sync_file(file, refused);
+    errno = error;
+    return refused ? -1 : 0;
 }
 
 int fsync(int file) {
     int refused = is_refused(FSYNC), error = errno;
     struct stat status;
     if (getenv("DISK") == NULL)
-        return refused ? -1 : ((int (*)(int))next("fsync"))(file);
+        return refused ? -1 : REAL(fsync)(file);
     if (fstat(file, &status) != 0)
         abort();
     if (!S_ISDIR(status.st_mode))
@@ -213,7 +209,6 @@ int fsync(int file) {
 }
 
 ssize_t pwrite(int file, const void *octets, size_t length, off_t at) {
-    ssize_t (*real)(int, const void *, size_t, off_t) = (ssize_t(*)(int, const void *, size_t, off_t))next("pwrite");
     const char *kind = fault_of(PWRITE);
     int torn = strcmp(kind, "torn") == 0;
     ssize_t count;
@@ -221,7 +216,7 @@ ssize_t pwrite(int file, const void *octets, size_t length, off_t at) {
         length /= torn ? 2 : 3;
     else if (*kind != '\0' && strcmp(kind, "short") != 0)
         return -1;
-    count = real(file, octets, length == 0 ? 1 : length, at);
+    count = REAL(pwrite)(file, octets, length == 0 ? 1 : length, at);
     if (count > 0)
         write_dirty(file, at, (size_t)count);
     if (torn)
@@ -230,7 +225,6 @@ ssize_t pwrite(int file, const void *octets, size_t length, off_t at) {
 }
 
 int openat(int folder, const char *name, int flags, ...) {
-    int (*real)(int, const char *, int, ...) = (int (*)(int, const char *, int, ...))next("openat");
     va_list rest;
     mode_t mode;
     int file;
@@ -241,7 +235,7 @@ int openat(int folder, const char *name, int flags, ...) {
     va_end(rest);
     if (is_refused(OPENAT))
         return -1;
-    file = real(folder, name, flags, mode);
+    file = REAL(openat)(folder, name, flags, mode);
     /* A new file has nothing on the disk, even if it has the inode of an old one. */
     if (file >= 0 && flags & O_CREAT && getenv("DISK") != NULL && fstat(file, &status) == 0) {
         struct dirty *dirty = dirty_of(file);
@@ -255,24 +249,20 @@ int openat(int folder, const char *name, int flags, ...) {
 }
 
 int renameat2(int from, const char *name, int to, const char *new_name, unsigned flags) {
-    int (*real)(int, const char *, int, const char *, unsigned) =
-        (int (*)(int, const char *, int, const char *, unsigned))next("renameat2");
-    int result = is_refused(RENAMEAT2) ? -1 : real(from, name, to, new_name, flags);
+    int result = is_refused(RENAMEAT2) ? -1 : REAL(renameat2)(from, name, to, new_name, flags);
     if (result == 0)
         note("changed");
     return result;
 }
 
 int unlinkat(int folder, const char *name, int flags) {
-    int (*real)(int, const char *, int) = (int (*)(int, const char *, int))next("unlinkat");
-    int result = is_refused(UNLINKAT) ? -1 : real(folder, name, flags);
+    int result = is_refused(UNLINKAT) ? -1 : REAL(unlinkat)(folder, name, flags);
     if (result == 0)
         note("changed");
     return result;
 }
 
 int flock(int file, int operation) {
-    int (*real)(int, int) = (int (*)(int, int))next("flock");
     const char *pause = getenv("PAUSE");
     const struct timespec moment = { 0, 1000000 };
     if (pause != NULL && calls[FLOCK].made == 0) {
@@ -280,5 +270,5 @@ int flock(int file, int operation) {
         for (int it = 0; it < 10000 && access(pause, F_OK) == 0; it++)
             nanosleep(&moment, NULL);
     }
-    return is_refused(FLOCK) ? -1 : real(file, operation);
+    return is_refused(FLOCK) ? -1 : REAL(flock)(file, operation);
 }
