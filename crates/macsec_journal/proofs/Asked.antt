@@ -1,0 +1,93 @@
+-- What a journal writes was asked for.
+use Rattle.std.proofs.{
+  Common.{◌≡◌, ℕ, ◌≤◌, Bool, true, false, List, [], ◌++◌, length, drop, ap, ◌∙◌, sym, arith, All, length-append, drop_at, take_at},
+}
+use Rattle.macsec_gcm.specs.Octets.{same_octets}
+use Rattle.macsec_reserve.proofs.{
+  HighestOf.highest-append,
+  Reduced.{reduced_reserves, with_all-append},
+  ShorterJournals.{reads_records, reservations_split},
+}
+use Rattle.macsec_reserve.specs.{
+  Crashes.IsReservation,
+  Entries.{reduced, with_all},
+  Journal.{header, highest, records_of, reservations, reserved_in},
+  declared.reservation.Reservation.Reservation,
+}
+use Rattle.macsec_journal.proofs.{
+  Going.{unless_within, without_says},
+  Pieces.header_long,
+  Tracking.{Tracks, in_step, table_are},
+}
+use Rattle.macsec_journal.specs.{
+  Disk.Folder,
+  Laws.SaysNoMore,
+  Machine.{Journal, answered, appended, letting_go, whole, with_order},
+  declared.step.Step.{
+    Step,
+    TheVariants.{Resting, Appending, Syncing, LookingAfter, LookingBefore, Removing, Creating, Locking, Filling},
+    TheVariants.{SyncingNew, Renaming, SyncingFolder},
+  },
+}
+
+-- the table and the order say no more than what was asked for
+abbrev pub Asks : List Reservation → Journal → Type 0
+Asks asked j = (name : List ℕ) → (highest j.table name ≤ highest asked name) × (highest j.ordered name ≤ highest asked name)
+
+asks_on : (asked : List Reservation) (s : Step) (j : Journal) → Asks asked j → Asks asked (answered true (in_step s j))
+asks_on asked Resting j it = it
+asks_on asked Appending j it = it
+asks_on asked Syncing j it = it
+asks_on asked LookingAfter j it = it
+asks_on asked LookingBefore j it = it
+asks_on asked Removing j it = it
+asks_on asked Creating j it = it
+asks_on asked Locking j it = it
+asks_on asked Filling j it = it
+asks_on asked SyncingNew j it = it
+asks_on asked Renaming j it = it
+asks_on asked SyncingFolder j it = it
+
+pub answer_asks : (asked : List Reservation) (ok : Bool) (j : Journal) → Asks asked j → Asks asked (answered ok j)
+answer_asks asked true j it = asks_on asked j.step j it
+answer_asks asked false j it = it
+
+pub order_asks : (salt : List ℕ) (told asked rs : List Reservation) (f : Folder) (anew : Bool) (j : Journal) → Tracks salt told f j → Asks asked j →
+    Asks (asked ++ rs) (with_order rs anew j)
+order_asks salt told asked rs f anew j tracks it name =
+    let all : with_all j.table rs ≡ reduced (tracks.said ++ rs) = ap (λ t. with_all t rs) tracks.table ∙ sym (with_all-append tracks.said rs []) in
+    let says : highest (with_all j.table rs) name ≡ highest (tracks.said ++ rs) name = ap (λ t. highest t name) all ∙ reduced_reserves (tracks.said ++ rs) name in
+    let own : highest j.table name ≡ highest tracks.said name = ap (λ t. highest t name) tracks.table ∙ reduced_reserves tracks.said name in (
+      omega (arith, says, own, highest-append tracks.said rs name, highest-append asked rs name, (it name).0),
+      omega (arith, highest-append asked rs name),
+    )
+
+pub go_asks : (asked : List Reservation) (name : List ℕ) (j : Journal) → Asks asked j → Asks asked (letting_go name j)
+go_asks asked name j it n =
+    let within = unless_within (same_octets name n) (highest j.table n) in
+    (omega (arith, without_says name j.table n, within, (it n).0), omega arith)
+
+-- ---- what is written
+
+pub whole_says_no_more : (salt : List ℕ) (told asked : List Reservation) (f : Folder) (j : Journal) → length salt ≡ 24 → Tracks salt told f j → Asks asked j →
+    SaysNoMore salt asked (whole j).octets
+whole_says_no_more salt told asked f j long tracks it name =
+    let own : length j.salt ≡ 24 = ap length tracks.same ∙ long in
+    let head : length (header j.salt) ≡ 64 = header_long j.salt own in
+    let are : All IsReservation j.table = table_are j.table tracks.said tracks.table tracks.are in
+    let octets : List ℕ = header j.salt ++ records_of j.table in
+    let enough : 64 ≤ length octets = omega (arith, length-append (header j.salt) (records_of j.table), head) in
+    let read : reservations octets ≡ reserved_in (header salt) ++ j.table =
+    reservations_split octets enough
+    ∙ ap (λ xs. reserved_in xs ++ reservations (drop 64 octets)) (take_at (header j.salt) (records_of j.table) 64 head)
+    ∙ ap (λ xs. reserved_in (header j.salt) ++ reservations xs) (drop_at (header j.salt) (records_of j.table) 64 head)
+    ∙ ap (λ rs. reserved_in (header j.salt) ++ rs) (reads_records j.table are).0
+    ∙ ap (λ x. reserved_in (header x) ++ j.table) tracks.same in
+    let says : highest (reservations octets) name ≡ highest (reserved_in (header salt) ++ j.table) name = ap (λ rs. highest rs name) read in
+    omega (arith, says, highest-append (reserved_in (header salt)) j.table name, (it name).0)
+
+pub appended_says_no_more : (salt : List ℕ) (told asked : List Reservation) (f : Folder) (j : Journal) → Tracks salt told f j → Asks asked j →
+    SaysNoMore salt asked (appended j).octets
+appended_says_no_more salt told asked f j tracks it name =
+    let says : highest (reservations (records_of j.ordered)) name ≡ highest j.ordered name = ap (λ rs. highest rs name) (reads_records j.ordered tracks.ordered).0 in
+    omega (arith, says, (it name).1)
