@@ -1,7 +1,5 @@
 -- What a journal writes was asked for.
-use Rattle.std.proofs.{
-  Common.{◌≡◌, ℕ, ◌≤◌, Bool, true, false, List, [], ◌++◌, length, drop, ap, ◌∙◌, sym, arith, All, length-append, drop_at, take_at},
-}
+use Rattle.std.proofs.{Common.{◌≡◌, ℕ, ◌≤◌, Bool, true, false, List, [], ◌++◌, length, drop, ap, ◌∙◌, sym, arith, All, length-append, drop_at, take_at}, Common.{if◌then◌else◌, ◌||◌}}
 use Rattle.macsec_gcm.specs.Octets.{same_octets}
 use Rattle.macsec_reserve.proofs.{
   HighestOf.highest-append,
@@ -22,7 +20,8 @@ use Rattle.macsec_journal.proofs.{
 use Rattle.macsec_journal.specs.{
   Disk.Folder,
   Laws.SaysNoMore,
-  Machine.{Journal, answered, appended, letting_go, whole, with_order},
+  Machine.{Journal, answered, appended, appending, ends_behind_limit, is_full, letting_go, ordering, replacing, whole},
+  Machine.with_order,
   declared.step.Step.{
     Step,
     TheVariants.{Resting, Appending, Syncing, LookingAfter, LookingBefore, Removing, Creating, Locking, Filling},
@@ -52,15 +51,27 @@ pub answer_asks : (asked : List Reservation) (ok : Bool) (j : Journal) → Asks 
 answer_asks asked true j it = asks_on asked j.step j it
 answer_asks asked false j it = it
 
-pub order_asks : (salt : List ℕ) (told asked rs : List Reservation) (f : Folder) (anew : Bool) (j : Journal) → Tracks salt told f j → Asks asked j →
-    Asks (asked ++ rs) (with_order rs anew j)
-order_asks salt told asked rs f anew j tracks it name =
+table_asks : (salt : List ℕ) (told asked rs : List Reservation) (f : Folder) (j : Journal) → Tracks salt told f j → Asks asked j → (name : List ℕ) →
+    highest (with_all j.table rs) name ≤ highest (asked ++ rs) name
+table_asks salt told asked rs f j tracks it name =
     let all : with_all j.table rs ≡ reduced (tracks.said ++ rs) = ap (λ t. with_all t rs) tracks.table ∙ sym (with_all-append tracks.said rs []) in
     let says : highest (with_all j.table rs) name ≡ highest (tracks.said ++ rs) name = ap (λ t. highest t name) all ∙ reduced_reserves (tracks.said ++ rs) name in
-    let own : highest j.table name ≡ highest tracks.said name = ap (λ t. highest t name) tracks.table ∙ reduced_reserves tracks.said name in (
-      omega (arith, says, own, highest-append tracks.said rs name, highest-append asked rs name, (it name).0),
-      omega (arith, highest-append asked rs name),
-    )
+    let own : highest j.table name ≡ highest tracks.said name = ap (λ t. highest t name) tracks.table ∙ reduced_reserves tracks.said name in
+    omega (arith, says, own, highest-append tracks.said rs name, highest-append asked rs name, (it name).0)
+
+asks_in : (asked rs : List Reservation) (j : Journal) → ((name : List ℕ) → highest (with_all j.table rs) name ≤ highest (asked ++ rs) name) →
+    (b : Bool) → Asks (asked ++ rs) (if b then replacing rs j else appending rs j)
+asks_in asked rs j table true name = (table name, omega arith)
+asks_in asked rs j table false name = (table name, omega (arith, highest-append asked rs name))
+
+asks_unless : (asked rs : List Reservation) (anew : Bool) (j : Journal) → Asks asked j → ((name : List ℕ) → highest (with_all j.table rs) name ≤ highest (asked ++ rs) name) →
+    (full : Bool) → Asks (asked ++ rs) (if full then j else with_order rs anew j)
+asks_unless asked rs anew j it table true name = (omega (arith, highest-append asked rs name, (it name).0), omega (arith, highest-append asked rs name, (it name).1))
+asks_unless asked rs anew j it table false name = asks_in asked rs j table (j.doubt || (anew || ends_behind_limit rs j)) name
+
+pub order_asks : (salt : List ℕ) (told asked rs : List Reservation) (f : Folder) (anew : Bool) (j : Journal) → Tracks salt told f j → Asks asked j →
+    Asks (asked ++ rs) (ordering rs anew j)
+order_asks salt told asked rs f anew j tracks it = asks_unless asked rs anew j it (table_asks salt told asked rs f j tracks it) (is_full rs j)
 
 pub go_asks : (asked : List Reservation) (name : List ℕ) (j : Journal) → Asks asked j → Asks asked (letting_go name j)
 go_asks asked name j it n =
