@@ -8,11 +8,7 @@ use Rattle.macsec_pcap.specs.{
   Reading.{holds, Answers, IsAfter, IsAhead, Opens, Reading, ahead_after, ahead_of, first_of, past_first, told},
   Records.CaptureRecord,
   declared.{
-    fault.PcapFault.{
-      PcapFault,
-      TheVariants.{Magic, Version, LinkType, CutHeader, CutRecord, RecordLength, Read, Write, Memory, RecordCount},
-      TheVariants.{BlockLength, NoInterface, InterfaceCount, Time},
-    },
+    fault.PcapFault.{PcapFault, TheVariants.Read},
     form.{Form.Form, Order.Order},
     reader.Course.{Course, TheVariants.{Going, Ended, Failed}},
     records.Head.Head,
@@ -44,19 +40,7 @@ first_of-records_of order places octets =
 
 unless_read-shown : (begins : Result (Option (CaptureRecord × List ℕ)) PcapFault) (fault : PcapFault) → UnlessRead begins (Err fault) → UnlessRead (shows begins) (Err fault)
 unless_read-shown begins Read h = tt
-unless_read-shown begins Magic h = ap shows h
-unless_read-shown begins Version h = ap shows h
-unless_read-shown begins LinkType h = ap shows h
-unless_read-shown begins CutHeader h = ap shows h
-unless_read-shown begins CutRecord h = ap shows h
-unless_read-shown begins RecordLength h = ap shows h
-unless_read-shown begins Write h = ap shows h
-unless_read-shown begins Memory h = ap shows h
-unless_read-shown begins RecordCount h = ap shows h
-unless_read-shown begins BlockLength h = ap shows h
-unless_read-shown begins NoInterface h = ap shows h
-unless_read-shown begins InterfaceCount h = ap shows h
-unless_read-shown begins Time h = ap shows h
+unless_read-shown begins fault h = ap shows h
 
 -- a fault is returned
 pub answers_fault : (order : Order) (places : ℕ) (old new : Option (List ℕ)) (room : List ℕ) (fault : PcapFault) →
@@ -112,46 +96,33 @@ abbrev pub Steps : Reading → Result (Option CaptureRecord) PcapFault → Readi
 Steps now answer new = IsAfter now answer new × Answers now.ahead answer
 
 -- a call on a reader that has returned neither the end nor a fault
-going : (now : Reading) (form : Form) (course : Course) (places : ℕ) (octets : Option (List ℕ)) → course ≡ Going → standing form course places octets ≡ now →
-    standing form Going places octets ≡ now
-going now form course places octets is same = ap (λ c. standing form c places octets) (sym is) ∙ same
-
-pub steps_record : (now : Reading) (form : Form) (course : Course) (places : ℕ) (old new : Option (List ℕ)) (room : List ℕ) (numbers : Head) (first : CaptureRecord) →
+pub steps_record : {now : Reading} (form : Form) {course : Course} (places : ℕ) (old new : Option (List ℕ)) (room : List ℕ) (numbers : Head) {first : CaptureRecord} →
     course ≡ Going → standing form course places old ≡ now → 1 ≤ places → first ≡ record_in numbers room →
     IfSome old (λ octets. TakesRecord form.order places octets new room (Ok (Some numbers))) →
     Steps now (Ok (Some first)) (standing form course (places - 1) new)
-steps_record now form course places old new room numbers first is same place shown taken =
-    subst (λ c. Steps now (Ok (Some first)) (standing form c (places - 1) new)) (sym is)
-    (subst (λ r. Steps r (Ok (Some first)) (standing form Going (places - 1) new)) (going now form course places old is same) (
+steps_record form places old new room numbers {first} is same place shown taken =
+    rw (← same, is) (
       record { resolution = refl; places = omega (arith, place); ahead = ahead_of_rest form.order places old new room numbers first place taken },
       answers_record form.order places old new room numbers first shown taken,
-    ))
+    )
 
-pub steps_end : (now : Reading) (form : Form) (course : Course) (places : ℕ) (old new : Option (List ℕ)) (room : List ℕ) →
+pub steps_end : {now : Reading} (form : Form) {course : Course} (places : ℕ) (old new : Option (List ℕ)) (room : List ℕ) →
     course ≡ Going → standing form course places old ≡ now →
     IfSome old (λ octets. TakesRecord form.order places octets new room (Ok None)) → Steps now (Ok None) (standing form Ended places new)
-steps_end now form course places old new room is same taken =
-    subst (λ r. Steps r (Ok None) (standing form Ended places new)) (going now form course places old is same)
-    (record { resolution = refl; places = refl; ahead = refl }, answers_end form.order places old new room taken)
+steps_end form places old new room is same taken =
+    rw (← same, is) (record { resolution = refl; places = refl; ahead = refl }, answers_end form.order places old new room taken)
 
-pub steps_fault : (now : Reading) (form : Form) (course : Course) (places : ℕ) (old new : Option (List ℕ)) (room : List ℕ) (fault : PcapFault) →
+pub steps_fault : {now : Reading} (form : Form) {course : Course} (places : ℕ) (old new : Option (List ℕ)) (room : List ℕ) (fault : PcapFault) →
     course ≡ Going → standing form course places old ≡ now →
     IfSome old (λ octets. TakesRecord form.order places octets new room (Err fault)) → Steps now (Err fault) (standing form (Failed fault) places new)
-steps_fault now form course places old new room fault is same taken =
-    subst (λ r. Steps r (Err fault) (standing form (Failed fault) places new)) (going now form course places old is same)
-    (record { resolution = refl; places = refl; ahead = refl }, answers_fault form.order places old new room fault taken)
+steps_fault form places old new room fault is same taken =
+    rw (← same, is) (record { resolution = refl; places = refl; ahead = refl }, answers_fault form.order places old new room fault taken)
 
 -- a call on a reader that has returned the end or a fault
-pub steps_ended : (now : Reading) (form : Form) (course : Course) (places : ℕ) (octets : Option (List ℕ)) →
+pub steps_ended : {now : Reading} (form : Form) {course : Course} (places : ℕ) (octets : Option (List ℕ)) →
     course ≡ Ended → standing form course places octets ≡ now → Steps now (Ok None) (standing form course places octets)
-steps_ended now form course places octets is same =
-    subst (λ r. Steps r (Ok None) (standing form course places octets)) same
-    (subst (λ c. Steps (standing form c places octets) (Ok None) (standing form c places octets)) (sym is)
-    (record { resolution = refl; places = refl; ahead = refl }, refl))
+steps_ended form places octets is same = rw (← same, is) (record { resolution = refl; places = refl; ahead = refl }, refl)
 
-pub steps_failed : (now : Reading) (form : Form) (course : Course) (places : ℕ) (octets : Option (List ℕ)) (fault : PcapFault) →
+pub steps_failed : {now : Reading} (form : Form) {course : Course} (places : ℕ) (octets : Option (List ℕ)) {fault : PcapFault} →
     course ≡ Failed fault → standing form course places octets ≡ now → Steps now (Err fault) (standing form course places octets)
-steps_failed now form course places octets fault is same =
-    subst (λ r. Steps r (Err fault) (standing form course places octets)) same
-    (subst (λ c. Steps (standing form c places octets) (Err fault) (standing form c places octets)) (sym is)
-    (record { resolution = refl; places = refl; ahead = refl }, refl))
+steps_failed form places octets is same = rw (← same, is) (record { resolution = refl; places = refl; ahead = refl }, refl)

@@ -1,39 +1,23 @@
 -- The header depends on the first 24 octets only.
 use Rattle.std.proofs.Common.{◌≡◌, ℕ, ◌≤◌, List, ◌++◌, length, take, drop, refl, sym, ap, ◌∙◌, arith, length-append}
-use Rattle.std.proofs.Common.{take-append-drop, Option, Some, None, IfSome, Result, Ok, Err, false, nat_lt, le-ltb}
+use Rattle.std.proofs.Common.{take-append-drop, Option, Some, None, IfSome, Result, Ok, Err, le-ltb}
 use Rattle.macsec_pcap.proofs.{FilledRooms.filled_whole, NumbersAt.{number-append, number-drop-append}}
 use Rattle.macsec_pcap.specs.{
   Answers.{ReadsHeader, UnlessRead},
   Filled.IsFilled,
   Header.{form_of, header_in, header_of},
-  declared.fault.PcapFault.{
-    PcapFault,
-    TheVariants.{Magic, Version, LinkType, CutHeader, CutRecord, RecordLength, Read, Write, Memory, RecordCount},
-    TheVariants.{BlockLength, NoInterface, InterfaceCount, Time},
-  },
+  declared.fault.PcapFault.{PcapFault, TheVariants.Read},
   declared.form.{Form.Form, Order.TheVariants.{Big, Little}},
 }
 
 -- `meant` is returned
-pub UnlessRead-same : {X : Type 0} (meant answer : Result X PcapFault) → answer ≡ meant → UnlessRead meant answer
-UnlessRead-same meant (Ok x) same = same
-UnlessRead-same meant (Err Read) same = tt
-UnlessRead-same meant (Err Magic) same = same
-UnlessRead-same meant (Err Version) same = same
-UnlessRead-same meant (Err LinkType) same = same
-UnlessRead-same meant (Err CutHeader) same = same
-UnlessRead-same meant (Err CutRecord) same = same
-UnlessRead-same meant (Err RecordLength) same = same
-UnlessRead-same meant (Err Write) same = same
-UnlessRead-same meant (Err Memory) same = same
-UnlessRead-same meant (Err RecordCount) same = same
-UnlessRead-same meant (Err BlockLength) same = same
-UnlessRead-same meant (Err NoInterface) same = same
-UnlessRead-same meant (Err InterfaceCount) same = same
-UnlessRead-same meant (Err Time) same = same
+pub UnlessRead-same : {X : Type 0} {meant : Result X PcapFault} (answer : Result X PcapFault) → answer ≡ meant → UnlessRead meant answer
+UnlessRead-same (Ok x) same = same
+UnlessRead-same (Err Read) same = tt
+UnlessRead-same (Err fault) same = same
 
 form_of-append : (header rest : List ℕ) → 4 ≤ length header → form_of (header ++ rest) ≡ form_of header
-form_of-append header rest long = rw (number-append Big 4 header rest long, number-append Little 4 header rest long) refl
+form_of-append header rest long = rw (number-append Big 4 header rest long, number-append Little 4 header rest long)
 
 header_in-append : (form : Option Form) (header rest : List ℕ) → 24 ≤ length header → header_in form (header ++ rest) ≡ header_in form header
 header_in-append None header rest long = refl
@@ -42,13 +26,15 @@ header_in-append (Some form) header rest long =
       number-drop-append form.order 2 4 header rest (omega (arith, long)),
       number-drop-append form.order 2 6 header rest (omega (arith, long)),
       number-drop-append form.order 4 20 header rest (omega (arith, long)),
-    ) refl
+    )
 
 pub header_of-append : (header rest : List ℕ) → 24 ≤ length header → header_of (header ++ rest) ≡ header_of header
 header_of-append header rest long =
-    let here : nat_lt (length header) 24 ≡ false = le-ltb (length header) 24 long in
-    let there : nat_lt (length (header ++ rest)) 24 ≡ false = le-ltb (length (header ++ rest)) 24 (omega (arith, length-append header rest)) in
-    rw (here, there, form_of-append header rest (omega (arith, long))) (header_in-append (form_of header) header rest long)
+    rw (
+      le-ltb (length header) 24 long,
+      le-ltb (length (header ++ rest)) 24 (omega (arith, long, length-append header rest)),
+      form_of-append header rest (omega (arith, long)),
+    ) (header_in-append (form_of header) header rest long)
 
 -- the header of a file is the header of its first 24 octets
 header_of-take : (file header : List ℕ) → length header ≡ 24 → take (length header) file ≡ header → header_of file ≡ header_of header
@@ -58,7 +44,7 @@ header_of-take file header long front =
 
 reads : (file : List ℕ) (new : Option (List ℕ)) (answer : Result Form PcapFault) → header_of file ≡ answer → new ≡ Some (drop 24 file) → ReadsHeader file new answer
 reads file new (Ok form) same left = (same, left)
-reads file new (Err fault) same left = UnlessRead-same (header_of file) (Err fault) (sym same)
+reads file new (Err fault) same left = UnlessRead-same (Err fault) (sym same)
 
 -- a header was read completely
 pub reads_header : (old new : Option (List ℕ)) (header : List ℕ) (n : ℕ) (answer : Result Form PcapFault) → length header ≡ 24 → 24 ≤ n →

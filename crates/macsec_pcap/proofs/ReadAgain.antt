@@ -1,7 +1,7 @@
 -- The law `read_again`: a written file is read as the records that were written.
 use Rattle.{
-  std.proofs.Common.{◌≡◌, ℕ, zero, suc, ◌^◌, ◌<◌, ◌≤◌, List, [], ◌∷◌, ◌++◌, length, map, take, drop, refl, ap, ◌∙◌},
-  std.proofs.Common.{arith, append_assoc, length-append, Some, None, Ok, nat_lt, false, if◌then◌else◌, le-ltb, take_at},
+  std.proofs.Common.{◌≡◌, ℕ, zero, suc, ◌^◌, ◌<◌, ◌≤◌, List, [], ◌∷◌, ◌++◌, length, map, drop, refl, ap, ◌∙◌},
+  std.proofs.Common.{arith, append_assoc, length-append, Some, None, Ok, le-ltb, take_at},
   std.proofs.Common.drop_at,
   byteorder.specs.{Endian.little_bytes, Numbers.little_number-reads_back},
   macsec_pcap.proofs.{Headers.header_of-append, RecordsAt.{at_head, at_head-whole, record_at-append}},
@@ -12,7 +12,7 @@ use Rattle.{
     Laws.{AllCanBeWritten, CanBeWritten, ReadAgain, WholeRecord, as_read, written_records},
     Limits.max_records,
     Numbers.number,
-    Records.{record_at, whole, partial},
+    Records.{record_at},
     Written.{header_octets, record_head, record_octets},
     declared.{form.{Order.TheVariants.Little, Resolution.{Resolution, TheVariants.{Micro, Nano}}}, records.Head.Head},
   },
@@ -42,10 +42,7 @@ head_of-written seconds fraction len s f l =
 record_in-whole : (seconds fraction : ℕ) (frame rest : List ℕ) →
     record_in (numbers_of seconds fraction (length frame)) (frame ++ rest) ≡ as_read (record { seconds = seconds; fraction = fraction; frame = frame })
 record_in-whole seconds fraction frame rest =
-    let same : nat_lt (length frame) (length frame) ≡ false = le-ltb (length frame) (length frame) (omega arith) in
-    let taken : take (length frame) (frame ++ rest) ≡ frame = take_at frame rest (length frame) refl in
-    ap (λ b. record { seconds = seconds; fraction = fraction; content = if b then partial else whole (take (length frame) (frame ++ rest)) }) same
-    ∙ ap (λ xs. record { seconds = seconds; fraction = fraction; content = whole xs }) taken
+    rw (le-ltb (length frame) (length frame) (omega arith), take_at frame rest (length frame) refl)
 
 record_at-written : (r : WholeRecord) (rest : List ℕ) → CanBeWritten r → record_at Little (record_octets r.seconds r.fraction r.frame ++ rest) ≡ Ok (Some (as_read r, rest))
 record_at-written r rest can =

@@ -35,20 +35,19 @@ front_before old new first second (front, begins, adds) = (
 )
 
 -- the head was not written completely
-pub cuts_head : (old new : Option (List ℕ)) (seconds fraction : ℕ) (frame head : List ℕ) (fault : PcapFault) →
+pub cuts_head : (old new : Option (List ℕ)) (seconds fraction : ℕ) (frame : List ℕ) {head : List ℕ} {fault : PcapFault} →
     length frame ≤ max_record_length → head ≡ record_head seconds fraction (length frame) → fault ≡ Write → AppendsFront old new head →
     WritesRecord old new seconds fraction frame (Err fault)
-cuts_head old new seconds fraction frame head fault fits same is cut =
-    subst (λ f. WritesRecord old new seconds fraction frame (Err f)) (sym is)
-    (refl, fits, front_before old new (record_head seconds fraction (length frame)) frame (subst (AppendsFront old new) same cut))
+cuts_head old new seconds fraction frame fits same is cut =
+    rw is (refl, fits, front_before old new (record_head seconds fraction (length frame)) frame (subst (AppendsFront old new) same cut))
 
 -- the head was written, and then the frame
-pub writes_record : (old mid new : Option (List ℕ)) (seconds fraction : ℕ) (frame head : List ℕ) (answer : Result (Unit {0}) PcapFault) →
+pub writes_record : (old mid new : Option (List ℕ)) (seconds fraction : ℕ) (frame : List ℕ) (answer : Result (Unit {0}) PcapFault) {head : List ℕ} →
     length frame ≤ max_record_length → head ≡ record_head seconds fraction (length frame) → Appends old mid head →
     OnOk answer (Appends mid new frame) → IfErr answer (λ fault. fault ≡ Write) → OnErr answer (AppendsFront mid new frame) →
     WritesRecord old new seconds fraction frame answer
-writes_record old mid new seconds fraction frame head (Ok done) fits same first second is cut =
+writes_record old mid new seconds fraction frame (Ok done) fits same first second is cut =
     (fits, Appends-trans old mid new (record_head seconds fraction (length frame)) frame (subst (Appends old mid) same first) second)
-writes_record old mid new seconds fraction frame head (Err fault) fits same first second is cut =
+writes_record old mid new seconds fraction frame (Err fault) fits same first second is cut =
     subst (λ f. WritesRecord old new seconds fraction frame (Err f)) (sym is)
     (refl, fits, front_behind old mid new (record_head seconds fraction (length frame)) frame (subst (Appends old mid) same first) cut)

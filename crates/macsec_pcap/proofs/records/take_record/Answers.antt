@@ -10,12 +10,11 @@ returns-in_err-take_captured-clause-taken g c =
     let whole : 16 ≤ c.in_ok-count.count = omega arith in
     let p = err_from_is_err_and c.from_residual-in_err-take_captured.result c.from_residual-in_err-take_captured.ensures.1 in
     rw (p.1, p.2)
-    (takes_fault c.args.order c.args.places _ _ (g.R.Read.remaining c.take_captured.new.source) c.fill.new.room c.take_captured.new.room
-    c.in_ok-count.count c.of-head.result c.in_err-take_captured.field-0.0 c.of-head.ensures place c.fill.auto.room whole c.in_ok-count.ensures c.in_err-take_captured.ensures.taken)
+    (takes_fault c.args.order c.args.places _ (g.R.Read.remaining c.take_captured.new.source) c.take_captured.new.room
+    c.in_err-take_captured.field-0.0 c.of-head.ensures place c.fill.auto.room whole c.in_ok-count.ensures c.in_err-take_captured.ensures.taken)
 
 pub returns-clause-taken : goal.returns-clause-taken
 returns-clause-taken g c =
     let place : 1 ≤ c.args.places = omega arith in
     let whole : 16 ≤ c.in_ok-count.count = omega arith in
-    takes_record c.args.order c.args.places _ _ _ c.fill.new.room c.take_captured.new.room c.in_ok-count.count c.of-head.result
-    c.of-head.ensures place c.fill.auto.room whole c.in_ok-count.ensures c.in_ok-take_captured.ensures.taken
+    takes_record c.args.order c.args.places _ _ c.take_captured.new.room c.of-head.ensures place c.fill.auto.room whole c.in_ok-count.ensures c.in_ok-take_captured.ensures.taken
