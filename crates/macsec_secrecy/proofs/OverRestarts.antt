@@ -6,7 +6,7 @@ use Rattle.std.proofs.{
 use Rattle.macsec_gcm.specs.Octets.{same_octets}
 use Rattle.macsec_suite.specs.CipherUses.{CipherUse}
 use Rattle.macsec_reserve.specs.{
-  Forgotten.{RepeatsNoIvForgetting, sealed_forgetting_in_all},
+  Forgotten.RepeatsNoIvForgetting,
   Histories.{Run, StaysSound, opening, sealed_in_all},
   TwoEnds.{RepeatsNoIvAtBoth, RepeatsNoIvAtBothAfterCrashes},
   Unique.HasOtherIv,
@@ -58,19 +58,19 @@ Crashes = (runs others : List Run) → RepeatsNoIvAtBothAfterCrashes runs others
 
 pub no_input_twice_durable : Durable → NoInputTwice AreHistories
 no_input_twice_durable law runs others it key =
-    inputs_differ key (sealed_in_all runs ++ sealed_in_all others) (both_good runs others it.here.sound it.there.sound) (law runs others it.here it.there it.ends)
+    inputs_differ key _ (both_good runs others it.here.sound it.there.sound) (law runs others it.here it.there it.ends)
 
 pub no_input_twice_crashes : Crashes → NoInputTwice AreHistoriesOfCrashes
 no_input_twice_crashes law runs others it key =
-    inputs_differ key (sealed_in_all runs ++ sealed_in_all others) (both_good runs others it.here.sound it.there.sound) (law runs others it.here it.there it.ends)
+    inputs_differ key _ (both_good runs others it.here.sound it.there.sound) (law runs others it.here it.there it.ends)
 
 pub link_says_nothing_durable : Durable → LinkSaysNothing AreHistories
 link_says_nothing_durable law runs others it key octets are =
-    nothing_said key (sealed_in_all runs ++ sealed_in_all others) (both_good runs others it.here.sound it.there.sound) (law runs others it.here it.there it.ends) octets are
+    nothing_said key _ (both_good runs others it.here.sound it.there.sound) (law runs others it.here it.there it.ends) octets are
 
 pub link_says_nothing_crashes : Crashes → LinkSaysNothing AreHistoriesOfCrashes
 link_says_nothing_crashes law runs others it key octets are =
-    nothing_said key (sealed_in_all runs ++ sealed_in_all others) (both_good runs others it.here.sound it.there.sound) (law runs others it.here it.there it.ends) octets are
+    nothing_said key _ (both_good runs others it.here.sound it.there.sound) (law runs others it.here it.there it.ends) octets are
 
 -- ---- one end that forgets
 
@@ -78,8 +78,8 @@ abbrev Forgetting : Type 0
 Forgetting = (runs : List Run) → RepeatsNoIvForgetting runs
 
 pub no_input_twice_forgetting : Forgetting → NoInputTwiceForgetting
-no_input_twice_forgetting law runs it key = inputs_differ key (sealed_forgetting_in_all runs) (runs_good_forgetting runs it.sound) (law runs it)
+no_input_twice_forgetting law runs it key = inputs_differ key _ (runs_good_forgetting runs it.sound) (law runs it)
 
 pub link_says_nothing_forgetting : Forgetting → LinkSaysNothingForgetting
 link_says_nothing_forgetting law runs it key octets are =
-    nothing_said key (sealed_forgetting_in_all runs) (runs_good_forgetting runs it.sound) (law runs it) octets are
+    nothing_said key _ (runs_good_forgetting runs it.sound) (law runs it) octets are

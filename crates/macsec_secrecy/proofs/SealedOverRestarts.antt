@@ -3,7 +3,7 @@
 use Rattle.{
   std.proofs.{
     Common.{◌≡◌, ℕ, suc, ◌≤◌, Bool, true, false, List, [], ◌∷◌, length, take, Option, Some, None, All, refl, arith},
-    Common.{◌==◌, nat_lt, unwrap_or, if◌then◌else◌, ltb-false},
+    Common.{nat_lt, unwrap_or, if◌then◌else◌, ltb-false},
     lemmas.List.Elements.{All-append, All-cons, All-nil},
   },
   macsec_suite.specs.{
@@ -15,7 +15,7 @@ use Rattle.{
   macsec_secy.specs.{
     Sound.IsSound,
     State.{State, tx_options},
-    Step.{Input, client_frame, frame_fault, link_frame, operator_command, sending_of, uncontrolled_frame},
+    Step.{Input, client_frame, frame_fault},
     declared.fault.FrameFault.{FrameFault, TheVariants.{Long, Short}},
   },
   macsec_reserve.specs.{
@@ -23,7 +23,7 @@ use Rattle.{
     Forgotten.{StaysSoundForgetting, sealed_forgetting_in_all},
     Histories.{Run, StaysSound, newly_sealed, opening, sealed, sealed_by, sealed_from, sealed_if, sealed_in},
     Histories.sealed_in_all,
-    Keeping.{Keeping, KeepingInput, endpoint_input, keeping_after, keeping_step, may_go, now_durable},
+    Keeping.{Keeping, KeepingInput, endpoint_input, keeping_after, keeping_step, now_durable},
   },
   macsec_secrecy.{proofs.{SealedInRuns.{IsOwn, sent_own}, Shown.ciphertext_long, Uses.iv_long}, specs.Inputs.IsUse},
 }
@@ -40,14 +40,11 @@ frame_has : (P : CipherUse → Type 0) (Q : State → Type 0) → HoldsOfSentIn 
     → Q s → frame_fault frame ≡ fault → All P (sealed_by s frame fault by)
 frame_has P Q sent s frame None (Some row) now is =
     All-cons P (use_sent (tx_options s) (the_key s.keys row.key) row frame) [] (sent s row frame now is) (All-nil P)
-frame_has P Q sent s frame None None now is = All-nil P
-frame_has P Q sent s frame (Some f) by now is = All-nil P
+frame_has P Q sent s frame fault by now is = All-nil P
 
 input_has : (P : CipherUse → Type 0) (Q : State → Type 0) → HoldsOfSentIn P Q → (s : State) (input : Input) → Q s → All P (sealed s input)
-input_has P Q sent s (operator_command c) now = All-nil P
-input_has P Q sent s (client_frame frame) now = frame_has P Q sent s frame (frame_fault frame) (sending_of s frame).by now refl
-input_has P Q sent s (uncontrolled_frame frame) now = All-nil P
-input_has P Q sent s (link_frame frame) now = All-nil P
+input_has P Q sent s (client_frame frame) now = frame_has P Q sent s frame _ _ now refl
+input_has P Q sent s input now = All-nil P
 
 if_has : (P : CipherUse → Type 0) (goes : Bool) (uses : List CipherUse) → All P uses → All P (sealed_if goes uses)
 if_has P false uses all = All-nil P
@@ -55,7 +52,7 @@ if_has P true uses all = all
 
 newly_has : (P : CipherUse → Type 0) (Q : State → Type 0) → HoldsOfSentIn P Q → (k : Keeping) (input : KeepingInput) → Q k.secy → All P (newly_sealed k input)
 newly_has P Q sent k (now_durable r) now = All-nil P
-newly_has P Q sent k (endpoint_input input) now = if_has P (may_go k input) (sealed k.secy input) (input_has P Q sent k.secy input now)
+newly_has P Q sent k (endpoint_input input) now = if_has P _ _ (input_has P Q sent k.secy input now)
 
 from_has : (P : CipherUse → Type 0) (Q : State → Type 0) → HoldsOfSentIn P Q → (k : Keeping) (inputs : List KeepingInput) → Stays Q k inputs → All P (sealed_from k inputs)
 from_has P Q sent k [] each = All-nil P
@@ -80,7 +77,7 @@ pub record IsGood (u : CipherUse) : Type 0 where
 
 salt_long : (keys : List InstalledKey) (n : ℕ) → AreKeyRows keys → is_xpn (the_key keys n).suite ≡ true → length (the_key keys n).salt ≡ 12
 salt_long [] n are xpn = absurd (cc)
-salt_long (k ∷ keys) n are xpn = by_test (k.number == n) (λ e. are.0.salt) (λ x. salt_long keys n are.2 x) xpn
+salt_long (k ∷ keys) n are xpn = by_test _ (λ e. are.0.salt) (λ x. salt_long keys n are.2 x) xpn
   where
     by_test : (b : Bool) → (b ≡ true → length k.salt ≡ 12) → (is_xpn (the_key keys n).suite ≡ true → length (the_key keys n).salt ≡ 12)
         → is_xpn (unwrap_or (if b then Some k else key_row keys n) no_key).suite ≡ true
@@ -90,19 +87,18 @@ salt_long (k ∷ keys) n are xpn = by_test (k.number == n) (λ e. are.0.salt) (�
 
 iv_sent_long : (s : State) (row : TxRow) → IsSound s → length (iv_sent (tx_options s) (the_key s.keys row.key) row) ≡ 12
 iv_sent_long s row sound =
-    let key : InstalledKey = the_key s.keys row.key in
-    iv_long key.suite s.config.sci key.ssci key.salt row.next sound.own_sci.count (λ xpn. salt_long s.keys row.key sound.keys xpn)
+    let key = the_key s.keys row.key in
+    iv_long _ _ key.ssci key.salt row.next sound.own_sci.count (λ xpn. salt_long s.keys row.key sound.keys xpn)
 
 -- ---- all that an end seals
 
 not_long : (frame : List ℕ) → frame_fault frame ≡ None → length frame ≤ 9248
-not_long frame e = by_tests (nat_lt (length frame) 14) (nat_lt 9248 (length frame)) refl e
+not_long frame e = by_tests _ _ refl e
   where
     by_tests : (short long : Bool) → nat_lt 9248 (length frame) ≡ long
         → (if short then Some Short else if long then Some Long else None) ≡ None → length frame ≤ 9248
-    by_tests true long is e = absurd (cc)
-    by_tests false true is e = absurd (cc)
     by_tests false false is e = ltb-false 9248 (length frame) is
+    by_tests short long is e = absurd (cc)
 
 sent_good : (s : State) (row : TxRow) (frame : List ℕ) → IsSound s → length frame ≤ 9248 → IsGood (use_sent (tx_options s) (the_key s.keys row.key) row frame)
 sent_good s row frame sound fits =

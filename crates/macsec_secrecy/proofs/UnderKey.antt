@@ -13,7 +13,7 @@ under key uses = filter (λ u. same_octets u.key key) uses
 
 pub under_key : (key : List ℕ) (uses : List CipherUse) → All (λ u. u.key ≡ key) (under key uses)
 under_key key uses =
-    All-weaker (λ u. same_octets u.key key ≡ true) (λ u. u.key ≡ key) (λ u e. same_text u.key key (sym e)) (under key uses)
+    All-weaker (λ u. same_octets u.key key ≡ true) (λ u. u.key ≡ key) (λ u e. same_text u.key key (sym e)) _
     (filter_passes (λ u. same_octets u.key key) uses)
 
 pub ivs_apart : (key : List ℕ) (uses : List CipherUse) → AllPairs HasOtherIv uses → AllPairs (λ s r. s.iv ≢ r.iv) (under key uses)

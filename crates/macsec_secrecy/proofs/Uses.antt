@@ -16,19 +16,17 @@ use Rattle.{
     CipherUses.{CipherUse, cipher_use},
     KeyRows.{AreKeyRows, InstalledKey, IsKeyRow, the_key},
     Parts.clear_length,
-    Suites.{extended_iv, is_xpn, iv_of},
+    Suites.{is_xpn, iv_of},
     declared.suite.Suite.Suite,
   },
   macsec_commands.specs.declared.{config.EndConfig.EndConfig, event.{End.{End, TheVariants.{A, B}}, Event.Event}},
-  macsec_tx.specs.Transmit.iv_sent,
-  macsec_secy.specs.State.{State, tx_options},
   macsec_link.specs.{
     Beginnings.AreSound,
     Promises.KeepsPromises,
     Sound.IsSound,
-    Step.{world_after, world_at},
+    Step.world_after,
     Trace.{Sent, trace_of},
-    UniqueIvs.{AreSealed, IsUseFor, RepeatsNoIv, SealsEachFrame, parts_made, state_at},
+    UniqueIvs.{IsUseFor, RepeatsNoIv, SealsEachFrame, parts_made, state_at},
     World.{WorldState, end_of, new_world},
   },
   macsec_secrecy.{
@@ -42,19 +40,18 @@ abbrev pub Promises : Type 0
 Promises = (a b : EndConfig) (events : List Event) → AreSound a b events → KeepsPromises a b events
 
 pub promised_to_all : (a b : EndConfig) (events : List Event) (law : EndConfig → EndConfig → List Event → Type 0) → ((k : ℕ) → law a b (take k events)) → law a b events
-promised_to_all a b events law each = subst (law a b) (take_all (length events) events (omega arith)) (each (length events))
+promised_to_all a b events law each = subst (law a b) (take_all _ events (omega arith)) (each (length events))
 
 sound_to_all : (a b : EndConfig) (events : List Event) → AreSound a b events → IsSound (world_after (new_world a b) events)
 sound_to_all a b events sounds =
-    subst (λ (es : List Event). IsSound (world_after (new_world a b) es)) (take_all (length events) events (omega arith)) (sounds (length events))
+    subst (λ es. IsSound (world_after (new_world a b) es)) (take_all (length events) events (omega arith)) (sounds (length events))
 
 -- ---- IVs
 
 pub iv_long : (suite : Suite) (sci : Sci) (ssci : ℕ) (salt : List ℕ) (pn : ℕ) → length sci.0 ≡ 8 → (is_xpn suite ≡ true → length salt ≡ 12) → length (iv_of suite sci ssci salt pn) ≡ 12
 iv_long suite sci ssci salt pn eight twelve =
-    cond_both (is_xpn suite) (extended_iv ssci salt pn) (sci.0 ++ to_be_bytes w32 pn) (λ iv. length iv ≡ 12)
-    (λ e. length-sum_with_stream salt _ ∙ twelve e)
-    (λ e. length-append sci.0 (to_be_bytes w32 pn) ∙ ap (λ (n : ℕ). n + 4) eight)
+    cond_both _ _ _ (λ iv. length iv ≡ 12) (λ e. length-sum_with_stream salt _ ∙ twelve e)
+    (λ e. length-append sci.0 (to_be_bytes w32 pn) ∙ ap (λ n. n + 4) eight)
 
 all_rows : (keys : List InstalledKey) → AreKeyRows keys → All IsKeyRow keys
 all_rows [] are = All-nil IsKeyRow
@@ -74,28 +71,28 @@ pub record IsCarried (bound : ℕ) (u : CipherUse) : Type 0 where
 
 pub all_left : (xs ys : List ℕ) → AreOctets (xs ++ ys) → AreOctets xs
 all_left xs ys all = λ k default lt.
-    subst (λ (n : ℕ). n < 256) (get_or_append_left xs ys default k lt) (all k default (omega (arith, length-append xs ys)))
+    subst (λ n. n < 256) (get_or_append_left xs ys default k lt) (all k default (omega (arith, length-append xs ys)))
 
 all_right : (xs ys : List ℕ) → AreOctets (xs ++ ys) → AreOctets ys
 all_right xs ys all = λ k default lt.
-    subst (λ (n : ℕ). n < 256) (get_or-append-add xs ys k default) (all (length xs + k) default (omega (arith, length-append xs ys)))
+    subst (λ n. n < 256) (get_or-append-add xs ys k default) (all (length xs + k) default (omega (arith, length-append xs ys)))
 
 pub data_octets : (p : MpduParts) → AreOctets (in_a_row p) → AreOctets p.secure_data
 data_octets p octets =
-    let before : List ℕ = p.da ++ p.sa ++ encoding p.tag in
-    all_right before p.secure_data (all_left (before ++ p.secure_data) p.icv (all_left (before ++ p.secure_data ++ p.icv) p.padding octets))
+    let before = p.da ++ p.sa ++ encoding p.tag in
+    all_right before _ (all_left _ p.icv (all_left _ _ octets))
 
 data_fits : (p : MpduParts) (n : ℕ) → length (in_a_row p) ≤ n → length p.secure_data ≤ n
 data_fits p n fits =
-    let before : List ℕ = p.da ++ p.sa ++ encoding p.tag in
+    let before = p.da ++ p.sa ++ encoding p.tag in
     omega (arith, length-append (before ++ p.secure_data ++ p.icv) p.padding, length-append (before ++ p.secure_data) p.icv, length-append before p.secure_data, fits)
 
 parts_carried : (n : ℕ) (key : InstalledKey) (iv : List ℕ) (p : MpduParts) → length iv ≡ 12 → AreOctets (in_a_row p) → length (in_a_row p) ≤ n → IsCarried n (cipher_use key iv p)
 parts_carried n key iv p long octets fits =
-    let clear : ℕ = clear_length key.offset p.tag.e p.secure_data in
+    let clear = clear_length key.offset p.tag.e p.secure_data in
     record {
       iv = long;
-      octets = All-drop (λ o. o < 256) clear p.secure_data (data_octets p octets);
+      octets = All-drop (λ o. o < 256) clear _ (data_octets p octets);
       fits = omega (arith, length-drop clear p.secure_data, data_fits p n fits);
     }
 
@@ -107,45 +104,44 @@ use_carried : (a b : EndConfig) (events : List Event) (bound moment : ℕ) (x : 
     → All (λ frame. length frame ≤ bound) (world_after (new_world a b) events).frames → IsUseFor a b events moment x → IsCarried bound x.seal
 use_carried a b events bound moment x sounds sound fits it =
     let frames = (world_after (new_world a b) events).frames in
-    let s : State = state_at a b events moment x.at in
-    let key : InstalledKey = the_key s.keys it.row.key in
-    let p : MpduParts = parts_made s it.row x.frame in
-    let here : endpoint.IsSound s = sound_end (world_at a b events moment) (sounds moment) x.at in
-    let end : WorldState = world_after (new_world a b) events in
-    let row : IsKeyRow it.key = All-contains IsKeyRow (end_of end x.at).state.keys it.key (all_rows (end_of end x.at).state.keys (sound_end end sound x.at).keys) it.there in
+    let s = state_at a b events moment x.at in
+    let key = the_key s.keys it.row.key in
+    let p = parts_made s it.row x.frame in
+    let here : endpoint.IsSound s = sound_end _ (sounds moment) x.at in
+    let end = world_after (new_world a b) events in
+    let row : IsKeyRow it.key = All-contains IsKeyRow _ it.key (all_rows _ (sound_end end sound x.at).keys) it.there in
     let salt : length key.salt ≡ 12 = ap length (sym it.later.salt) ∙ row.salt in
-    subst (IsCarried bound) (sym it.seal)
-    (parts_carried bound key (iv_sent (tx_options s) key it.row) p
-    (iv_long key.suite (tx_options s).sci key.ssci key.salt it.row.next here.own_sci.count (λ xpn. salt))
-    (on_the_link AreOctets frames it.link_frame (in_a_row p) sound.octets it.on_link)
-    (on_the_link (λ frame. length frame ≤ bound) frames it.link_frame (in_a_row p) fits it.on_link))
+    subst (IsCarried bound) (sym it.seal) (parts_carried bound key _ p
+    (iv_long _ _ key.ssci key.salt _ here.own_sci.count (λ xpn. salt))
+    (on_the_link AreOctets _ _ _ sound.octets it.on_link)
+    (on_the_link (λ frame. length frame ≤ bound) _ _ _ fits it.on_link))
 
 -- what holds of each use of the cipher that belongs to a client frame holds of all that was sealed
 pub each_seal : (a b : EndConfig) (events : List Event) (P : CipherUse → Type 0) → SealsEachFrame a b events
     → ((moment : ℕ) (x : Sent) → IsUseFor a b events moment x → P x.seal) → All P (trace_of a b events).seals
 each_seal a b events P sealed each =
-    let sends : List Sent = sealed.0 in
-    let are : AreSealed a b events sends = sealed.1 in
-    let all : All (λ (x : Sent). P x.seal) sends =
+    let sends = sealed.0 in
+    let are = sealed.1 in
+    let all : All (λ x. P x.seal) sends =
     λ k default lt.
-    let at : ℕ = get_or are.moments k 0 in
+    let at = get_or are.moments k 0 in
     let count = are.count in
     each at (get_or sends k default)
-    (are.uses k at (get_or sends k default) (slice_get-get_or are.moments k 0 (omega arith)) (slice_get-get_or sends k default lt)) in
-    subst (All P) are.seals (All-map P (λ (x : Sent). x.seal) sends all)
+    (are.uses k at (get_or sends k default) (slice_get-get_or _ k 0 (omega arith)) (slice_get-get_or sends k default lt)) in
+    subst (All P) are.seals (All-map P (λ x. x.seal) sends all)
 
 pub seals_carried : Promises → (a b : EndConfig) (events : List Event) → AreSound a b events → (bound : ℕ)
     → All (λ frame. length frame ≤ bound) (world_after (new_world a b) events).frames → All (IsCarried bound) (trace_of a b events).seals
 seals_carried promises a b events sounds bound fits =
-    each_seal a b events (IsCarried bound) (promised_to_all a b events SealsEachFrame (promises a b events sounds).seals)
-    (λ moment x it. use_carried a b events bound moment x sounds (sound_to_all a b events sounds) fits it)
+    each_seal a b _ (IsCarried bound) (promised_to_all a b events SealsEachFrame (promises a b events sounds).seals)
+    (λ moment x it. use_carried a b _ bound _ x sounds (sound_to_all a b events sounds) fits it)
 
 -- ---- under one key
 
 pub carried_under : Promises → (key : List ℕ) (a b : EndConfig) (events : List Event) → AreSound a b events → (bound : ℕ)
     → All (λ frame. length frame ≤ bound) (world_after (new_world a b) events).frames → All (IsCarried bound) (sealed_under key a b events)
 carried_under promises key a b events sounds bound fits =
-    All-filter (λ u. same_octets u.key key) (IsCarried bound) (trace_of a b events).seals (seals_carried promises a b events sounds bound fits)
+    All-filter (λ u. same_octets u.key key) (IsCarried bound) _ (seals_carried promises a b events sounds bound fits)
 
 pub frames_fit : (a b : EndConfig) (events : List Event) → AreSound a b events → All (λ frame. length frame ≤ 9248) (world_after (new_world a b) events).frames
 frames_fit a b events sounds = (sound_to_all a b events sounds).frames
@@ -159,10 +155,10 @@ is_use u it = record { iv = it.iv; text = (let f = it.fits in omega arith) }
 
 pub no_input_twice : Promises → NoInputTwice
 no_input_twice promises a b events it key =
-    inputs_of_uses_differ (sealed_under key a b events) (ivs_apart_in_run promises key a b events it)
+    inputs_of_uses_differ (sealed_under key a b events) (ivs_apart_in_run promises key a b _ it)
     (All-weaker (IsCarried 9248) IsUse is_use (sealed_under key a b events) (carried_under promises key a b events it.sound 9248 (frames_fit a b events it.sound)))
 
 pub number_of_inputs_in_runs : Promises → NumberOfInputs
 number_of_inputs_in_runs promises a b events sounds m key fits =
     number_of_inputs m (sealed_under key a b events)
-    (All-weaker (IsCarried (16 * m)) (λ u. length u.ciphertext ≤ 16 * m) (λ u it. it.fits) (sealed_under key a b events) (carried_under promises key a b events sounds (16 * m) fits))
+    (All-weaker (IsCarried (16 * m)) (λ u. length u.ciphertext ≤ 16 * m) (λ u it. it.fits) (sealed_under key a b events) (carried_under promises key a b events sounds _ fits))
