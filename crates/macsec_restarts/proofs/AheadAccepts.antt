@@ -20,29 +20,27 @@ use Rattle.macsec_restarts.{
 -- ---- a step
 
 before_stays_with : (a : Ahead) (input : KeepingInput) → (ahead_step a input).1.k.before ≡ a.k.before
-before_stays_with a input = field_inside (λ (k : Keeping). k.before) before_stays a input
+before_stays_with a input = field_inside (λ k. k.before) before_stays a input
 
 salt_stays_with : (a : Ahead) (input : KeepingInput) → (ahead_step a input).1.k.salt ≡ a.k.salt
-salt_stays_with a input = field_inside (λ (k : Keeping). k.salt) salt_stays a input
+salt_stays_with a input = field_inside (λ k. k.salt) salt_stays a input
 
 pub salt_after : (inputs : List KeepingInput) (a : Ahead) → (ahead_after a inputs).k.salt ≡ a.k.salt
 salt_after [] a = refl
-salt_after (input ∷ inputs) a = salt_after inputs (ahead_step a input).1 ∙ salt_stays_with a input
+salt_after (input ∷ inputs) a = salt_after inputs _ ∙ salt_stays_with a input
 
 pub option_by : (again : Bool) (it : Standing) (a : Ahead) (input : Input) (answer : KeepingOutput × Keeping) →
     ((ahead_by again it a input answer).1.ahead ≡ a.ahead) × ((ahead_by again it a input answer).1.taken ≡ a.taken)
 option_by again it a input answer =
-    by_ahead (λ (x : Ahead). (x.ahead ≡ a.ahead) × (x.taken ≡ a.taken)) a input answer (refl, refl) (refl, refl)
-    again it
+    by_ahead (λ x. (x.ahead ≡ a.ahead) × (x.taken ≡ a.taken)) a input answer (refl, refl) (refl, refl) again it
 
 option_stays : (a : Ahead) (input : KeepingInput) → (ahead_step a input).1.ahead ≡ a.ahead
 option_stays a (now_durable r) = refl
-option_stays a (endpoint_input input) = (option_by (begins_again a input) (standing a input) a input
-    (keeping_step a.k (endpoint_input input))).0
+option_stays a (endpoint_input input) = (option_by _ _ a input _).0
 
 pub option_after : (inputs : List KeepingInput) (a : Ahead) → (ahead_after a inputs).ahead ≡ a.ahead
 option_after [] a = refl
-option_after (input ∷ inputs) a = option_after inputs (ahead_step a input).1 ∙ option_stays a input
+option_after (input ∷ inputs) a = option_after inputs _ ∙ option_stays a input
 
 -- ---- what was reported durable
 
@@ -51,8 +49,7 @@ entries_reserve : (name_of : RxRow → List ℕ) (taken : List Reservation) (row
     highest (map (λ row. record { name = name_of row; last = highest taken (name_of row) }) rows) name ≤ highest taken
     name
 entries_reserve name_of taken [] name = omega arith
-entries_reserve name_of taken (row ∷ rows) name = by_name (same_octets (name_of row) name) refl
-    (entries_reserve name_of taken rows name)
+entries_reserve name_of taken (row ∷ rows) name = by_name _ refl (entries_reserve name_of taken rows name)
   where
     others : ℕ
     others = highest (map (λ r. record { name = name_of r; last = highest taken (name_of r) }) rows) name
@@ -60,7 +57,7 @@ entries_reserve name_of taken (row ∷ rows) name = by_name (same_octets (name_o
     by_name : (b : Bool) → same_octets (name_of row) name ≡ b → others ≤ highest taken name →
         (if b then max (highest taken (name_of row)) others else others) ≤ highest taken name
     by_name true is rest =
-        let same : highest taken (name_of row) ≡ highest taken name = rw ((bytes_eq-Decides (name_of row) name).0 is) in
+        let same : highest taken (name_of row) ≡ highest taken name = rw ((bytes_eq-Decides _ name).0 is) in
         omega (arith, same, rest)
     by_name false is rest = rest
 
@@ -68,7 +65,7 @@ entries_reserve name_of taken (row ∷ rows) name = by_name (same_octets (name_o
 raised_most : (r : Reservation) (entries : List Reservation) (name : List ℕ) → highest (map (raised_by r) entries)
     name ≤ max (highest entries name) (highest (r ∷ []) name)
 raised_most r [] name = omega arith
-raised_most r (g ∷ gs) name = by_own (same_octets g.name r.name) refl (raised_most r gs name)
+raised_most r (g ∷ gs) name = by_own _ refl (raised_most r gs name)
   where
     old : ℕ
     old = highest gs name
@@ -92,8 +89,8 @@ raised_most r (g ∷ gs) name = by_own (same_octets g.name r.name) refl (raised_
     by_own : (own : Bool) → same_octets g.name r.name ≡ own → new ≤ max old (highest (r ∷ []) name) →
         highest ((if own then record g { last = max g.last r.last } else g) ∷ map (raised_by r) gs) name ≤ max
         (highest (g ∷ gs) name) (highest (r ∷ []) name)
-    by_own true is rest = own_name (same_octets g.name name) refl ((bytes_eq-Decides g.name r.name).0 is) rest
-    by_own false is rest = other_name (same_octets g.name name) rest
+    by_own true is rest = own_name _ refl ((bytes_eq-Decides g.name r.name).0 is) rest
+    by_own false is rest = other_name _ rest
 
 pub taken_step : (a : Ahead) (input : KeepingInput) (inputs : List KeepingInput) (name : List ℕ) →
     max (highest (ahead_step a input).1.taken name) (highest (reported_in inputs) name) ≤ max (highest a.taken name)
@@ -132,9 +129,7 @@ pub passes_means : (ahead old new : Bool) (x y : RxPn) → ahead ≡ true →
     y) ≡ true →
     (old ≡ false) × (new ≡ true)
 passes_means true false true x y on is = (refl, refl)
-passes_means true false false x y on is = cc
-passes_means true true new x y on is = cc
-passes_means false old new x y on is = cc
+passes_means ahead old new x y on is = cc
 
 pub reserved_now : (a : Ahead) → a.ahead ≡ true → (j : Judgement) (row : RxRow) → (j.step == 13) ≡ true →
     is_through false (standing_by a j None (Some row)) ≡ true →
@@ -147,26 +142,26 @@ reserved_now a on j row valid is =
     let new = nat_le j.number (highest a.taken name) in
     let it : Standing = if not a.ahead then passes else if old then before_this_run at else if new then passes
     else not_yet at in
-    let tests = passes_means a.ahead old new at at on (ap (λ (b : Bool). is_through false (if b then it else passes))
+    let tests = passes_means a.ahead old new at at on (ap (λ b. is_through false (if b then it else passes))
     (sym valid) ∙ is) in
     (leb-false j.number (highest a.k.before name) tests.0, leb-true j.number (highest a.taken name) tests.1)
 
-within_now : (a : Ahead) → a.ahead ≡ true → (input : KeepingInput) (d : Delivery) → is_valid a.k.secy input ≡ true →
+within_now : (a : Ahead) → a.ahead ≡ true → {input : KeepingInput} {d : Delivery} → is_valid a.k.secy input ≡ true →
     lets_through a input ≡ true → IsGiven a.k.secy input d → IsWithin a.k.before a.k.salt (highest a.taken) d
-within_now a on _ _ valid lets (is_given frame row delivered fits of_row delivers) =
+within_now a on valid lets (is_given frame row _ fits of_row delivers) =
     let both = reserved_now a on (judgement_of a.k.secy frame) row valid (rw (fits, of_row) at lets) in
     record { above = both.0; within = both.1 }
 
 pub within_input : (a : Ahead) → a.ahead ≡ true → (input : KeepingInput) →
     All (IsWithin a.k.before a.k.salt (highest a.taken)) (newly_accepted a input)
-within_input a on input = by_tests (is_valid a.k.secy input) refl (lets_through a input) refl
+within_input a on input = by_tests _ refl _ refl
   where
     by_tests : (valid : Bool) → is_valid a.k.secy input ≡ valid → (lets : Bool) → lets_through a input ≡ lets →
         All (IsWithin a.k.before a.k.salt (highest a.taken))
         (if valid then (if lets then newly_delivered a.k input else []) else [])
     by_tests true is true is' = λ i d within'.
-        within_now a on input (get_or (newly_delivered a.k input) i d) is is' (each_given a.k input i d within')
-    by_tests valid is lets is' = All-nil (IsWithin a.k.before a.k.salt (highest a.taken))
+        within_now a on is is' (each_given a.k input i d within')
+    by_tests valid is lets is' = All-nil _
 
 abbrev pub most_of : Ahead → List KeepingInput → List ℕ → ℕ
 most_of a inputs name = max (highest a.taken name) (highest (reported_in inputs) name)
@@ -176,7 +171,7 @@ within : (inputs : List KeepingInput) (a : Ahead) → a.ahead ≡ true →
 within [] a on = All-nil (IsWithin a.k.before a.k.salt (most_of a []))
 within (input ∷ inputs) a on =
     let after = (ahead_step a input).1 in
-    let P : Delivery → Type 0 = IsWithin a.k.before a.k.salt (most_of a (input ∷ inputs)) in
+    let P = IsWithin a.k.before a.k.salt (most_of a (input ∷ inputs)) in
     All-append P (newly_accepted a input) (accepted_from after inputs)
     (All-weaker (IsWithin a.k.before a.k.salt (highest a.taken)) P
     (λ d it. record { above = it.above; within = omega (arith, it.within) }) (newly_accepted a input)
@@ -184,7 +179,7 @@ within (input ∷ inputs) a on =
     (All-weaker (IsWithin after.k.before after.k.salt (most_of after inputs)) P
     (λ d it.
     let here : IsWithin a.k.before a.k.salt (most_of after inputs) d =
-    subst (λ (salt : List ℕ). IsWithin a.k.before salt (most_of after inputs) d) (salt_stays_with a input)
+    subst (λ salt. IsWithin a.k.before salt (most_of after inputs) d) (salt_stays_with a input)
     (rw (before_stays_with a input) at it) in
     record {
       above = here.above;
@@ -215,17 +210,17 @@ accepts_reserved run d there =
 -- ---- two runs
 
 -- what is reserved in a later run is above what is reserved in an earlier one
-pub reserved_above : (run later : Run) → SameSalt run later → KeepsDurable run later → (d e : Delivery) →
+pub reserved_above : {run later : Run} → SameSalt run later → KeepsDurable run later → {d e : Delivery} →
     IsReservedIn run d → IsReservedIn later e → AreOfOneSa d e → d.number < e.number
-reserved_above run later salt durable d e first second same =
+reserved_above {run} {later} salt durable {d} {e} first second same =
     let name : delivery_name (salt_of later.journal) e ≡ delivery_name (salt_of run.journal) d =
     rw (salt, ← same.bytes, ← same.sci, ← same.an) in
-    let above : highest (reservations later.journal) (delivery_name (salt_of run.journal) d) < e.number =
+    let above =
     rw name at second.above in
     omega (arith, first.within, above, durable (delivery_name (salt_of run.journal) d))
 
 accepts_above : (run later : Run) → SameSalt run later → KeepsDurable run later → AcceptsAbove run later
-accepts_above run later salt durable d e here there same = reserved_above run later salt durable d e
+accepts_above run later salt durable d e here there same = reserved_above salt durable
     (accepts_reserved run d here) (accepts_reserved later e there) same
 
 pub accepts_above_in_all : (runs : List Run) → AcceptsAboveInAll runs

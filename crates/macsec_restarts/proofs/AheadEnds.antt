@@ -2,18 +2,18 @@
 -- whether the SA exists or not.
 use Rattle.{
   std.proofs.lemmas.Bool.and_cases,
-  macsec_secy.{proofs.RxRowsStay.rx_rows_stay, specs.Step.{dropped_no_sa, dropped_too_long}},
+  macsec_secy.proofs.RxRowsStay.rx_rows_stay,
   macsec_reserve.specs.Forgetting.is_done_output,
   macsec_restarts.{
     proofs.{
       Names.{[], ◌&&◌, ◌<◌, ◌==◌, ◌∙◌, ◌∷◌, ◌≡◌, ◌≤◌, ◌⊎◌, after_retiring, Ahead, ahead_after, ahead_by, ahead_step},
       Names.{and_from, ap, arith, begins_again, Bool, by_tests, Command, done, end_of, end_of_row, ended_after},
       Names.{ended_by, ended_of, endpoint_input, Ends, eqb-true, false, filter, gives_up, if◌then◌else◌, inl, Input},
-      Names.{inr, is_below_floor, is_done, is_gone, is_through, IsAbove, IsGivenUp, IsMember, Keeping, keeping_step},
-      Names.{KeepingInput, KeepingOutput, KeepsAssociation, le-leb, leb-false, left_member, lets_through, List, lt-ltb},
-      Names.{ltb-false, max, may_go, member_of_map, nat_le, nat_lt, None, now_durable, operator_command, Option},
-      Names.{Output, refl, refused, Retire, rx_row, RxRow, RxSa, Sci, Some, Standing, standing, State, stays_given_up},
-      Names.{step, subst, sym, true, with_ends, without_key, ℕ},
+      Names.{inr, is_done, is_gone, is_through, IsAbove, IsGivenUp, IsMember, Keeping, keeping_step, KeepingInput},
+      Names.{KeepingOutput, KeepsAssociation, le-leb, leb-false, left_member, lets_through, List, lt-ltb, ltb-false},
+      Names.{max, member_of_map, nat_le, nat_lt, None, now_durable, operator_command, Option, Output, refl, Retire},
+      Names.{rx_row, RxRow, RxSa, Sci, Some, Standing, standing, State, stays_given_up, step, subst, sym, true},
+      Names.{with_ends, without_key, ℕ},
       AheadInside.{by_ahead, by_inside},
       EndTables.{ends_cover, ends_more, without_other},
       NextNumbers.same_place,
@@ -31,40 +31,35 @@ gone : (s after : State) (t : Ends) (row : RxRow) → rx_row s.rx.rows row.sci r
 gone s after t row there none =
     let gone' : is_gone after row ≡ true = rw none in
     let left : IsMember (filter (is_gone after) s.rx.rows) row =
-    left_member (is_gone after) s.rx.rows row (found_row row.sci row.an s.rx.rows row there) gone' in
-    ends_cover (ended_by s after) t (ended_of row) (member_of_map ended_of (filter (is_gone after) s.rx.rows) row left)
+    left_member _ _ row (found_row row.sci row.an _ row there) gone' in
+    ends_cover _ t _ (member_of_map ended_of _ row left)
 
 -- ---- a key that is given up
 
 -- a key that a step of the keeping endpoint retires is given up
 pub retires : (k : Keeping) (n : ℕ) → is_done (keeping_step k (endpoint_input (operator_command (Retire n)))).0 ≡ true →
     IsGivenUp (keeping_step k (endpoint_input (operator_command (Retire n)))).1.secy n
-retires k n done' = by_both (is_below_floor k (operator_command (Retire n)))
-    (may_go k (operator_command (Retire n))) done'
+retires k n done' = by_both _ _ done'
   where
     is_it_done : (output : Output) → is_done_output output ≡ true → output ≡ done
     is_it_done done is = refl
-    is_it_done (refused r) is = cc
-    is_it_done dropped_no_sa is = cc
-    is_it_done dropped_too_long is = cc
-    is_it_done it is = cc
+    is_it_done output is = cc
 
     by_both : (below go : Bool) → is_done (by_tests below go k (step k.secy (operator_command (Retire n)))).0 ≡ true →
         IsGivenUp (by_tests below go k (step k.secy (operator_command (Retire n)))).1.secy n
-    by_both true go is = cc
-    by_both false false is = cc
-    by_both false true is = gives_up k.secy n (is_it_done (step k.secy (operator_command (Retire n))).0 is)
+    by_both false true is = gives_up k.secy n (is_it_done _ is)
+    by_both below go is = cc
 
 pub keeps_given_up : (k : Keeping) (input : KeepingInput) (n : ℕ) → IsGivenUp k.secy n →
     IsGivenUp (keeping_step k input).1.secy n
 keeps_given_up k (now_durable r) n up = up
 keeps_given_up k (endpoint_input input) n up =
-    by_keeping (λ (s : State). IsGivenUp s n) k input up (stays_given_up k.secy n input up)
+    by_keeping (λ s. IsGivenUp s n) k input up (stays_given_up k.secy n input up)
 
 -- a key that is given up stays given up
 pub given_up_stays : (a : Ahead) (input : KeepingInput) (n : ℕ) → IsGivenUp a.k.secy n →
     IsGivenUp (ahead_step a input).1.k.secy n
-given_up_stays a input n up = by_inside (λ (k : Keeping). IsGivenUp k.secy n) a input up (keeps_given_up a.k input n up)
+given_up_stays a input n up = by_inside (λ k. IsGivenUp k.secy n) a input up (keeps_given_up a.k input n up)
 
 -- ---- a step
 
@@ -86,7 +81,7 @@ pub after_command : (c : Command) (answer : KeepingOutput × Keeping) → GivesU
     (again : Bool) (it : Standing) (a : Ahead) (key : ℕ) (sci : Sci) (an : ℕ) →
     StaysUnless a (ahead_by again it a (operator_command c) answer).1 key sci an
 after_command c answer gives again it a key sci an =
-    by_ahead (λ (x : Ahead). StaysUnless a x key sci an) a (operator_command c) answer (inr (omega arith))
+    by_ahead (λ x. StaysUnless a x key sci an) a (operator_command c) answer (inr (omega arith))
     (by_keeps a.k.keeps c answer gives) again it
   where
     grown : (answer : KeepingOutput × Keeping) →
@@ -129,15 +124,13 @@ after_frame : (again : Bool) (it : Standing) (a : Ahead) (input : Input) (answer
     ended_after a input answer ≡ a.ended → (key : ℕ) (sci : Sci) (an : ℕ) →
     StaysUnless a (ahead_by again it a input answer).1 key sci an
 after_frame again it a input answer same key sci an =
-    by_ahead (λ (x : Ahead). StaysUnless a x key sci an) a input answer (inr (omega arith))
-    (inr (rw same (omega arith))) again it
+    by_ahead (λ x. StaysUnless a x key sci an) a input answer (inr (omega arith)) (inr (rw same (omega arith))) again it
 
 pub ends_step : (a : Ahead) (input : KeepingInput) (key : ℕ) (sci : Sci) (an : ℕ) →
     StaysUnless a (ahead_step a input).1 key sci an
 ends_step a (now_durable r) key sci an = inr (omega arith)
 ends_step a (endpoint_input (operator_command c)) key sci an =
-    after_command c (keeping_step a.k (endpoint_input (operator_command c))) (retires_by a.k c)
-    (begins_again a (operator_command c)) (standing a (operator_command c)) a key sci an
+    after_command c _ (retires_by a.k c) _ _ a key sci an
 ends_step a (endpoint_input input) key sci an =
     after_frame (begins_again a input) (standing a input) a input (keeping_step a.k (endpoint_input input)) refl key sci
     an
@@ -145,16 +138,15 @@ ends_step a (endpoint_input input) key sci an =
 given_up_later : (inputs : List KeepingInput) (a : Ahead) (n : ℕ) → IsGivenUp a.k.secy n →
     IsGivenUp (ahead_after a inputs).k.secy n
 given_up_later [] a n up = up
-given_up_later (input ∷ inputs) a n up = given_up_later inputs (ahead_step a input).1 n (given_up_stays a input n up)
+given_up_later (input ∷ inputs) a n up = given_up_later inputs _ n (given_up_stays a input n up)
 
 pub keeps_ends : (inputs : List KeepingInput) (a : Ahead) (key : ℕ) (sci : Sci) (an : ℕ) → KeepsEnds a inputs key sci an
 keeps_ends [] a key sci an = inr (omega arith)
-keeps_ends (input ∷ inputs) a key sci an = by_step (ends_step a input key sci an)
-    (keeps_ends inputs (ahead_step a input).1 key sci an)
+keeps_ends (input ∷ inputs) a key sci an = by_step (ends_step a input key sci an) (keeps_ends inputs _ key sci an)
   where
     by_step : StaysUnless a (ahead_step a input).1 key sci an → KeepsEnds (ahead_step a input).1 inputs key sci an →
         KeepsEnds a (input ∷ inputs) key sci an
-    by_step (inl up) later = inl (given_up_later inputs (ahead_step a input).1 key up)
+    by_step (inl up) later = inl (given_up_later inputs _ key up)
     by_step (inr grows) (inl up) = inl up
     by_step (inr grows) (inr later) = inr (omega (arith, grows, later))
 
@@ -165,8 +157,7 @@ pub row_kept : (k : Keeping) (input : KeepingInput) (sci : Sci) (an n : ℕ) →
     IsAbove k.secy.rx.rows sci an n → IsAbove (keeping_step k input).1.secy.rx.rows sci an n
 row_kept k (now_durable r) sci an n stays above = above
 row_kept k (endpoint_input input) sci an n stays above =
-    by_keeping (λ (s : State). IsAbove s.rx.rows sci an n) k input above
-    (rx_rows_stay k.secy input sci an n stays above)
+    by_keeping (λ s. IsAbove s.rx.rows sci an n) k input above (rx_rows_stay k.secy input sci an n stays above)
 
 pub not_gone : (k : Keeping) (input : KeepingInput) (row : RxRow) → KeepsAssociation row.sci row.an input →
     rx_row k.secy.rx.rows row.sci row.an ≡ Some row →
@@ -199,7 +190,7 @@ pub remembers_by : (c : Command) (answer : KeepingOutput × Keeping) (again : Bo
     rx_row (ahead_by again it a (operator_command c) answer).1.k.secy.rx.rows row.sci row.an ≡ None →
     end_of_row row ≤ end_of (ahead_by again it a (operator_command c) answer).1.ended row.key row.sci row.an
 remembers_by c answer again it a row by keeps there =
-    by_ahead (λ (x : Ahead). rx_row x.k.secy.rx.rows row.sci row.an ≡ None →
+    by_ahead (λ x. rx_row x.k.secy.rx.rows row.sci row.an ≡ None →
     end_of_row row ≤ end_of x.ended row.key row.sci row.an) a (operator_command c) answer
     (λ none. let no = sym there ∙ none in cc)
     (λ none.
@@ -213,21 +204,19 @@ remembers_frame : (a : Ahead) (input : KeepingInput) (row : RxRow) → KeepsAsso
     rx_row a.k.secy.rx.rows row.sci row.an ≡ Some row →
     rx_row (ahead_step a input).1.k.secy.rx.rows row.sci row.an ≡ None → ⊥
 remembers_frame a input row stays there =
-    by_inside (λ (k : Keeping). rx_row k.secy.rx.rows row.sci row.an ≡ None → ⊥) a input
+    by_inside (λ k. rx_row k.secy.rx.rows row.sci row.an ≡ None → ⊥) a input
     (λ none. let no = sym there ∙ none in cc) (not_gone a.k input row stays there)
 
 pub remembers_end : (a : Ahead) (input : KeepingInput) (row : RxRow) → RemembersEnd a input row
 remembers_end a (now_durable r) row keeps there none = let no = sym there ∙ none in cc
 remembers_end a (endpoint_input (operator_command c)) row keeps there none =
-    remembers_by c (keeping_step a.k (endpoint_input (operator_command c))) (begins_again a (operator_command c))
-    (standing a (operator_command c)) a row (keeps_by_retiring a.k row there c) keeps there none
+    remembers_by c _ _ _ a row (keeps_by_retiring a.k row there c) keeps there none
 remembers_end a input row keeps there none = absurd (remembers_frame a input row refl there none)
 
 pub refuses_below_end : (a : Ahead) (sci : Sci) (an key ssci lowest : ℕ) → RefusesBelowEnd a sci an key ssci lowest
 refuses_below_end a sci an key ssci lowest least below =
     let input = operator_command (RxSa sci an key ssci lowest) in
-    rw (and_from (nat_lt 0 lowest) (nat_le lowest (end_of a.ended key sci an)) (lt-ltb 0 lowest least)
-    (le-leb lowest (end_of a.ended key sci an) below))
+    rw (and_from _ _ (lt-ltb 0 lowest least) (le-leb lowest (end_of a.ended key sci an) below))
 
 -- ---- what may have been accepted from an SA: below its lowest acceptable PN, and up to where it ended
 
@@ -242,14 +231,14 @@ past_of a key sci an = max (row_end (rx_row a.k.secy.rx.rows sci an) key) (end_o
 keeping_row_step : (k : Keeping) (input : Input) (sci : Sci) (an : ℕ) →
     RowStep input (rx_row k.secy.rx.rows sci an) (rx_row (keeping_step k (endpoint_input input)).1.secy.rx.rows sci an)
 keeping_row_step k input sci an =
-    by_keeping (λ (s : State). RowStep input (rx_row k.secy.rx.rows sci an) (rx_row s.rx.rows sci an)) k input
+    by_keeping (λ s. RowStep input (rx_row k.secy.rx.rows sci an) (rx_row s.rx.rows sci an)) k input
     (still input (rx_row k.secy.rx.rows sci an)) (row_step k.secy input sci an)
 
 pub ahead_row_step : (a : Ahead) (input : Input) (sci : Sci) (an : ℕ) →
     RowStep input (rx_row a.k.secy.rx.rows sci an)
     (rx_row (ahead_step a (endpoint_input input)).1.k.secy.rx.rows sci an)
 ahead_row_step a input sci an =
-    by_inside (λ (k : Keeping). RowStep input (rx_row a.k.secy.rx.rows sci an) (rx_row k.secy.rx.rows sci an)) a
+    by_inside (λ k. RowStep input (rx_row a.k.secy.rx.rows sci an) (rx_row k.secy.rx.rows sci an)) a
     (endpoint_input input) (still input (rx_row a.k.secy.rx.rows sci an)) (keeping_row_step a.k input sci an)
 
 past_by : (input : Input) (o o' : Option RxRow) (key : ℕ) (old new : ℕ) → RowStep input o o' → old ≤ new →
@@ -284,7 +273,7 @@ past_step a (endpoint_input input) key sci an keeps = by_ends (ends_step a (endp
         let P : Sci → ℕ → Type 0 = λ x n. rx_row a.k.secy.rx.rows x n ≡ Some row →
         rx_row after.k.secy.rx.rows x n ≡ None → end_of_row row ≤ end_of after.ended row.key x n in
         let first : P row.sci row.an = λ there' none'. remembers_end a (endpoint_input input) row keeps there' none' in
-        let second : P sci an = rw (← own.1) (subst (λ (x : Sci). P x row.an) own.0 first) in
+        let second : P sci an = rw (← own.1) (subst (λ x. P x row.an) own.0 first) in
         rw of_key at (second there none)
 
     by_ends : StaysUnless a after key sci an → IsGivenUp after.k.secy key
@@ -303,13 +292,12 @@ pub created_above : (a : Ahead) (input : KeepingInput) (sci : Sci) (an : ℕ) (r
 created_above a (now_durable r) sci an row none there lets = let no = sym none ∙ there in cc
 created_above a (endpoint_input input) sci an row none there lets =
     let created : IsCreatedBy input row =
-    subst (λ (o : Option RxRow). RowStep input o (Some row)) none
-    (rw there at (ahead_row_step a input sci an)) in
+    subst (λ o. RowStep input o (Some row)) none (rw there at (ahead_row_step a input sci an)) in
     let new : begins_again a (operator_command (RxSa row.sci row.an row.key created.ssci row.lowest)) ≡ false =
     ap (begins_again a) (sym created.is) ∙ not_again (begins_again a input) (standing a input) lets in
     let own = same_place row.sci sci row.an an (found_at
     (ahead_step a (endpoint_input input)).1.k.secy.rx.rows sci an row there) in
-    let above : end_of a.ended row.key row.sci row.an < row.lowest =
+    let above =
     first_new row.lowest (end_of a.ended row.key row.sci row.an) created.least new in
     let here : end_of a.ended row.key sci an < row.lowest = rw (← own.1) (rw own.0 at above) in
     rw none (omega (arith, here, created.next))

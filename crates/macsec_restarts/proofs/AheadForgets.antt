@@ -8,19 +8,18 @@ use Rattle.macsec_reserve.specs.{
 use Rattle.macsec_ahead.specs.Ahead.{entry_for}
 use Rattle.macsec_restarts.{
   proofs.{
-    Names.{[], ◌&&◌, ◌++◌, ◌==◌, ◌∙◌, ◌∷◌, ◌≡◌, accepted_from, accepted_from_forgetting, after_retiring, Ahead},
-    Names.{ahead_by, ahead_forgetting_after, ahead_forgetting_step, ahead_step, AheadOutput, and_from, ap, AreAlike},
-    Names.{AreSameBut, before_stays, before_this_run, begins_again, Bool, can_forget, Command, cond},
-    Names.{delivered_from_forgetting, delivered_from_with, Delivery, ended_after, ended_by, EndedSa, endpoint_input},
-    Names.{Ends, eq-eqb, false, filter, for_each_row, forgetting, forgetting_step, frame_fault, FrameFault, highest},
-    Names.{if◌then◌else◌, inl, Input, inr, installs_retired, is_at, is_done, is_gone, is_some, is_through, IsMember},
-    Names.{IsSound, IsSoundForgetting, Judgement, judgement_of, Keeping, keeping_after, keeping_step, KeepingInput},
-    Names.{KeepingOutput, keeps_stays, Key, lets_through, link_frame, List, map, nat_le, newly_accepted},
-    Names.{newly_delivered_with, newly_sent, None, not, not_yet, now_durable, opening, opening_with, operator_command},
-    Names.{Option, others_with, passes, raised_by, refl, RefusesRetired, Reservation, retired_by, row_name, Run},
-    Names.{rx_row, RxPn, RxRow, RxSa, salt_stays, same_octets-refl, same_sci, sent_from_forgetting, sent_from_with},
-    Names.{SentIn, Some, Standing, standing, standing_by, standing_of, State, StaysSound, subst, suc, sym, take, taken},
-    Names.{then_forget, through, true, with_ends, zero, ℕ},
+    Names.{[], ◌++◌, ◌∙◌, ◌∷◌, ◌≡◌, accepted_from, accepted_from_forgetting, after_retiring, Ahead, ahead_by},
+    Names.{ahead_forgetting_after, ahead_forgetting_step, ahead_step, AheadOutput, and_from, ap, AreAlike, AreSameBut},
+    Names.{before_stays, before_this_run, begins_again, Bool, Command, cond, delivered_from_forgetting},
+    Names.{delivered_from_with, ended_after, ended_by, EndedSa, endpoint_input, Ends, eq-eqb, false, filter},
+    Names.{for_each_row, forgetting, forgetting_step, frame_fault, FrameFault, highest, if◌then◌else◌, inl, Input, inr},
+    Names.{installs_retired, is_at, is_done, is_gone, is_some, is_through, IsMember, IsSound, IsSoundForgetting},
+    Names.{Judgement, judgement_of, Keeping, keeping_after, keeping_step, KeepingInput, KeepingOutput, keeps_stays},
+    Names.{Key, lets_through, link_frame, List, map, nat_le, newly_accepted, newly_delivered_with, newly_sent, None},
+    Names.{not, not_yet, now_durable, opening, opening_with, operator_command, Option, others_with, passes, raised_by},
+    Names.{refl, RefusesRetired, Reservation, retired_by, row_name, Run, rx_row, RxPn, RxRow, RxSa, salt_stays},
+    Names.{same_octets-refl, sent_from_forgetting, sent_from_with, Some, Standing, standing, standing_by, standing_of},
+    Names.{State, StaysSound, subst, suc, sym, take, taken, then_forget, through, true, with_ends, zero, ℕ},
     AheadInside.{by_inside, field_inside, none_sent, stays_by, step_inside, takes_by},
     RetiredUnused.{AreUnused, stay_unused, unused_at_start},
     SameBut.{is_valid_same, judged_same, name_same, newly_delivered_same, newly_sent_same, row_there},
@@ -48,7 +47,7 @@ after_one : (k f : Keeping) (input : KeepingInput) (inputs : List KeepingInput) 
 after_one k f input inputs is along n =
     let it = along (suc n) in
     let f' = (forgetting_step f input).1 in
-    let first : List KeepingInput = take n inputs in
+    let first = take n inputs in
     let left : others f (input ∷ first) ≡ others f' first = rw is in
     let answered : outputs_to_others f (input ∷ first) ≡ outputs_to_others f' first = rw is in
     record {
@@ -66,9 +65,9 @@ record NextBoth (k f : Keeping) (input : KeepingInput) (inputs : List KeepingInp
   ends : AreSameBut (keeping_after (keeping_step k input).1 (others (forgetting_step f input).1 inputs)).secy
       (forgetting_after (forgetting_step f input).1 inputs).secy
 
-both_given : (k f : Keeping) (input : KeepingInput) (inputs : List KeepingInput) → installs_retired f input ≡ false →
+both_given : {k f : Keeping} {input : KeepingInput} {inputs : List KeepingInput} → installs_retired f input ≡ false →
     StaysBeside k f (input ∷ inputs) → NextBoth k f input inputs
-both_given k f input inputs new it =
+both_given {k} {f} {input} {inputs} new it =
     let f' = (forgetting_step f input).1 in
     let k' = (keeping_step k input).1 in
     let left : others f (input ∷ inputs) ≡ input ∷ others f' inputs = rw new in
@@ -76,8 +75,7 @@ both_given k f input inputs new it =
     rw new in
     let answers : AreAllAlike ((keeping_step k input).0 ∷ outputs k' (others f' inputs))
     ((forgetting_step f input).0 ∷ outputs_to_others f' inputs) =
-    subst (λ (os : List KeepingOutput). AreAllAlike (outputs k (input ∷ others f' inputs)) os) answered
-    (rw left at it.answers) in
+    subst (λ os. AreAllAlike (outputs k (input ∷ others f' inputs)) os) answered (rw left at it.answers) in
     record {
       sound = rw left at it.sound;
       alike = answers.0;
@@ -89,13 +87,13 @@ after_both : (k f : Keeping) (input : KeepingInput) (inputs : List KeepingInput)
     Along k f (input ∷ inputs) →
     Along (keeping_step k input).1 (forgetting_step f input).1 inputs
 after_both k f input inputs new along n =
-    let it = both_given k f input (take n inputs) new (along (suc n)) in
+    let it = both_given new (along (suc n)) in
     record { sound = λ m. it.sound (suc m); answers = it.rest; ends = it.ends }
 
 alike_now : (k f : Keeping) (input : KeepingInput) (inputs : List KeepingInput) → installs_retired f input ≡ false →
     Along k f (input ∷ inputs) →
     AreAlike (keeping_step k input).0 (forgetting_step f input).0
-alike_now k f input inputs new along = let it = both_given k f input [] new (along 1) in it.alike
+alike_now k f input inputs new along = let it = both_given new (along 1) in it.alike
 
 -- ---- a step of the endpoint that forgets, by the step of the keeping endpoint inside
 
@@ -132,8 +130,7 @@ forgetting_stays l (now_durable r) is = cc
 forgetting_stays l (endpoint_input input) is =
     rw (
       forgetting_is l input,
-      stays_by (begins_again l input) (standing l input) l input
-          (forgetting_step l.k (endpoint_input input)) is,
+      stays_by _ _ input _ is,
     )
 
 pub steps_forgetting : (l : Ahead) (input : KeepingInput) → StepsForgetting l input
@@ -144,22 +141,22 @@ steps_forgetting l input = record { takes = takes_step l input; stays = forgetti
 pub forgets_field : {X : Type 0} (g : Keeping → X) → ((k : Keeping) (n : ℕ) → g (forgetting k n) ≡ g k) →
     (o : Option ℕ) (answer : KeepingOutput × Keeping) → g (then_forget o answer).1 ≡ g answer.1
 forgets_field g same None answer = refl
-forgets_field g same (Some n) answer = by_both (is_done answer.0 && can_forget answer.1 n)
+forgets_field g same (Some n) answer = by_both _
   where
     by_both : (b : Bool) → g (if b then forgetting answer.1 n else answer.1) ≡ g answer.1
     by_both true = same answer.1 n
     by_both false = refl
 
 pub salt_kept : (k : Keeping) (input : KeepingInput) → (forgetting_step k input).1.salt ≡ k.salt
-salt_kept k input = forgets_field (λ (x : Keeping). x.salt) (λ x n. refl) (retired_by input)
+salt_kept k input = forgets_field (λ x. x.salt) (λ x n. refl) (retired_by input)
     (keeping_step k (taken k input)) ∙ salt_stays k (taken k input)
 
 pub before_kept : (k : Keeping) (input : KeepingInput) → (forgetting_step k input).1.before ≡ k.before
-before_kept k input = forgets_field (λ (x : Keeping). x.before) (λ x n. refl) (retired_by input)
+before_kept k input = forgets_field (λ x. x.before) (λ x n. refl) (retired_by input)
     (keeping_step k (taken k input)) ∙ before_stays k (taken k input)
 
 keeps_kept : (k : Keeping) (input : KeepingInput) → (forgetting_step k input).1.keeps ≡ k.keeps
-keeps_kept k input = forgets_field (λ (x : Keeping). x.keeps) (λ x n. refl) (retired_by input)
+keeps_kept k input = forgets_field (λ x. x.keeps) (λ x n. refl) (retired_by input)
     (keeping_step k (taken k input)) ∙ keeps_stays k (taken k input)
 
 -- what holds of the keeping endpoint, and of it after its step, holds of it after a step that forgets
@@ -174,7 +171,7 @@ by_forgetting P l input stays goes = by_test (lets_through l input) refl
 pub field_forgetting : {X : Type 0} (g : Keeping → X) →
     ((k : Keeping) (input : KeepingInput) → g (forgetting_step k input).1 ≡ g k) → (l : Ahead) (input : KeepingInput) →
     g (ahead_forgetting_step l input).1.k ≡ g l.k
-field_forgetting g same l input = by_forgetting (λ (k : Keeping). g k ≡ g l.k) l input refl (same l.k input)
+field_forgetting g same l input = by_forgetting (λ k. g k ≡ g l.k) l input refl (same l.k input)
 
 -- ---- the two endpoints, at a moment
 
@@ -190,21 +187,20 @@ stay_beside : (a l : Ahead) (input : KeepingInput) → IsBeside a l →
     IsBeside (ahead_step a input).1 (ahead_forgetting_step l input).1
 stay_beside a l input beside same = record {
   same = same;
-  salt = field_forgetting (λ (k : Keeping). k.salt) salt_kept l input ∙ beside.salt
-      ∙ sym (field_inside (λ (k : Keeping). k.salt) salt_stays a input);
-  before = field_forgetting (λ (k : Keeping). k.before) before_kept l input ∙ beside.before
-      ∙ sym (field_inside (λ (k : Keeping). k.before) before_stays a input);
-  keeps = field_forgetting (λ (k : Keeping). k.keeps) keeps_kept l input ∙ beside.keeps
-      ∙ sym (field_inside (λ (k : Keeping). k.keeps) keeps_stays a input);
-  unused = by_inside (λ (k : Keeping). AreUnused k.secy) a input beside.unused (stay_unused a.k input beside.unused);
+  salt = field_forgetting (λ k. k.salt) salt_kept l input ∙ beside.salt
+      ∙ sym (field_inside (λ k. k.salt) salt_stays a input);
+  before = field_forgetting (λ k. k.before) before_kept l input ∙ beside.before
+      ∙ sym (field_inside (λ k. k.before) before_stays a input);
+  keeps = field_forgetting (λ k. k.keeps) keeps_kept l input ∙ beside.keeps
+      ∙ sym (field_inside (λ k. k.keeps) keeps_stays a input);
+  unused = by_inside (λ k. AreUnused k.secy) a input beside.unused (stay_unused a.k input beside.unused);
 }
 
 -- ---- deleted SAs
 
 -- each SA is found at its own place, so none is gone from its own table
 at_itself : (row : RxRow) → is_at row.sci row.an row ≡ true
-at_itself row = and_from (same_sci row.sci row.sci) (row.an == row.an) (same_octets-refl row.sci.0)
-    (eq-eqb row.an row.an refl)
+at_itself row = and_from _ _ (same_octets-refl row.sci.0) (eq-eqb row.an row.an refl)
 
 is_found : (rows : List RxRow) (row : RxRow) → IsMember rows row → is_some (rx_row rows row.sci row.an) ≡ true
 is_found [] row there = absurd there
@@ -252,7 +248,7 @@ ended_same a l (operator_command c) own to beside same same' alike =
     rw (
       beside.keeps,
       done_alike own.0 to.0 alike,
-      ended_alike a.k.secy own.1.secy l.k.secy to.1.secy same same',
+      ended_alike _ _ _ _ same same',
       beside.same,
     )
 ended_same a l input own to beside same same' alike = rw beside.same
@@ -284,9 +280,8 @@ by_row : (a l : Ahead) → IsBeside a l → AreSameBut a.k.secy l.k.secy →
     (j : Judgement) (f : Option FrameFault) (o : Option RxRow) →
     ((row : RxRow) → o ≡ Some row → IsMember a.k.secy.rx.rows row) →
     standing_by l j f o ≡ standing_by a j f o
-by_row a l beside same j (Some f) o there = refl
-by_row a l beside same j None None there = refl
 by_row a l beside same j None (Some row) there = rw (row_standing a l beside same row j.number (there row refl))
+by_row a l beside same j f o there = refl
 
 standing_same : (a l : Ahead) → IsBeside a l → AreSameBut a.k.secy l.k.secy → (input : Input) →
     standing l input ≡ standing a input
@@ -338,8 +333,6 @@ next_by : (again : Bool) (it : Standing) (a l : Ahead) (input : Input) (own to :
     { k = l.k } → (is_through again it ≡ true → Passed a l input own to) →
     NextAhead (ahead_by again it a input own) (ahead_by again it l input to)
 next_by true it a l input own to same passed = record { alike = inl refl; same = same }
-next_by false (not_yet at) a l input own to same passed = record { alike = refl; same = same }
-next_by false (before_this_run at) a l input own to same passed = record { alike = refl; same = same }
 next_by false passes a l input own to same passed =
     let it = passed refl in
     record {
@@ -347,6 +340,7 @@ next_by false passes a l input own to same passed =
       same = ap (λ (x : Ahead). record x { k = to.1; ended = ended_after l input to }) same
           ∙ ap (λ (es : Ends). record a { k = to.1; ended = es }) it.ended;
     }
+next_by again it a l input own to same passed = record { alike = refl; same = same }
 
 next_ahead : (a l : Ahead) (input : KeepingInput) (inputs : List KeepingInput) → IsBeside a l →
     AreSameBut a.k.secy l.k.secy → installs_retired l.k input ≡ false →
@@ -366,12 +360,11 @@ next_ahead a l (endpoint_input input) inputs beside same new along =
     let is : ahead_forgetting_step l (endpoint_input input) ≡
     ahead_by (begins_again a input) (standing a input) l input to =
     rw (forgetting_is l input, begins_same a l beside.same input, standing_same a l beside same input) in
-    rw is (next_by (begins_again a input) (standing a input) a l input own to beside.same
-    (λ lets.
+    rw is (next_by _ _ a l input own to beside.same (λ lets.
     let all = along lets in
-    let alike : AreAlike own.0 to.0 = alike_now a.k l.k (endpoint_input input) inputs new all in
+    let alike : AreAlike own.0 to.0 = alike_now a.k l.k _ inputs new all in
     let later : AreSameBut own.1.secy to.1.secy =
-    now_same own.1 to.1 inputs (after_both a.k l.k (endpoint_input input) inputs new all) in
+    now_same own.1 to.1 inputs (after_both a.k l.k _ inputs new all) in
     record { alike = alike; ended = ended_same a l input own to beside same later alike }))
 
 -- an installation that only the endpoint that forgets is given changes nothing else
@@ -418,15 +411,15 @@ one_given a l input inputs is lets none_sent none_delivered none_accepted rest =
     record {
       alike = record {
         answers = rw left (rw answered rest.alike.answers);
-        sends = ap (λ (xs : List SentIn). xs ++ sent_from_forgetting l' inputs) none_sent ∙ rest.alike.sends
+        sends = ap (λ xs. xs ++ sent_from_forgetting l' inputs) none_sent ∙ rest.alike.sends
             ∙ ap (sent_from_with a) (sym left);
-        delivers = ap (λ (ds : List Delivery). ds ++ delivered_from_forgetting l' inputs) none_delivered
+        delivers = ap (λ ds. ds ++ delivered_from_forgetting l' inputs) none_delivered
             ∙ rest.alike.delivers ∙ ap (delivered_from_with a) (sym left);
-        accepts = ap (λ (ds : List Delivery). ds ++ accepted_from_forgetting l' inputs) none_accepted
+        accepts = ap (λ ds. ds ++ accepted_from_forgetting l' inputs) none_accepted
             ∙ rest.alike.accepts ∙ ap (accepted_from a) (sym left);
         ends = rw left rest.alike.ends;
       };
-      inside = ap (through a) left ∙ rest.inside ∙ ap (λ (k : Keeping). others k (through_forgetting l' inputs))
+      inside = ap (through a) left ∙ rest.inside ∙ ap (λ k. others k (through_forgetting l' inputs))
           (forgets_inside l input lets) ∙ sym fewer ∙ ap (others l.k) (sym within);
     }
 
@@ -442,7 +435,7 @@ both_take a l input inputs beside same new now sends rest =
     let left : others_with l (input ∷ inputs) ≡ input ∷ others_with l' inputs = rw new in
     let answered : outputs_to_others_with l (input ∷ inputs) ≡
     (ahead_forgetting_step l input).0 ∷ outputs_to_others_with l' inputs = rw new in
-    let lets : lets_through l input ≡ lets_through a input = lets_same a l beside same input in
+    let lets = lets_same a l beside same input in
     let delivers : newly_delivered_with l input ≡ newly_delivered_with a input =
     rw (lets, newly_delivered_same a.k l.k same beside.unused input) in
     let accepts : newly_accepted l input ≡ newly_accepted a input =
@@ -450,13 +443,13 @@ both_take a l input inputs beside same new now sends rest =
     record {
       alike = record {
         answers = rw left (rw answered (now, rest.alike.answers));
-        sends = ap (λ (xs : List SentIn). xs ++ sent_from_forgetting l' inputs) sends
-            ∙ ap (λ (xs : List SentIn). newly_sent a.k input ++ xs) rest.alike.sends ∙ ap (sent_from_with a) (sym left);
-        delivers = ap (λ (ds : List Delivery). ds ++ delivered_from_forgetting l' inputs) delivers
-            ∙ ap (λ (ds : List Delivery). newly_delivered_with a input ++ ds) rest.alike.delivers
+        sends = ap (λ xs. xs ++ sent_from_forgetting l' inputs) sends
+            ∙ ap (λ xs. newly_sent a.k input ++ xs) rest.alike.sends ∙ ap (sent_from_with a) (sym left);
+        delivers = ap (λ ds. ds ++ delivered_from_forgetting l' inputs) delivers
+            ∙ ap (λ ds. newly_delivered_with a input ++ ds) rest.alike.delivers
             ∙ ap (delivered_from_with a) (sym left);
-        accepts = ap (λ (ds : List Delivery). ds ++ accepted_from_forgetting l' inputs) accepts
-            ∙ ap (λ (ds : List Delivery). newly_accepted a input ++ ds) rest.alike.accepts
+        accepts = ap (λ ds. ds ++ accepted_from_forgetting l' inputs) accepts
+            ∙ ap (λ ds. newly_accepted a input ++ ds) rest.alike.accepts
             ∙ ap (accepted_from a) (sym left);
         ends = rw left rest.alike.ends;
       };
@@ -477,12 +470,12 @@ both_take a l input inputs beside same new now sends rest =
         (if b then input ∷ through next_a (others_with next_l inputs) else through next_a (others_with next_l inputs)) ≡
         others l.k (through_forgetting l (input ∷ inputs))
     by_test true lets rest' =
-        ap (λ (is : List KeepingInput). input ∷ is) (rest'
-        ∙ ap (λ (k : Keeping). others k rest_l) (forgets_inside l input lets))
+        ap (λ is. input ∷ is) (rest'
+        ∙ ap (λ k. others k rest_l) (forgets_inside l input lets))
         ∙ sym (rw new)
-        ∙ ap (others l.k) (sym (ap (λ (b : Bool). if b then input ∷ rest_l else rest_l) lets))
+        ∙ ap (others l.k) (sym (ap (λ b. if b then input ∷ rest_l else rest_l) lets))
     by_test false lets rest' =
-        rest' ∙ ap (λ (x : Ahead). others x.k rest_l) (forgetting_stays l input lets)
+        rest' ∙ ap (λ x. others x.k rest_l) (forgetting_stays l input lets)
         ∙ ap (others l.k) (sym (rw lets))
 
 lets_installs : (l : Ahead) (input : KeepingInput) → installs_retired l.k input ≡ true → lets_through l input ≡ true
@@ -507,11 +500,11 @@ one_more : (input : KeepingInput) (inputs : List KeepingInput) → Later inputs 
 one_more input inputs later a l beside along true is =
     let l' = (ahead_forgetting_step l input).1 in
     let f' = (forgetting_step l.k input).1 in
-    let rest : List KeepingInput = through_forgetting l' inputs in
+    let rest = through_forgetting l' inputs in
     let lets = lets_installs l input is in
     let whole : through_forgetting l (input ∷ inputs) ≡ input ∷ rest = rw lets in
     let same = now_same a.k l.k (through_forgetting l (input ∷ inputs)) along in
-    let next : Along a.k f' rest = after_one a.k l.k input rest is (rw whole at along) in
+    let next = after_one a.k l.k input rest is (rw whole at along) in
     let none = adds_none l input is in
     one_given a l input inputs is lets none.sent none.delivered none.accepted
     (later a l' (installed a l input beside same (now_same a.k f' rest next) is)
@@ -544,13 +537,11 @@ one_more input inputs later a l beside along false new =
 
     goes : (b : Bool) → lets_through l input ≡ b → Along a'.k l'.k rest
     goes true lets =
-        subst (λ (k : Keeping). Along k l'.k rest) (sym
-        (step_inside a input true (sym (lets_same a l beside same input) ∙ lets)))
+        subst (λ k. Along k l'.k rest) (sym (step_inside a input true (sym (lets_same a l beside same input) ∙ lets)))
         (rw (forgets_inside l input lets) (after_both a.k l.k input rest new (given lets)))
     goes false lets =
         rw (step_inside a input false (sym (lets_same a l beside same input) ∙ lets))
-        (subst (λ (x : Ahead). Along a.k x.k rest) (sym (forgetting_stays l input lets))
-        (rw lets at along))
+        (subst (λ x. Along a.k x.k rest) (sym (forgetting_stays l input lets)) (rw lets at along))
 
 runs_beside : (inputs : List KeepingInput) → Later inputs
 runs_beside [] a l beside along = record {
@@ -568,8 +559,7 @@ runs_beside [] a l beside along = record {
   inside = refl;
 }
 runs_beside (input ∷ inputs) a l beside along =
-    one_more input inputs (λ a' l' beside' along'. runs_beside inputs a' l' beside' along') a l beside along
-    (installs_retired l.k input) refl
+    one_more input _ (λ a' l' beside' along'. runs_beside inputs a' l' beside' along') a l beside along _ refl
 
 -- ---- from the beginning
 
@@ -579,11 +569,9 @@ KeepersAlike = (run : Run) → ForgetsAlike (opening run) run.inputs
 
 -- the first of the first elements
 first_of_first : (m n : ℕ) (xs : List KeepingInput) → (k : ℕ) × (take m (take n xs) ≡ take k xs)
-first_of_first zero n xs = (0, refl)
-first_of_first (suc m) zero xs = (0, refl)
-first_of_first (suc m) (suc n) [] = (0, refl)
 first_of_first (suc m) (suc n) (x ∷ xs) = let it = first_of_first m n xs in
     (suc it.0, rw it.1)
+first_of_first m n xs = (0, refl)
 
 sound_inside : (inputs : List KeepingInput) (l : Ahead) →
     ((n : ℕ) → IsSound (ahead_forgetting_after l (take n inputs)).k.secy) →
@@ -591,7 +579,7 @@ sound_inside : (inputs : List KeepingInput) (l : Ahead) →
 sound_inside [] l sound zero = sound 0
 sound_inside [] l sound (suc m) = sound 0
 sound_inside (input ∷ inputs) l sound m = by_test (lets_through l input) refl
-    (sound_inside inputs (ahead_forgetting_step l input).1 (λ n. sound (suc n))) m
+    (sound_inside inputs _ (λ n. sound (suc n))) m
   where
     l' : Ahead
     l' = (ahead_forgetting_step l input).1
@@ -602,16 +590,16 @@ sound_inside (input ∷ inputs) l sound m = by_test (lets_through l input) refl
     by_test : (b : Bool) → lets_through l input ≡ b → StaysSoundForgetting l'.k rest →
         StaysSoundForgetting l.k (if b then input ∷ rest else rest)
     by_test true lets later zero = sound 0
-    by_test true lets later (suc m') = subst (λ (k : Keeping). IsSound (forgetting_after k (take m' rest)).secy)
+    by_test true lets later (suc m') = subst (λ k. IsSound (forgetting_after k (take m' rest)).secy)
         (forgets_inside l input lets) (later m')
-    by_test false lets later m' = subst (λ (x : Ahead). IsSound (forgetting_after x.k (take m' rest)).secy)
+    by_test false lets later m' = subst (λ x. IsSound (forgetting_after x.k (take m' rest)).secy)
         (forgetting_stays l input lets) (later m')
 
 along_run : KeepersAlike → (ahead : Bool) (run : Run) → IsSoundForgetting ahead run →
     Along (opening run) (opening run) (through_forgetting (opening_with ahead run) run.inputs)
 along_run law ahead run sound n =
-    let inputs : List KeepingInput = through_forgetting (opening_with ahead run) run.inputs in
-    let all = sound_inside run.inputs (opening_with ahead run) sound in
+    let inputs = through_forgetting (opening_with ahead run) run.inputs in
+    let all = sound_inside _ _ sound in
     let it = law (record run { inputs = take n inputs })
     (λ m. let first = first_of_first m n inputs in
     rw first.1 (all first.0)) in
@@ -621,7 +609,7 @@ go_beside : KeepersAlike → (ahead : Bool) (run : Run) → IsSoundForgetting ah
     GoBeside (opening_with ahead run) (opening_with ahead run) run.inputs
 go_beside law ahead run sound =
     let a = opening_with ahead run in
-    runs_beside run.inputs a a
+    runs_beside _ a a
     (record { same = refl; salt = refl; before = refl; keeps = refl; unused = unused_at_start run.config })
     (along_run law ahead run sound)
 
@@ -630,7 +618,7 @@ ahead_forgets_alike law ahead run sound = let it = go_beside law ahead run sound
 
 pub stays_sound_inside : KeepersAlike → (ahead : Bool) (run : Run) → StaysSoundInside ahead run
 stays_sound_inside law ahead run sound =
-    let inputs : List KeepingInput = through_forgetting (opening_with ahead run) run.inputs in
+    let inputs = through_forgetting (opening_with ahead run) run.inputs in
     let it = go_beside law ahead run sound in
-    let own = law (record run { inputs = inputs }) (sound_inside run.inputs (opening_with ahead run) sound) in
+    let own = law (record run { inputs = inputs }) (sound_inside _ _ sound) in
     rw it.inside own.sound

@@ -1,15 +1,13 @@
 -- The keeping endpoint inside one that can reserve ahead of receiving: its steps, its runs, what it sends and delivers.
-use Rattle.macsec_reserve.specs.Keeping.{noted}
 use Rattle.macsec_ahead.specs.Ahead.{kept}
 use Rattle.macsec_restarts.proofs.{
-  Names.{[], ◌++◌, ◌==◌, ◌∙◌, ◌∷◌, ◌≡◌, Ahead, ahead_after, ahead_by, ahead_step, ap, before_this_run, begins_again},
-  Names.{Bool, client_frame, delivered_from, delivered_from_with, delivered_in_all, delivered_in_all_with, done},
-  Names.{dropped_no_reservation, endpoint_input, endpoint_output, false, frame_fault, FrameFault, if◌then◌else◌, Input},
-  Names.{is_through, Judgement, judgement_of, Keeping, keeping_after, keeping_step, KeepingInput, KeepingOutput},
-  Names.{lets_through, link_frame, List, map, MatchesDeliveries, newly_delivered, newly_delivered_with, newly_sent},
-  Names.{None, not, not_yet, now_durable, opening, opening_with, Option, passes, received, refl, reported_in, Run},
-  Names.{run_inside, RxRow, sent_from, sent_from_with, sent_in_all, sent_in_all_with, Some, Standing, standing},
-  Names.{standing_by, standing_of, sym, through, true},
+  Names.{[], ◌++◌, ◌∙◌, ◌∷◌, ◌≡◌, Ahead, ahead_after, ahead_by, ahead_step, ap, Bool, client_frame, delivered_from},
+  Names.{delivered_from_with, delivered_in_all, delivered_in_all_with, endpoint_input, endpoint_output, false},
+  Names.{FrameFault, if◌then◌else◌, Input, is_through, Judgement, judgement_of, Keeping, keeping_after, keeping_step},
+  Names.{KeepingInput, KeepingOutput, lets_through, link_frame, List, map, MatchesDeliveries, newly_delivered},
+  Names.{newly_delivered_with, newly_sent, None, not, now_durable, opening, opening_with, Option, passes, received},
+  Names.{refl, reported_in, Run, run_inside, RxRow, sent_from, sent_from_with, sent_in_all, sent_in_all_with, Some},
+  Names.{Standing, standing, standing_by, standing_of, sym, through, true},
   Listed.delivers_each_listed,
 }
 use Rattle.macsec_restarts.specs.{
@@ -22,28 +20,23 @@ use Rattle.macsec_restarts.specs.{
 pub takes_by : (again : Bool) (it : Standing) (a : Ahead) (input : Input) (answer : KeepingOutput × Keeping) →
     is_through again it ≡ true →
     ((ahead_by again it a input answer).0 ≡ kept answer.0) × ((ahead_by again it a input answer).1.k ≡ answer.1)
-takes_by true it a input answer is = cc
 takes_by false passes a input answer is = (refl, refl)
-takes_by false (not_yet at) a input answer is = cc
-takes_by false (before_this_run at) a input answer is = cc
+takes_by again it a input answer is = cc
 
-pub stays_by : (again : Bool) (it : Standing) (a : Ahead) (input : Input) (answer : KeepingOutput × Keeping) →
+pub stays_by : (again : Bool) (it : Standing) {a : Ahead} (input : Input) (answer : KeepingOutput × Keeping) →
     is_through again it ≡ false → (ahead_by again it a input answer).1 ≡ a
-stays_by true it a input answer is = refl
-stays_by false passes a input answer is = cc
-stays_by false (not_yet at) a input answer is = refl
-stays_by false (before_this_run at) a input answer is = refl
+stays_by false passes input answer is = cc
+stays_by again it input answer is = refl
 
 takes : (a : Ahead) (input : KeepingInput) → lets_through a input ≡ true → TakesTheStep a input
 takes a (now_durable r) is = record { output = refl; after = refl }
 takes a (endpoint_input input) is =
-    let it = takes_by (begins_again a input) (standing a input) a input (keeping_step a.k (endpoint_input input)) is in
+    let it = takes_by _ _ a input _ is in
     record { output = it.0; after = it.1 }
 
 pub stays : (a : Ahead) (input : KeepingInput) → lets_through a input ≡ false → (ahead_step a input).1 ≡ a
 stays a (now_durable r) is = cc
-stays a (endpoint_input input) is = stays_by (begins_again a input) (standing a input) a input
-    (keeping_step a.k (endpoint_input input)) is
+stays a (endpoint_input input) is = stays_by _ _ input _ is
 
 pub steps_inside : (a : Ahead) (input : KeepingInput) → StepsInside a input
 steps_inside a input =
@@ -67,7 +60,7 @@ by_inside P a input stays goes = by_test (lets_through a input) refl
 pub field_inside : {X : Type 0} (g : Keeping → X) →
     ((k : Keeping) (input : KeepingInput) → g (keeping_step k input).1 ≡ g k) → (a : Ahead) (input : KeepingInput) →
     g (ahead_step a input).1.k ≡ g a.k
-field_inside g same a input = by_inside (λ (k : Keeping). g k ≡ g a.k) a input refl (same a.k input)
+field_inside g same a input = by_inside (λ k. g k ≡ g a.k) a input refl (same a.k input)
 
 -- the same of the whole endpoint
 pub by_ahead : (P : Ahead → Type 0) (a : Ahead) (input : Input) (answer : KeepingOutput × Keeping) → P a →
@@ -89,15 +82,14 @@ k_inside (input ∷ inputs) a = by_test (lets_through a input) refl (k_inside in
         (ahead_after (ahead_step a input).1 inputs).k ≡
         keeping_after a.k (if b then input ∷ through (ahead_step a input).1 inputs
         else through (ahead_step a input).1 inputs)
-    by_test true is rest = rest ∙ ap (λ (k : Keeping). keeping_after k (through (ahead_step a input).1 inputs))
+    by_test true is rest = rest ∙ ap (λ k. keeping_after k (through (ahead_step a input).1 inputs))
         (step_inside a input true is)
     by_test false is rest = rw (rest, step_inside a input false is)
 
 reports : (inputs : List KeepingInput) (a : Ahead) → reported_in (through a inputs) ≡ reported_in inputs
 reports [] a = refl
-reports (now_durable r ∷ inputs) a = rw (reports inputs (ahead_step a (now_durable r)).1)
-reports (endpoint_input input ∷ inputs) a = by_test (lets_through a (endpoint_input input))
-    (reports inputs (ahead_step a (endpoint_input input)).1)
+reports (now_durable r ∷ inputs) a = rw (reports inputs _)
+reports (endpoint_input input ∷ inputs) a = by_test (lets_through a (endpoint_input input)) (reports inputs _)
   where
     by_test : (b : Bool) → reported_in (through (ahead_step a (endpoint_input input)).1 inputs) ≡ reported_in inputs →
         reported_in (if b then endpoint_input input ∷ through (ahead_step a (endpoint_input input)).1 inputs
@@ -120,32 +112,30 @@ off_passes true rest off = cc
 
 standing_off : (a : Ahead) → a.ahead ≡ false → (j : Judgement) (f : Option FrameFault) (o : Option RxRow) →
     standing_by a j f o ≡ passes
-standing_off a off j (Some f) o = refl
-standing_off a off j None None = refl
-standing_off a off j None (Some row) = by_step (j.step == 13)
+standing_off a off j None (Some row) = by_step _
   where
     by_step : (b : Bool) → (if b then standing_of a row j.number else passes) ≡ passes
     by_step true = off_passes a.ahead _ off
     by_step false = refl
+standing_off a off j f o = refl
 
 all_pass : (a : Ahead) → a.ahead ≡ false → (input : Input) → standing a input ≡ passes
 all_pass a off (link_frame frame) = let j = judgement_of a.k.secy frame in
-    standing_off a off j (frame_fault frame) j.row
+    standing_off a off j _ j.row
 all_pass a off input = refl
 
 pub is_as_before : (a : Ahead) (input : Input) → IsAsBefore a input
-is_as_before a input off again = takes a (endpoint_input input) (rw (again, all_pass a off input))
+is_as_before a input off again = takes a _ (rw (again, all_pass a off input))
 
 -- ---- what it sends and delivers
 
 pub none_sent : (a : Ahead) (input : KeepingInput) → lets_through a input ≡ false → newly_sent a.k input ≡ []
-none_sent a (now_durable r) is = refl
 none_sent a (endpoint_input (client_frame frame)) is = cc
 none_sent a input is = refl
 
 pub sent_inside : (inputs : List KeepingInput) (a : Ahead) → sent_from a.k (through a inputs) ≡ sent_from_with a inputs
 sent_inside [] a = refl
-sent_inside (input ∷ inputs) a = by_test (lets_through a input) refl (sent_inside inputs (ahead_step a input).1)
+sent_inside (input ∷ inputs) a = by_test (lets_through a input) refl (sent_inside inputs _)
   where
     after : Ahead
     after = (ahead_step a input).1
@@ -155,18 +145,16 @@ sent_inside (input ∷ inputs) a = by_test (lets_through a input) refl (sent_ins
         sent_from a.k (if b then input ∷ through after inputs else through after inputs) ≡
         newly_sent a.k input ++ sent_from_with after inputs
     by_test true is rest =
-        ap (λ (k : Keeping). newly_sent a.k input ++ sent_from k (through after inputs))
-        (sym (step_inside a input true is))
+        ap (λ k. newly_sent a.k input ++ sent_from k (through after inputs)) (sym (step_inside a input true is))
         ∙ ap (λ xs. newly_sent a.k input ++ xs) rest
     by_test false is rest =
-        ap (λ (k : Keeping). sent_from k (through after inputs)) (sym (step_inside a input false is)) ∙ rest
+        ap (λ k. sent_from k (through after inputs)) (sym (step_inside a input false is)) ∙ rest
         ∙ ap (λ xs. xs ++ sent_from_with after inputs) (sym (none_sent a input is))
 
 pub delivered_inside : (inputs : List KeepingInput) (a : Ahead) →
     delivered_from a.k (through a inputs) ≡ delivered_from_with a inputs
 delivered_inside [] a = refl
-delivered_inside (input ∷ inputs) a = by_test (lets_through a input) refl
-    (delivered_inside inputs (ahead_step a input).1)
+delivered_inside (input ∷ inputs) a = by_test (lets_through a input) refl (delivered_inside inputs _)
   where
     after : Ahead
     after = (ahead_step a input).1
@@ -176,10 +164,10 @@ delivered_inside (input ∷ inputs) a = by_test (lets_through a input) refl
         delivered_from a.k (if b then input ∷ through after inputs else through after inputs) ≡
         (if b then newly_delivered a.k input else []) ++ delivered_from_with after inputs
     by_test true is rest =
-        ap (λ (k : Keeping). newly_delivered a.k input ++ delivered_from k (through after inputs))
+        ap (λ k. newly_delivered a.k input ++ delivered_from k (through after inputs))
         (sym (step_inside a input true is))
         ∙ ap (λ ds. newly_delivered a.k input ++ ds) rest
-    by_test false is rest = ap (λ (k : Keeping). delivered_from k (through after inputs))
+    by_test false is rest = ap (λ k. delivered_from k (through after inputs))
         (sym (step_inside a input false is)) ∙ rest
 
 pub sent_in_all_inside : (ahead : Bool) (runs : List Run) →
@@ -204,23 +192,17 @@ delivered_in_inside ahead run = delivered_inside run.inputs (opening_with ahead 
 carried : (a : Ahead) (input : KeepingInput) → newly_delivered_with a input ≡ newly_delivered a.k input →
     (o : KeepingOutput) → MatchesDeliveries a.k input o →
     MatchesDeliveriesWith a input (kept o)
-carried a input same noted it = same ∙ it
-carried a input same dropped_no_reservation it = same ∙ it
-carried a input same (endpoint_output done) it = same ∙ it
 carried a input same (endpoint_output (received verdict (Some place) shown (Some delivered))) it =
     record { delivery = it.delivery; one = same ∙ it.one; of_sci = it.of_sci; of_an = it.of_an; of_frame = it.of_frame }
-carried a input same it' it = same ∙ it
+carried a input same o it = same ∙ it
 
 pub matches_by : (a : Ahead) (input : KeepingInput) (given : Input) (again : Bool) (it : Standing)
     (answer : KeepingOutput × Keeping) → lets_through a input ≡ is_through again it →
     MatchesDeliveries a.k input answer.0 → MatchesDeliveriesWith a input (ahead_by again it a given answer).0
-matches_by a input given true it answer same matches = rw same
-matches_by a input given false (not_yet at) answer same matches = rw same
-matches_by a input given false (before_this_run at) answer same matches = rw same
 matches_by a input given false passes answer same matches = carried a input (rw same) answer.0 matches
+matches_by a input given again it answer same matches = rw same
 
 pub delivers_each_listed_with : (a : Ahead) (input : KeepingInput) → DeliversEachListedWith a input
 delivers_each_listed_with a (now_durable r) = refl
 delivers_each_listed_with a (endpoint_input input) =
-    matches_by a (endpoint_input input) input (begins_again a input) (standing a input)
-    (keeping_step a.k (endpoint_input input)) refl (delivers_each_listed a.k (endpoint_input input))
+    matches_by a (endpoint_input input) input _ _ _ refl (delivers_each_listed a.k (endpoint_input input))

@@ -8,12 +8,12 @@ use Rattle.macsec_restarts.proofs.{
   Names.{delivered_at, delivered_from_with, delivered_in, delivered_in_all_with, delivered_so_far},
   Names.{delivered_so_far_with, Delivery, End, EndConfig, endpoint_input, EndpointLaws, false, filter-append, Grammar},
   Names.{Happening, highest, highest-append, IfSome, if◌then◌else◌, inl, inside, is_inside, IsHistory, IsMember},
-  Names.{IsOrderedAt, IsOrderedInput, IsOrderly, IsOrderlyInside, IsSound, IsStrictInput, Keeping, keeping_step},
-  Names.{KeepingInput, keeps_stays, KeepsDurable, last_run, lets_through, List, map, map-append, member_of_map},
-  Names.{newly_delivered, newly_delivered_with, None, now_durable, opening_with, Option, option_map, other_end},
-  Names.{pairs-head, pairs-tail, passing_from, reaches_inside, receiving_name, refl, reported, reported_in},
-  Names.{reservations, Run, run_inside, runs_of, salt_of, same_end, SameSalt, SavedIn, Sci, sending_name, sent_in_all},
-  Names.{sent_in_all_with, Some, subst, suc, sym, take, through, true, zero, ℕ},
+  Names.{IsOrderedAt, IsOrderedInput, IsOrderly, IsOrderlyInside, IsSound, IsStrictInput, keeping_step, KeepingInput},
+  Names.{keeps_stays, KeepsDurable, last_run, lets_through, List, map, map-append, member_of_map, newly_delivered},
+  Names.{newly_delivered_with, None, now_durable, opening_with, Option, option_map, other_end, pairs-head, pairs-tail},
+  Names.{passing_from, reaches_inside, receiving_name, refl, reported, reported_in, reservations, Run, run_inside},
+  Names.{runs_of, salt_of, same_end, SameSalt, SavedIn, Sci, sending_name, sent_in_all, sent_in_all_with, Some, subst},
+  Names.{suc, sym, take, through, true, zero, ℕ},
   AheadAccepts.{option_after, salt_after, taken_after},
   AheadInside.{delivered_in_all_inside, delivered_in_inside, is_keeping_inside, k_inside, sent_in_all_inside, stays},
   AheadInside.{field_inside, step_inside},
@@ -21,7 +21,7 @@ use Rattle.macsec_restarts.proofs.{
   InOrder.in_order,
   Lists.at_end,
   Passing.{passing-append, passing-push, reaches, runs_passing},
-  Placed.{Fresh, is_ours},
+  Placed.Fresh,
   Prefixes.peers_before,
   Pushed.{IsNext, is_next, last_run-push, last_run-with_last, new_input, new_run, runs_of-begins, runs_of-input},
   Pushed.{run_with, same_is, same_own, same_runs, with_input, with_last},
@@ -35,7 +35,7 @@ use Rattle.macsec_restarts.specs.AheadOrder.{ComesInOrderOnceWith}
 ahead_after-push : (inputs : List KeepingInput) (a : Ahead) (input : KeepingInput) →
     ahead_after a (inputs ++ input ∷ []) ≡ (ahead_step (ahead_after a inputs) input).1
 ahead_after-push [] a input = refl
-ahead_after-push (i ∷ inputs) a input = ahead_after-push inputs (ahead_step a i).1 input
+ahead_after-push (i ∷ inputs) a input = ahead_after-push inputs _ input
 
 pub closing_with-input : (ahead : Bool) (input : KeepingInput) (run : Run) → closing_with ahead (with_input input run) ≡
     (ahead_step (closing_with ahead run) input).1
@@ -45,7 +45,7 @@ through-push : (inputs : List KeepingInput) (a : Ahead) (input : KeepingInput) �
     through a (inputs ++ input ∷ []) ≡ through a inputs ++ (if lets_through (ahead_after a inputs) input then input ∷ []
     else [])
 through-push [] a input = refl
-through-push (i ∷ inputs) a input = by_test (lets_through a i) (through-push inputs (ahead_step a i).1 input)
+through-push (i ∷ inputs) a input = by_test (lets_through a i) (through-push inputs _ input)
   where
     added : List KeepingInput
     added = if lets_through (ahead_after (ahead_step a i).1 inputs) input then input ∷ [] else []
@@ -64,18 +64,18 @@ delivered_from_with-push : (inputs : List KeepingInput) (a : Ahead) (input : Kee
 delivered_from_with-push [] a input = append-nil (newly_delivered_with a input)
 delivered_from_with-push (i ∷ inputs) a input =
     rw (
-      delivered_from_with-push inputs (ahead_step a i).1 input,
+      delivered_from_with-push inputs _ input,
       ← append_assoc (newly_delivered_with a i)
           (delivered_from_with (ahead_step a i).1 inputs) (newly_delivered_with (ahead_after (ahead_step a i).1 inputs)
           input),
     )
 
 keeps_step : (a : Ahead) (input : KeepingInput) → (ahead_step a input).1.k.keeps ≡ a.k.keeps
-keeps_step a input = field_inside (λ (k : Keeping). k.keeps) keeps_stays a input
+keeps_step a input = field_inside (λ k. k.keeps) keeps_stays a input
 
 pub keeps_after : (inputs : List KeepingInput) (a : Ahead) → (ahead_after a inputs).k.keeps ≡ a.k.keeps
 keeps_after [] a = refl
-keeps_after (input ∷ inputs) a = keeps_after inputs (ahead_step a input).1 ∙ keeps_step a input
+keeps_after (input ∷ inputs) a = keeps_after inputs _ ∙ keeps_step a input
 
 -- what was reported to a run is reported to it with one more input
 pub reported-push : (inputs : List KeepingInput) (input : KeepingInput) (name : List ℕ) →
@@ -94,9 +94,8 @@ reported-push (endpoint_input i ∷ inputs) input name = reported-push inputs in
 -- ---- the runs of the keeping endpoints inside
 
 last_of_map : (f : Run → Run) (rs : List Run) → last_run (map f rs) ≡ option_map f (last_run rs)
-last_of_map f [] = refl
-last_of_map f (run ∷ []) = refl
 last_of_map f (run ∷ later ∷ more) = last_of_map f (later ∷ more)
+last_of_map f rs = refl
 
 -- the run inside of a run with one more input
 pub inside_pushed : (ahead : Bool) (input : KeepingInput) (run : Run) →
@@ -121,10 +120,9 @@ reaches_is ahead input (Some run) = refl
 pub runs_inside : (ahead : End → Bool) (e : End) (events : List Happening) → runs_of e (inside ahead events) ≡ map
     (run_inside (ahead e)) (runs_of e events)
 runs_inside ahead e events =
-    runs_passing (is_inside ahead) (λ f. run_inside (ahead f)) (λ f input run. lets_through (closing_with (ahead f) run)
-    input) (λ before f config journal. refl)
-    (λ before f input. reaches_is (ahead f) input (last_run (runs_of f before))) (λ f config journal. refl)
-    (λ f input run. inside_pushed (ahead f) input run) e events
+    runs_passing _ (λ f. run_inside (ahead f)) (λ f input run. lets_through (closing_with (ahead f) run)
+    input) (λ before f config journal. refl) (λ before f input. reaches_is _ input _) (λ f config journal. refl)
+    (λ f input run. inside_pushed _ input run) e events
 
 -- ---- the premises of order
 
@@ -152,7 +150,7 @@ module _ (laws : EndpointLaws) (ahead : End → Bool) (e : End) (bytes : List �
     reserved : on ≡ true → All AreReserved runs
 
   at_start : Now []
-  at_start = record { past = tt; reserved = λ is. All-nil AreReserved }
+  at_start = record { past = tt; reserved = λ is. All-nil _ }
 
   -- the premises at a happening that reaches the keeping endpoints
   abbrev IsOrderlyHere : List Happening → Happening → Type 0
@@ -160,33 +158,30 @@ module _ (laws : EndpointLaws) (ahead : End → Bool) (e : End) (bytes : List �
 
   -- ---- the endpoint is sound
 
-  history : (f : End) (events : List Happening) → ArePeers events → IsHistory (runs_of f events)
-  history A events peers = peers.a
-  history B events peers = peers.b
+  history : (f : End) {events : List Happening} → ArePeers events → IsHistory (runs_of f events)
+  history A peers = peers.a
+  history B peers = peers.b
 
   sound_at : (before : List Happening) → ArePeers (inside ahead before) → (run : Run) →
       last_run (runs_of e before) ≡ Some run → IsSound (closing_with on run).k.secy
   sound_at before peers run last =
       let R = run_inside on in
-      let sounds : All IsSoundRun (map R (runs_of e before)) =
-      rw (runs_inside ahead e before) at (history e (inside ahead before) peers).sound in
-      let there : IsMember (map R (runs_of e before)) (R run) = member_of_map R (runs_of e before) run
-      (last_member (runs_of e before) run last) in
-      let sound = closing_sound (R run) (All-contains IsSoundRun (map R (runs_of e before)) (R run) sounds
-      (contained (map R (runs_of e before)) (R run) there)) in
-      rw (k_inside run.inputs (opening_with on run)) sound
+      let sounds =
+      rw (runs_inside ahead e before) at (history e peers).sound in
+      let there : IsMember (map R (runs_of e before)) (R run) = member_of_map R _ run (last_member _ run last) in
+      let sound = closing_sound (R run) (All-contains IsSoundRun _ _ sounds (contained _ _ there)) in
+      rw (k_inside _ _) sound
 
-  last_input : (before : List Happening) (input : KeepingInput) (run : Run) → last_run (runs_of e before) ≡ Some run →
+  last_input : (before : List Happening) (input : KeepingInput) {run : Run} → last_run (runs_of e before) ≡ Some run →
       last_run (runs_of e (before ++ comes_in e input ∷ [])) ≡ Some (with_input input run)
-  last_input before input run last =
-      rw (runs_of-input e e input before (same_own e), last_run-with_last input (runs_of e before), last)
+  last_input before input last =
+      rw (runs_of-input e e input before (same_own e), last_run-with_last input _, last)
 
   sound_after : (before : List Happening) (input : KeepingInput) →
       ArePeers (inside ahead (before ++ comes_in e input ∷ [])) → (run : Run) →
       last_run (runs_of e before) ≡ Some run → IsSound (ahead_step (closing_with on run) input).1.k.secy
   sound_after before input peers run last =
-      rw (closing_with-input on input run) at (sound_at (before ++ comes_in e input ∷ []) peers (with_input input run)
-      (last_input before input run last))
+      rw (closing_with-input on input run) at (sound_at _ peers _ (last_input before input last))
 
   keeps_at : (run : Run) → (closing_with on run).k.keeps ≡ true
   keeps_at run = keeps_after run.inputs (opening_with on run)
@@ -197,9 +192,8 @@ module _ (laws : EndpointLaws) (ahead : End → Bool) (e : End) (bytes : List �
       run ++ delivered_at bytes sci an (newly_delivered_with (closing_with on run) input)
   more_delivered run input =
       rw (
-        delivered_from_with-push run.inputs (opening_with on run) input,
-        filter-append (is_ours bytes sci an)
-            (delivered_from_with (opening_with on run) run.inputs) (newly_delivered_with (closing_with on run) input),
+        delivered_from_with-push _ _ input,
+        filter-append _ _ _,
       )
 
   -- what the input delivers, if it reaches the keeping endpoint
@@ -239,8 +233,7 @@ module _ (laws : EndpointLaws) (ahead : End → Bool) (e : End) (bytes : List �
       by_test true lets =
           let new = delivered_at bytes sci an (newly_delivered a.k input) in
           let these : delivered_by_run run' ≡ old ++ new = rw (more_delivered run input, lets) in
-          let news : All (IsNewPast laws bytes sci an a after) new = new_past laws bytes sci an a input sound sound'
-          lets (strict lets) in
+          let news = new_past laws bytes sci an a input sound sound' lets (strict lets) in
           let keeps = keeps_at run in
           record {
             past = rw these (rw (closing_with-input on input run) (All-append (IsPast laws bytes sci an after) old new
@@ -259,8 +252,8 @@ module _ (laws : EndpointLaws) (ahead : End → Bool) (e : End) (bytes : List �
           reserved_by : on ≡ true → (d : Delivery) →
               d.number ≤ highest a.taken (receiving_name (sending_name a.k.salt bytes) sci an) → IsReserved run' d
           reserved_by is d within =
-              let salt : a.k.salt ≡ salt_of run.journal = salt_after run.inputs (opening_with on run) in
-              let here : d.number ≤ highest a.taken (name_in run.journal) = rw salt at within in
+              let salt = salt_after run.inputs (opening_with on run) in
+              let here = rw salt at within in
               omega (
                 arith,
                 here,
@@ -279,9 +272,9 @@ module _ (laws : EndpointLaws) (ahead : End → Bool) (e : End) (bytes : List �
       (all_with_last P input (next ∷ more) (All-tail P run (next ∷ more) all) later)
 
   -- the run inside is the last one
-  last_inside : (before : List Happening) (run : Run) → last_run (runs_of e before) ≡ Some run →
+  last_inside : (before : List Happening) {run : Run} → last_run (runs_of e before) ≡ Some run →
       last_run (runs_of e (inside ahead before)) ≡ Some (run_inside on run)
-  last_inside before run last = rw (runs_inside ahead e before, last_of_map (run_inside on) (runs_of e before), last)
+  last_inside before last = rw (runs_inside ahead e before, last_of_map _ _, last)
 
   strict_at : (before : List Happening) (input : KeepingInput) → (is_inside ahead before (comes_in e input) ≡ true →
       IsOrderlyHere before (comes_in e input)) →
@@ -290,9 +283,9 @@ module _ (laws : EndpointLaws) (ahead : End → Bool) (e : End) (bytes : List �
   strict_at before input is run last lets =
       let reaches : is_inside ahead before (comes_in e input) ≡ true = rw (last, lets) in
       let strict : IsStrictInput (closing (run_inside on run)) bytes sci an input =
-      subst (λ (o : Option Run). IfSome o (λ r. IsStrictInput (closing r) bytes sci an input))
-      (last_inside before run last) ((is reaches).ordered (same_own e)) in
-      rw (k_inside run.inputs (opening_with on run)) strict
+      subst (λ o. IfSome o (λ r. IsStrictInput (closing r) bytes sci an input))
+      (last_inside before last) ((is reaches).ordered (same_own e)) in
+      rw (k_inside _ _) strict
 
   next : (before : List Happening) (h : Happening) → (is_inside ahead before h ≡ true → IsOrderlyHere before h) →
       ArePeers (inside ahead before) → ArePeers (inside ahead (before ++ h ∷ [])) →
@@ -301,19 +294,19 @@ module _ (laws : EndpointLaws) (ahead : End → Bool) (e : End) (bytes : List �
   next before _ is peers peers' runs _ are (new_run config journal) now =
       let new = run_with config journal [] in
       record {
-        past = rw (last_run-push runs new) (All-nil (IsPastIn new));
-        reserved = λ is_on. All-append AreReserved runs (new ∷ []) (now.reserved is_on)
-            (All-cons AreReserved new [] (All-nil (IsReserved new)) (All-nil AreReserved));
+        past = rw (last_run-push runs new) (All-nil _);
+        reserved = λ is_on. All-append AreReserved runs _ (now.reserved is_on)
+            (All-cons AreReserved new [] (All-nil (IsReserved new)) (All-nil _));
       }
   next before _ is peers peers' runs _ are (new_input input) now = record {
     past = rw (last_run-with_last input runs) (by_last (last_run runs) refl);
-    reserved = λ is_on. all_with_last AreReserved input runs (now.reserved is_on)
+    reserved = λ is_on. all_with_last _ input runs (now.reserved is_on)
         (λ run last all. (done_at run last).reserved is_on all);
   }
     where
       done_at : (run : Run) → last_run runs ≡ Some run → IsDone run input
       done_at run last' =
-          let last : last_run (runs_of e before) ≡ Some run = rw are at last' in
+          let last = rw are at last' in
           input_done run input (sound_at before peers run last) (sound_after before input peers' run last)
           (strict_at before input is run last) (rw last' at now.past)
 
@@ -333,34 +326,28 @@ module _ (laws : EndpointLaws) (ahead : End → Bool) (e : End) (bytes : List �
   saved_by new (run ∷ rs) durable salt is all =
       let R = run_inside true in
       let P : Delivery → Type 0 = λ d. d.number ≤ highest (reservations new.journal) (name_in new.journal) in
-      let last : IsMember (map R rs ++ new ∷ []) new = at_end (map R rs) (new ∷ []) new (inl refl) in
-      let there = contained (map R rs ++ new ∷ []) new last in
-      let keeps : KeepsDurable (R run) new = All-contains (KeepsDurable (R run)) (map R rs ++ new ∷ []) new
-      (pairs-head KeepsDurable (R run) (map R rs ++ new ∷ []) durable) there in
-      let same : SameSalt (R run) new = All-contains (SameSalt (R run)) (map R rs ++ new ∷ []) new
-      (pairs-head SameSalt (R run) (map R rs ++ new ∷ []) salt) there in
+      let last = at_end (map R rs) (new ∷ []) new (inl refl) in
+      let there = contained _ new last in
+      let keeps : KeepsDurable (R run) new = All-contains (KeepsDurable (R run)) _ new
+      (pairs-head KeepsDurable (R run) _ durable) there in
+      let same : SameSalt (R run) new = All-contains (SameSalt (R run)) _ new (pairs-head SameSalt _ _ salt) there in
       let told : reported (R run) ≡ reported run = (is_keeping_inside true run).reports in
-      rw (filter-append (is_ours bytes sci an) (delivered_from_with (opening_with on run) run.inputs)
-      (delivered_in_all_with on rs))
-      (All-append P (delivered_by_run run) (delivered_at bytes sci an (delivered_in_all_with on rs))
-      (All-weaker (IsReserved run) P (λ d within. saved_one run d keeps same told within) (delivered_by_run run)
-      (All-head AreReserved run rs all))
-      (saved_by new rs (pairs-tail KeepsDurable (R run) (map R rs ++ new ∷ []) durable)
-      (pairs-tail SameSalt (R run) (map R rs ++ new ∷ []) salt) is (All-tail AreReserved run rs all)))
+      rw (filter-append _ _ _) (All-append P _ _ (All-weaker _ P (λ d within. saved_one run d keeps same told within) _
+      (All-head AreReserved run rs all)) (saved_by new rs (pairs-tail KeepsDurable (R run) _ durable)
+      (pairs-tail SameSalt _ _ salt) is (All-tail AreReserved run rs all)))
     where
       saved_one : (run' : Run) (d : Delivery) → KeepsDurable (run_inside true run') new →
           SameSalt (run_inside true run') new → reported (run_inside true run') ≡ reported run' → IsReserved run' d →
           d.number ≤ highest (reservations new.journal) (name_in new.journal)
       saved_one run' d keeps same told within =
           let name : name_in new.journal ≡ name_in run'.journal = rw same in
-          let reads : highest (reported run') (name_in run'.journal) ≤ highest (reservations new.journal)
-          (name_in run'.journal) =
+          let reads =
           rw told at (keeps (name_in run'.journal)) in
           rw name (omega (arith, within, reads))
 
   delivered_inside : (before : List Happening) → delivered_so_far e bytes sci an (inside ahead before) ≡
       delivered_so_far_with on e bytes sci an before
-  delivered_inside before = rw (runs_inside ahead e before, delivered_in_all_inside on (runs_of e before))
+  delivered_inside before = rw (runs_inside ahead e before, delivered_in_all_inside on _)
 
   saved_at : (before : List Happening) (f : End) (config : EndConfig) (journal : List ℕ) →
       IsOrderlyHere before (begins f config journal) →
@@ -378,15 +365,15 @@ module _ (laws : EndpointLaws) (ahead : End → Bool) (e : End) (bytes : List �
           let these : runs_of e (inside ahead (before ++ begins f config journal ∷ [])) ≡ map (run_inside true)
           (runs_of e before) ++ new ∷ [] =
           rw (
-            runs_inside ahead e (before ++ begins f config journal ∷ []),
+            runs_inside ahead e _,
             (runs_of-begins e f config journal before
-                ∙ ap (λ (b : Bool). runs_of e before ++ (if b then new ∷ [] else [])) same),
+                ∙ ap (λ b. runs_of e before ++ (if b then new ∷ [] else [])) same),
             map-append (run_inside
                 on) (runs_of e before) (new ∷ []),
             is_on,
           ) in
-          let past = history e (inside ahead (before ++ begins f config journal ∷ [])) peers in
-          rw (delivered_inside before) (saved_by new (runs_of e before) (rw these at past.durable)
+          let past = history e peers in
+          rw (delivered_inside before) (saved_by new _ (rw these at past.durable)
           (rw these at past.salt) is_on (now.reserved is_on))
 
   ordered_input : (before : List Happening) (input : KeepingInput) → IsOrderlyHere before (comes_in e input) →
@@ -408,9 +395,9 @@ module _ (laws : EndpointLaws) (ahead : End → Bool) (e : End) (bytes : List �
       by_last (Some run) last strict past lets =
           let a = closing_with on run in
           let inner = run_inside on run in
-          let same_k : a.k ≡ closing inner = k_inside run.inputs (opening_with on run) in
+          let same_k = k_inside run.inputs (opening_with on run) in
           let these : delivered_in inner bytes sci an ≡ delivered_by_run run = rw (delivered_in_inside on run) in
-          let above : CreatesAbove a.k.secy (ahead_step a input).1.k.secy bytes sci an (delivered_by_run run) =
+          let above =
           creates_above laws bytes sci an a input (sound_at before peers run last)
           (sound_after before input peers' run last) lets (delivered_by_run run) past in
           let creates : CreatesAbove a.k.secy (keeping_step a.k input).1.secy bytes sci an
@@ -437,7 +424,7 @@ module _ (laws : EndpointLaws) (ahead : End → Bool) (e : End) (bytes : List �
       (inside ahead before) (passing_from (is_inside ahead) before more)
   each_next before [] each peers now = tt
   each_next before (h ∷ more) each peers now =
-      by_test (is_inside ahead before h) refl each (λ each' now'. each_next (before ++ h ∷ []) more each' whole now')
+      by_test (is_inside ahead before h) refl each (λ each' now'. each_next _ more each' whole now')
     where
       I : List Happening
       I = inside ahead before
@@ -450,17 +437,14 @@ module _ (laws : EndpointLaws) (ahead : End → Bool) (e : End) (bytes : List �
 
       peers_next : ArePeers (inside ahead (before ++ h ∷ []))
       peers_next =
-          peers_before laws (inside ahead (before ++ h ∷ [])) rest
-          (rw (passing-append (is_inside ahead) [] (before ++ h ∷ []) more) at whole)
+          peers_before laws _ rest (rw (passing-append _ [] _ more) at whole)
 
       peers_now : ArePeers I
       peers_now =
-          peers_before laws I (passing_from (is_inside ahead) before (h ∷ more))
-          (rw (passing-append (is_inside ahead) [] before (h ∷ more)) at peers)
+          peers_before laws I _ (rw (passing-append _ [] before _) at peers)
 
       then_now : (is_inside ahead before h ≡ true → IsOrderlyHere before h) → Now (runs_of e (before ++ h ∷ []))
-      then_now is = next before h is peers_now peers_next (runs_of e before) (runs_of e (before ++ h ∷ [])) refl
-          (is_next e before h) now
+      then_now is = next before h is peers_now peers_next _ _ refl (is_next e before h) now
 
       Later : Type 0
       Later = AtEach (IsOrderlyInside on e bytes sci an) (inside ahead (before ++ h ∷ [])) rest →
@@ -471,7 +455,7 @@ module _ (laws : EndpointLaws) (ahead : End → Bool) (e : End) (bytes : List �
           AtEach (IsOrderly e bytes sci an) I (if b then h ∷ rest else rest)
       by_test true reaches each' later =
           let one_more : inside ahead (before ++ h ∷ []) ≡ I ++ h ∷ [] =
-          rw (passing-push (is_inside ahead) before h, reaches) in
+          rw (passing-push _ before h, reaches) in
           let now' = then_now (λ r. each'.0) in
           let then_on = later (rw one_more each'.1) now' in (
             record {
@@ -484,7 +468,7 @@ module _ (laws : EndpointLaws) (ahead : End → Bool) (e : End) (bytes : List �
           )
       by_test false reaches each' later =
           let none_more : inside ahead (before ++ h ∷ []) ≡ I =
-          rw (passing-push (is_inside ahead) before h, reaches, append-nil I) in
+          rw (passing-push _ before h, reaches, append-nil I) in
           let now' = then_now (λ r. absurd (differ reaches r)) in
           rw none_more at (later (rw none_more each') now')
         where
@@ -495,11 +479,11 @@ module _ (laws : EndpointLaws) (ahead : End → Bool) (e : End) (bytes : List �
       (inside ahead events) → ArePeers (inside ahead events) → ComesInOrderWith ahead e bytes sci an events
   in_order_with grammar fresh events each peers =
       let it : ComesInOrder e bytes sci an (inside ahead events) = in_order laws grammar fresh e bytes sci an
-      (inside ahead events) (each_next [] events each peers at_start) peers in
+      _ (each_next [] events each peers at_start) peers in
       let other = other_end e in
       let sends : sent_in_all (runs_of other (inside ahead events)) ≡ sent_in_all_with (ahead other)
       (runs_of other events) =
-      rw (runs_inside ahead other events, sent_in_all_inside (ahead other) (runs_of other events)) in
+      rw (runs_inside ahead other events, sent_in_all_inside _ _) in
       rw (← delivered_inside events) (rw sends at it)
 
 -- a list is its first elements and others
@@ -516,16 +500,15 @@ cut (suc k) (h ∷ more) = let it = cut k more in record { rest = it.rest; is = 
 pub first_moments : (P : List Happening → Happening → Type 0) (before xs ys : List Happening) →
     AtEach P before (xs ++ ys) → AtEach P before xs
 first_moments P before [] ys each = tt
-first_moments P before (h ∷ xs) ys each = (each.0, first_moments P (before ++ h ∷ []) xs ys each.1)
+first_moments P before (h ∷ xs) ys each = (each.0, first_moments P _ xs ys each.1)
 
 pub comes_in_order_once_with : EndpointLaws → Grammar → Fresh → (ahead : End → Bool) (events : List Happening) →
     ComesInOrderOnceWith ahead events
 comes_in_order_once_with laws grammar fresh ahead events e bytes sci an each peers k =
     let it = cut k events in
-    let first : List Happening = take k events in
-    let rest : List Happening = passing_from (is_inside ahead) first it.rest in
+    let first = take k events in
+    let rest = passing_from (is_inside ahead) first it.rest in
     let these : inside ahead events ≡ inside ahead first ++ rest = ap (inside ahead) (sym it.is) ∙
-    passing-append (is_inside ahead) [] first it.rest in
-    in_order_with laws ahead e bytes sci an grammar fresh first
-    (first_moments (IsOrderlyInside (ahead e) e bytes sci an) [] (inside ahead first) rest (rw these at each))
-    (peers_before laws (inside ahead first) rest (rw these at peers))
+    passing-append _ [] first it.rest in
+    in_order_with laws ahead e bytes sci an grammar fresh first (first_moments _ [] _ rest (rw these at each))
+    (peers_before laws _ rest (rw these at peers))

@@ -5,11 +5,11 @@ use Rattle.macsec_rx.specs.Rows.{AreRxRows}
 use Rattle.macsec_restarts.proofs.{
   Names.{[], ◌+◌, ◌<◌, ◌==◌, ◌^◌, ◌||◌, ◌∙◌, ◌∷◌, ◌≡◌, ◌≤◌, ◌⊎◌, Ahead, ahead_step, All, All-contains, ap, arith, Bool},
   Names.{contained, CreatesAbove, delivered_at, Delivery, end_of_row, endpoint_input, EndpointLaws, eq-eqb, false},
-  Names.{frame_fault, get_or, HasStrictOrder, highest, inl, inr, InstalledKey, is_through, IsAbove, IsDeliveredFrom},
-  Names.{IsGivenUp, IsMember, IsSome, IsSound, IsStrictInput, Judgement, judgement_of, KeepingInput, KeysStay},
-  Names.{lets_through, link_frame, List, newly_delivered, None, now_durable, Option, or_parts, received_step},
-  Names.{receiving_name, refl, row_name, rx_row, rx_uses, RxRow, Sci, sending_name, Some, standing_by, State},
-  Names.{state_after_receiving, subst, sym, the_key, true, tx_uses, unwrap_or, ℕ},
+  Names.{frame_fault, get_or, HasStrictOrder, highest, inl, inr, InstalledKey, IsAbove, IsDeliveredFrom, IsGivenUp},
+  Names.{IsMember, IsSome, IsSound, IsStrictInput, Judgement, judgement_of, KeepingInput, KeysStay, lets_through},
+  Names.{link_frame, List, newly_delivered, None, now_durable, Option, or_parts, received_step, receiving_name, refl},
+  Names.{row_name, rx_row, rx_uses, RxRow, Sci, sending_name, Some, State, state_after_receiving, subst, sym, the_key},
+  Names.{true, unwrap_or, ℕ},
   AheadAccepts.reserved_now,
   AheadEnds.{ahead_row_step, created_above, given_up_stays, past_of, past_step, row_end},
   AheadInside.step_inside,
@@ -30,15 +30,15 @@ uses_it : (rows : List RxRow) (row : RxRow) (key : ℕ) → IsMember rows row �
 uses_it [] row key there same = absurd there
 uses_it (r ∷ rows) row key (inl here) same = rw (eq-eqb r.key key (rw (here, same)))
 uses_it (r ∷ rows) row key (inr later) same =
-    or_true (r.key == key) (rx_uses rows key) (uses_it rows row key later same)
+    or_true (r.key == key) _ (uses_it rows row key later same)
   where
     or_true : (b c : Bool) → c ≡ true → (b || c) ≡ true
     or_true true c is = refl
     or_true false c is = is
 
 pub not_used : (s : State) (key : ℕ) → IsGivenUp s key → (row : RxRow) → IsMember s.rx.rows row → row.key ≡ key → ⊥
-not_used s key up row there same = let no = sym (uses_it s.rx.rows row key there same)
-    ∙ (or_parts (tx_uses s.tx key) (rx_uses s.rx.rows key) up.unused).1 in cc
+not_used s key up row there same = let no = sym (uses_it _ row key there same)
+    ∙ (or_parts _ _ up.unused).1 in cc
 
 -- a lowest acceptable PN is at most 2^64
 lowest_fits : (scis : List Sci) (rows : List RxRow) (row : RxRow) → AreRxRows scis rows → IsMember rows row →
@@ -47,8 +47,8 @@ lowest_fits scis [] row are there = absurd there
 lowest_fits scis (r ∷ rows) row are (inr later) = lowest_fits scis rows row are.2 later
 lowest_fits scis (r ∷ rows) row are (inl here) = rw (← here) (omega (arith, are.0.lowest, are.0.next))
 
-of_some : (o : Option InstalledKey) (key : InstalledKey) → o ≡ Some key → IsSome o
-of_some o key is = rw is refl
+of_some : {o : Option InstalledKey} {key : InstalledKey} → o ≡ Some key → IsSome o
+of_some is = rw is refl
 
 module _ (laws : EndpointLaws) where
   octets_stay : (s after : State) → IsSound s → IsSound after → KeysStay s after → (n : ℕ) → IsSome (key_row s.keys n) →
@@ -60,7 +60,7 @@ module _ (laws : EndpointLaws) where
       let found : key_row after.keys n ≡ Some it.later = ap (key_row after.keys) (sym number)
       ∙ (laws.keys_apart after sound').by_number it.later it.there in
       record {
-        there = of_some (key_row after.keys n) it.later found;
+        there = of_some found;
         octets = rw (found, it.is_later.bytes);
       }
 
@@ -71,15 +71,15 @@ module _ (laws : EndpointLaws) where
       let apart = laws.keys_apart s sound in
       let first = apart.found n there in
       let second = apart.found m there' in
-      let one : the_key s.keys n ≡ the_key s.keys m =
+      let one =
       apart.by_bytes (the_key s.keys n) (the_key s.keys m) first.there second.there same in
       rw (← first.number, one, second.number)
 
   row_key : (s : State) → IsSound s → (sci : Sci) (an : ℕ) (row : RxRow) → rx_row s.rx.rows sci an ≡ Some row →
       IsSome (key_row s.keys row.key)
   row_key s sound sci an row there =
-      All-contains (λ (r : RxRow). IsSome (key_row s.keys r.key)) s.rx.rows row sound.rx_keys
-      (contained s.rx.rows row (found_row sci an s.rx.rows row there))
+      All-contains (λ r. IsSome (key_row s.keys r.key)) _ row sound.rx_keys
+      (contained _ row (found_row sci an _ row there))
 
   keys_stay_with : (a : Ahead) (input : KeepingInput) → IsSound a.k.secy → lets_through a input ≡ true →
       KeysStay a.k.secy (ahead_step a input).1.k.secy
@@ -139,11 +139,10 @@ module _ (laws : EndpointLaws) where
             rx_row s.rx.rows sci an ≡ Some earlier → later.key ≡ earlier.key
         key_by (now_durable r) later there' earlier here =
             let one : Some earlier ≡ Some later = sym here ∙ there' in
-            ap (λ (o : Option RxRow). (unwrap_or o later).key) (sym one)
+            ap (λ o. (unwrap_or o later).key) (sym one)
         key_by (endpoint_input input') later there' earlier here =
             let it : IsLaterRow earlier later =
-            subst (λ (o : Option RxRow). RowStep input' o (Some later)) here
-            (rw there' at (ahead_row_step a input' sci an)) in
+            subst (λ o. RowStep input' o (Some later)) here (rw there' at (ahead_row_step a input' sci an)) in
             it.key
 
         -- no SA has a key that is given up
@@ -158,7 +157,7 @@ module _ (laws : EndpointLaws) where
         by_row None none =
             let it = all i d within in
             let later = octets_stay s after sound sound' stay it.key it.there in
-            let one : it.key ≡ row.key =
+            let one =
             one_number after sound' it.key row.key later.there (row_key after sound' sci an row there)
             (later.octets ∙ it.octets ∙ sym under) in
             let above : past_of a it.key sci an < row.next =
@@ -221,12 +220,12 @@ module _ (laws : EndpointLaws) where
           rw same (tells.accepted (tells.opened order.mode).thirteen) in
           let ours : IsAbove after.k.secy.rx.rows sci an (j.number + 1) = rw (← is_an) (rw is_sci at above) in
           let place : rx_row s.rx.rows sci an ≡ Some row =
-          rw (← is_an) (subst (λ (x : Sci). rx_row s.rx.rows x row.an ≡ Some row) is_sci tells.at_place) in
+          rw (← is_an) (subst (λ x. rx_row s.rx.rows x row.an ≡ Some row) is_sci tells.at_place) in
           let stepped : IsLaterRow row ours.row =
-          subst (λ (o : Option RxRow). RowStep (link_frame frame) o (Some ours.row)) place
+          subst (λ o. RowStep (link_frame frame) o (Some ours.row)) place
           (rw ours.there at (ahead_row_step a (link_frame frame) sci an)) in
           let window : after.k.secy.options.window ≡ 0 = rw (same, order.window) in
-          let within = All-contains (λ (r : RxRow). r.next ≤ r.lowest + after.k.secy.options.window)
+          let within = All-contains (λ r. r.next ≤ r.lowest + after.k.secy.options.window)
           after.k.secy.rx.rows ours.row sound'.agrees.within_window
           (contained after.k.secy.rx.rows ours.row (found_row sci an after.k.secy.rx.rows ours.row ours.there)) in
           record {
@@ -249,13 +248,13 @@ module _ (laws : EndpointLaws) where
           (the_key s.keys row.key).bytes ≡ bytes → row.sci ≡ sci → row.an ≡ an →
           IsNewPast a after (delivery_of row delivered)
       delivery row delivered fits of_row gives order is_bytes is_sci is_an =
-          let tells : IsDeliveredFrom s frame row delivered = laws.delivers s frame row delivered sound of_row gives in
+          let tells = laws.delivers s frame row delivered sound of_row gives in
           let same = after_is fits in
           let keys : after.k.secy.keys ≡ s.keys = rw same in
-          let there : IsSome (key_row s.keys row.key) = row_key s sound row.sci row.an row tells.at_place in
+          let there = row_key s sound row.sci row.an row tells.at_place in
           let name : row_name a.k.salt s row ≡ receiving_name (sending_name a.k.salt bytes) sci an =
           rw (is_bytes, is_sci, is_an) in
-          let passed : is_through false (standing_by a j None (Some row)) ≡ true = rw (fits, of_row) at lets in
+          let passed = rw (fits, of_row) at lets in
           record {
             past = record {
               key = row.key;

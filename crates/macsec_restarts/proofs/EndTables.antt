@@ -6,10 +6,10 @@ use Rattle.{
     Ends.with_key_end,
     declared.ends.EndedKey.EndedKey,
   },
-  macsec_restarts.proofs.Names.{[], ◌&&◌, ◌++◌, ◌==◌, ◌||◌, ◌∙◌, ◌∷◌, ◌≡◌, ◌≤◌, and_from, arith, Bool, cond, end_of},
-  macsec_restarts.proofs.Names.{EndedSa, Ends, eq-eqb, eqb-true, false, filter, if◌then◌else◌, inl, inr, IsMember},
-  macsec_restarts.proofs.Names.{length, List, map, max, nat_lt, not, refl, same_octets-refl, same_sci, Sci, sym, true},
-  macsec_restarts.proofs.Names.{with_ends, without_key, ℕ},
+  macsec_restarts.proofs.Names.{[], ◌++◌, ◌==◌, ◌||◌, ◌∙◌, ◌∷◌, ◌≡◌, ◌≤◌, and_from, arith, Bool, cond, end_of, EndedSa},
+  macsec_restarts.proofs.Names.{Ends, eq-eqb, eqb-true, false, filter, if◌then◌else◌, inl, inr, IsMember, length, List},
+  macsec_restarts.proofs.Names.{map, max, nat_lt, not, refl, same_octets-refl, Sci, sym, true, with_ends, without_key},
+  macsec_restarts.proofs.Names.ℕ,
 }
 
 -- ---- the highest end among the entries that pass a test
@@ -83,8 +83,7 @@ last_under-is key [] = refl
 last_under-is key (e ∷ es) = rw (last_under-is key es)
 
 is_of_itself : (e : EndedSa) → is_of e.key e.sci e.an e ≡ true
-is_of_itself e = and_from (e.key == e.key && same_sci e.sci e.sci) (e.an == e.an)
-    (and_from (e.key == e.key) (same_sci e.sci e.sci) (eq-eqb e.key e.key refl) (same_octets-refl e.sci.0))
+is_of_itself e = and_from _ _ (and_from _ _ (eq-eqb e.key e.key refl) (same_octets-refl e.sci.0))
     (eq-eqb e.an e.an refl)
 
 -- ---- one more end
@@ -241,7 +240,7 @@ of_other n key other m gone = by_tests (m == n) (m == key) refl refl gone
     by_tests b false is is' gone' = refl
     by_tests false true is is' gone' = cc
     by_tests true true is is' gone' =
-        let same : (key == n) ≡ true = rw (eqb-true m key is') at is in
+        let same = rw (eqb-true m key is') at is in
         let no = sym same ∙ other in cc
 
 pub without_other : (n : ℕ) (t : Ends) (key : ℕ) (sci : Sci) (an : ℕ) → (key == n) ≡ false →
@@ -249,7 +248,7 @@ pub without_other : (n : ℕ) (t : Ends) (key : ℕ) (sci : Sci) (an : ℕ) → 
 without_other n t key sci an other = rw (
   last_end-is key sci an (filter (λ e. not (e.key == n)) t.entries),
   of_kept sa_last (is_of key sci an) (λ e. not (e.key == n)) (λ e gone. rw (of_other n key other e.key gone)) t.entries,
-  ← last_end-is key sci an t.entries,
+  ← last_end-is key sci an _,
   last_under-is key (filter (λ e. not (is_under n e)) t.keys),
   of_kept key_last (is_under key) (λ e. not (is_under n e)) (λ e gone. of_other n key other e.key gone) t.keys,
   ← last_under-is key t.keys,

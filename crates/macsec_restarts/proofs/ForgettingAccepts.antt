@@ -2,11 +2,10 @@
 -- command changes what is reserved, nor the journal's salt and records.
 use Rattle.macsec_restarts.{
   proofs.{
-    Names.{[], ◌∙◌, ◌∷◌, ◌≡◌, ◌≤◌, accepted_from_forgetting, AcceptsAboveForgetting, Ahead, ahead_forgetting_step},
-    Names.{AheadOutput, All, All-append, All-contains, All-nil, All-weaker, ap, arith, begins_again, Delivery},
-    Names.{delivery_name, endpoint_input, forgetting_step, get_or, highest, Keeping, KeepingInput, KeepsDurable, List},
-    Names.{max, newly_accepted, now_durable, opening_with, reduced, reduced_reserves, refl, reported_in, Reservation},
-    Names.{reservations, Run, salt_of, SameSalt, standing, subst, true, ℕ},
+    Names.{[], ◌∙◌, ◌∷◌, ◌≡◌, ◌≤◌, accepted_from_forgetting, AcceptsAboveForgetting, Ahead, ahead_forgetting_step, All},
+    Names.{All-append, All-contains, All-nil, All-weaker, ap, arith, delivery_name, endpoint_input, get_or, highest},
+    Names.{KeepingInput, KeepsDurable, List, max, newly_accepted, now_durable, opening_with, reduced, reduced_reserves},
+    Names.{refl, reported_in, reservations, Run, salt_of, SameSalt, subst, true, ℕ},
     AheadAccepts.{IsWithin, most_of, option_by, reserved_above, taken_step, within_input},
     AheadForgets.{before_kept, field_forgetting, forgetting_is, salt_kept},
   },
@@ -16,30 +15,30 @@ use Rattle.macsec_restarts.{
 option_kept : (l : Ahead) (input : KeepingInput) → (ahead_forgetting_step l input).1.ahead ≡ l.ahead
 option_kept l (now_durable r) = refl
 option_kept l (endpoint_input input) =
-    ap (λ (x : AheadOutput × Ahead). x.1.ahead) (forgetting_is l input)
-    ∙ (option_by (begins_again l input) (standing l input) l input (forgetting_step l.k (endpoint_input input))).0
+    ap (λ x. x.1.ahead) (forgetting_is l input)
+    ∙ (option_by _ _ l input _).0
 
 taken_kept : (l : Ahead) (input : KeepingInput) (inputs : List KeepingInput) (name : List ℕ) →
     max (highest (ahead_forgetting_step l input).1.taken name) (highest (reported_in inputs) name) ≤ max (highest l.taken name) (highest (reported_in (input ∷ inputs)) name)
 taken_kept l (now_durable r) inputs name = taken_step l (now_durable r) inputs name
 taken_kept l (endpoint_input input) inputs name =
     let same : highest (ahead_forgetting_step l (endpoint_input input)).1.taken name ≡ highest l.taken name =
-    ap (λ (x : AheadOutput × Ahead). highest x.1.taken name) (forgetting_is l input)
-    ∙ ap (λ (rs : List Reservation). highest rs name) (option_by (begins_again l input) (standing l input) l input (forgetting_step l.k (endpoint_input input))).1 in
+    ap (λ x. highest x.1.taken name) (forgetting_is l input)
+    ∙ ap (λ rs. highest rs name) (option_by _ _ l input _).1 in
     omega (arith, same)
 
 within : (inputs : List KeepingInput) (l : Ahead) → l.ahead ≡ true → All (IsWithin l.k.before l.k.salt (most_of l inputs)) (accepted_from_forgetting l inputs)
 within [] l on = All-nil (IsWithin l.k.before l.k.salt (most_of l []))
 within (input ∷ inputs) l on =
     let after = (ahead_forgetting_step l input).1 in
-    let P : Delivery → Type 0 = IsWithin l.k.before l.k.salt (most_of l (input ∷ inputs)) in
+    let P = IsWithin l.k.before l.k.salt (most_of l (input ∷ inputs)) in
     All-append P (newly_accepted l input) (accepted_from_forgetting after inputs)
     (All-weaker (IsWithin l.k.before l.k.salt (highest l.taken)) P (λ d it. record { above = it.above; within = omega (arith, it.within) }) (newly_accepted l input) (within_input l on input))
     (All-weaker (IsWithin after.k.before after.k.salt (most_of after inputs)) P
     (λ d it.
     let here : IsWithin l.k.before l.k.salt (most_of after inputs) d =
-    subst (λ (salt : List ℕ). IsWithin l.k.before salt (most_of after inputs) d) (field_forgetting (λ (k : Keeping). k.salt) salt_kept l input)
-    (subst (λ (before : List Reservation). IsWithin before after.k.salt (most_of after inputs) d) (field_forgetting (λ (k : Keeping). k.before) before_kept l input) it) in
+    subst (λ salt. IsWithin l.k.before salt (most_of after inputs) d) (field_forgetting (λ k. k.salt) salt_kept l input)
+    (subst (λ before. IsWithin before after.k.salt (most_of after inputs) d) (field_forgetting (λ k. k.before) before_kept l input) it) in
     record { above = here.above; within = omega (arith, here.within, taken_kept l input inputs (delivery_name l.k.salt d)) })
     (accepted_from_forgetting after inputs) (within inputs after (option_kept l input ∙ on)))
 
@@ -54,7 +53,7 @@ accepts_reserved_forgetting run d there =
 
 accepts_above : (run later : Run) → SameSalt run later → KeepsDurable run later → AcceptsAboveForgetting run later
 accepts_above run later salt durable d e here there same =
-    reserved_above run later salt durable d e (accepts_reserved_forgetting run d here) (accepts_reserved_forgetting later e there) same
+    reserved_above salt durable (accepts_reserved_forgetting run d here) (accepts_reserved_forgetting later e there) same
 
 pub accepts_above_forgetting : (runs : List Run) → AcceptsAboveForgettingInAll runs
 accepts_above_forgetting runs salt durable i j d less within' =

@@ -1,18 +1,17 @@
 -- Where deleted SAs ended is remembered by endpoints that forget keys, and what was saved of an SA is not delivered
 -- again.
 use Rattle.macsec_secy.proofs.GivenUp.{stays_replaced}
-use Rattle.macsec_reserve.specs.{Forgetting.fingerprint_of, Replay.{SavesAccepted, saved_for}}
+use Rattle.macsec_reserve.specs.{Replay.{SavesAccepted, saved_for}}
 use Rattle.macsec_restarts.{
   proofs.{
-    Names.{[], ◌&&◌, ◌+◌, ◌<◌, ◌∙◌, ◌∷◌, ◌≡◌, ◌≤◌, Ahead, ahead_forgetting_after, ahead_forgetting_step, ahead_step},
-    Names.{All, All-cons, All-contains, All-head, All-nil, All-tail, All-weaker, and_from, ap, arith, begins_again},
-    Names.{Bool, can_forget, closing, Command, end_of, endpoint_input, EndpointLaws, false, forgetting},
-    Names.{forgetting_step, highest, if◌then◌else◌, inl, inr, inside_of, is_done, IsAbove, IsDeliveredFrom, IsGivenUp},
-    Names.{IsSound, judgement_of, Keeping, keeping_step, KeepingInput, KeepingOutput, KeepsAssociation, Key, le-leb},
-    Names.{link_frame, List, lt-ltb, max, nat_le, nat_lt, None, now_durable, opening_with, operator_command, Option},
-    Names.{passes, received_step, receiving_name, refl, reported, Reservation, reservations, Retire, retired_by},
-    Names.{row_name, Run, RunWith, rx_row, RxRow, RxSa, salt_of, same_octets, same_octets-refl, Sci, sending_name},
-    Names.{Some, State, state_after_receiving, step, subst, sym, take, taken, then_forget, through, true, unwrap_or, ℕ},
+    Names.{[], ◌+◌, ◌<◌, ◌∙◌, ◌∷◌, ◌≡◌, ◌≤◌, Ahead, ahead_forgetting_after, ahead_forgetting_step, ahead_step, All},
+    Names.{All-cons, All-contains, All-head, All-nil, All-tail, All-weaker, and_from, ap, arith, Bool, closing},
+    Names.{Command, end_of, endpoint_input, EndpointLaws, false, forgetting, forgetting_step, highest, if◌then◌else◌},
+    Names.{inl, inr, inside_of, IsAbove, IsGivenUp, IsSound, judgement_of, Keeping, keeping_step, KeepingInput},
+    Names.{KeepingOutput, KeepsAssociation, Key, le-leb, link_frame, List, lt-ltb, max, None, now_durable},
+    Names.{opening_with, operator_command, Option, passes, received_step, refl, reported, Reservation, reservations},
+    Names.{Retire, retired_by, row_name, Run, RunWith, rx_row, RxRow, RxSa, salt_of, same_octets-refl, Sci, Some},
+    Names.{State, step, subst, sym, take, taken, then_forget, through, true, unwrap_or, ℕ},
     AheadEnds.{GivesUpBy, KeepsByRetiring, StaysUnless, after_command, ends_step, keeps_given_up, not_gone},
     AheadEnds.{remembers_by, remembers_end, retires, row_kept},
     AheadForgets.{KeepersAlike, by_forgetting, forgets_field},
@@ -30,34 +29,31 @@ use Rattle.macsec_restarts.{
 -- the receive SAs are those of the keeping endpoint's step
 same_rx : (k : Keeping) (input : KeepingInput) →
     (forgetting_step k input).1.secy.rx ≡ (keeping_step k (taken k input)).1.secy.rx
-same_rx k input = forgets_field (λ (x : Keeping). x.secy.rx) (λ x n. refl) (retired_by input)
-    (keeping_step k (taken k input))
+same_rx k input = forgets_field (λ x. x.secy.rx) (λ x n. refl) (retired_by input) (keeping_step k (taken k input))
 
 -- a key that is given up stays given up
 still_given_up : (o : Option ℕ) (answer : KeepingOutput × Keeping) (m : ℕ) → IsGivenUp answer.1.secy m →
     IsGivenUp (then_forget o answer).1.secy m
 still_given_up None answer m up = up
-still_given_up (Some n) answer m up = by_both (is_done answer.0 && can_forget answer.1 n)
+still_given_up (Some n) answer m up = by_both _
   where
     by_both : (b : Bool) → IsGivenUp (if b then forgetting answer.1 n else answer.1).secy m
-    by_both true = stays_replaced answer.1.secy m n (fingerprint_of answer.1 n) up
+    by_both true = stays_replaced _ m n _ up
     by_both false = up
 
 given_up_forgetting : (k : Keeping) (input : KeepingInput) (n : ℕ) → IsGivenUp k.secy n →
     IsGivenUp (forgetting_step k input).1.secy n
-given_up_forgetting k input n up = still_given_up (retired_by input) (keeping_step k (taken k input)) n
-    (keeps_given_up k (taken k input) n up)
+given_up_forgetting k input n up = still_given_up _ _ n (keeps_given_up k _ n up)
 
 given_up_step : (a : Ahead) (input : KeepingInput) (n : ℕ) → IsGivenUp a.k.secy n →
     IsGivenUp (ahead_forgetting_step a input).1.k.secy n
 given_up_step a input n up =
-    by_forgetting (λ (k : Keeping). IsGivenUp k.secy n) a input up (given_up_forgetting a.k input n up)
+    by_forgetting (λ k. IsGivenUp k.secy n) a input up (given_up_forgetting a.k input n up)
 
 given_up_later : (inputs : List KeepingInput) (a : Ahead) (n : ℕ) → IsGivenUp a.k.secy n →
     IsGivenUp (ahead_forgetting_after a inputs).k.secy n
 given_up_later [] a n up = up
-given_up_later (input ∷ inputs) a n up = given_up_later inputs (ahead_forgetting_step a input).1 n
-    (given_up_step a input n up)
+given_up_later (input ∷ inputs) a n up = given_up_later inputs _ _ (given_up_step a input n up)
 
 -- ---- deleted SAs
 
@@ -70,21 +66,19 @@ forgetting_ends_step : (a : Ahead) (input : KeepingInput) (key : ℕ) (sci : Sci
     StaysUnless a (ahead_forgetting_step a input).1 key sci an
 forgetting_ends_step a (now_durable r) key sci an = ends_step a (now_durable r) key sci an
 forgetting_ends_step a (endpoint_input (operator_command c)) key sci an =
-    after_command c (forgetting_step a.k (endpoint_input (operator_command c))) (gives_up a.k c)
-    (begins_again a (operator_command c)) passes a key sci an
+    after_command c _ (gives_up a.k c) _ passes a key sci an
 forgetting_ends_step a input key sci an = ends_step a input key sci an
 
 pub keeps_ends_forgetting : (inputs : List KeepingInput) (a : Ahead) (key : ℕ) (sci : Sci) (an : ℕ) →
     KeepsEndsForgetting a inputs key sci an
 keeps_ends_forgetting [] a key sci an = inr (omega arith)
 keeps_ends_forgetting (input ∷ inputs) a key sci an =
-    by_step (forgetting_ends_step a input key sci an)
-    (keeps_ends_forgetting inputs (ahead_forgetting_step a input).1 key sci an)
+    by_step (forgetting_ends_step a input key sci an) (keeps_ends_forgetting inputs _ key sci an)
   where
     by_step : StaysUnless a (ahead_forgetting_step a input).1 key sci an →
         KeepsEndsForgetting (ahead_forgetting_step a input).1 inputs key sci an →
         KeepsEndsForgetting a (input ∷ inputs) key sci an
-    by_step (inl up) later = inl (given_up_later inputs (ahead_forgetting_step a input).1 key up)
+    by_step (inl up) later = inl (given_up_later inputs _ _ up)
     by_step (inr grows) (inl up) = inl up
     by_step (inr grows) (inr later) = inr (omega (arith, grows, later))
 
@@ -98,16 +92,14 @@ keeps_by_retiring k row there c = tt
 pub remembers_end_forgetting : (a : Ahead) (input : KeepingInput) (row : RxRow) → RemembersEndForgetting a input row
 remembers_end_forgetting a (now_durable r) row = remembers_end a (now_durable r) row
 remembers_end_forgetting a (endpoint_input (operator_command c)) row = λ keeps there none.
-    remembers_by c (forgetting_step a.k (endpoint_input (operator_command c)))
-    (begins_again a (operator_command c)) passes a row (keeps_by_retiring a.k row there c) keeps there none
+    remembers_by c _ _ passes a row (keeps_by_retiring a.k row there c) keeps there none
 remembers_end_forgetting a input row = remembers_end a input row
 
 pub refuses_below_end_forgetting : (a : Ahead) (sci : Sci) (an key ssci lowest : ℕ) →
     RefusesBelowEndForgetting a sci an key ssci lowest
 refuses_below_end_forgetting a sci an key ssci lowest least below =
     let input = operator_command (RxSa sci an key ssci lowest) in
-    rw (and_from (nat_lt 0 lowest) (nat_le lowest (end_of a.ended key sci an)) (lt-ltb 0 lowest least)
-    (le-leb lowest (end_of a.ended key sci an) below))
+    rw (and_from _ _ (lt-ltb 0 lowest least) (le-leb lowest (end_of a.ended key sci an) below))
 
 -- ---- an SA that is not deleted keeps its next number
 
@@ -121,27 +113,25 @@ above_forgetting : (a : Ahead) (input : KeepingInput) (sci : Sci) (an n : ℕ) �
     IsAbove a.k.secy.rx.rows sci an n →
     IsAbove (ahead_forgetting_step a input).1.k.secy.rx.rows sci an n
 above_forgetting a input sci an n keeps above =
-    by_forgetting (λ (k : Keeping). IsAbove k.secy.rx.rows sci an n) a input above
-    (rw (same_rx a.k input) (row_kept a.k (taken a.k input) sci an n (keeps_taken a.k sci an input keeps) above))
+    by_forgetting (λ k. IsAbove k.secy.rx.rows sci an n) a input above
+    (rw (same_rx a.k input) (row_kept a.k _ sci an n (keeps_taken a.k sci an input keeps) above))
 
 above_ahead : (a : Ahead) (input : KeepingInput) (sci : Sci) (an n : ℕ) → KeepsAssociation sci an input →
     IsAbove a.k.secy.rx.rows sci an n →
     IsAbove (ahead_step a input).1.k.secy.rx.rows sci an n
 above_ahead a input sci an n keeps above =
-    by_inside (λ (k : Keeping). IsAbove k.secy.rx.rows sci an n) a input above (row_kept a.k input sci an n keeps above)
+    by_inside (λ k. IsAbove k.secy.rx.rows sci an n) a input above (row_kept a.k input sci an n keeps above)
 
-above_on : (forgets : Bool) (inputs : List KeepingInput) (a : Ahead) (sci : Sci) (an n : ℕ) →
+above_on : (forgets : Bool) (inputs : List KeepingInput) (a : Ahead) {sci : Sci} {an n : ℕ} →
     All (KeepsAssociation sci an) inputs → IsAbove a.k.secy.rx.rows sci an n →
     IsAbove (after_with forgets a inputs).k.secy.rx.rows sci an n
-above_on true [] a sci an n keeps above = above
-above_on false [] a sci an n keeps above = above
-above_on true (input ∷ inputs) a sci an n keeps above =
-    above_on true inputs (ahead_forgetting_step a input).1 sci an n
-    (All-tail (KeepsAssociation sci an) input inputs keeps)
+above_on true (input ∷ inputs) a {sci} {an} {n} keeps above =
+    above_on true inputs _ (All-tail (KeepsAssociation sci an) input inputs keeps)
     (above_forgetting a input sci an n (All-head (KeepsAssociation sci an) input inputs keeps) above)
-above_on false (input ∷ inputs) a sci an n keeps above =
-    above_on false inputs (ahead_step a input).1 sci an n (All-tail (KeepsAssociation sci an) input inputs keeps)
+above_on false (input ∷ inputs) a {sci} {an} {n} keeps above =
+    above_on false inputs _ (All-tail (KeepsAssociation sci an) input inputs keeps)
     (above_ahead a input sci an n (All-head (KeepsAssociation sci an) input inputs keeps) above)
+above_on forgets inputs a keeps above = above
 
 -- ---- what is delivered is above what the journal had saved
 
@@ -163,14 +153,12 @@ module _ (alike : KeepersAlike) (fresh : Fresh) where
       let judged = judged_same s t same unused frame in
       let replay' : s.options.replay ≡ true = sym (rw same.same) ∙ replay in
       let of_row' : (judgement_of s frame).row ≡ Some row = rw (← judged, of_row) in
-      let above : highest (reservations later.journal)
-      (row_name (salt_of later.journal) s row) < (judgement_of s frame).number =
+      let above =
       fresh q q.inputs frame row delivered replay' of_row' (rw (← judged, delivers)) in
-      subst (λ (n : ℕ). highest (reservations later.journal) (row_name (salt_of later.journal) t row) < n)
-      (sym (ap (λ j. j.number) judged))
-      (rw (name_same s t same unused (salt_of later.journal) row (row_there s frame row of_row')) above)
+      subst (λ n. highest (reservations later.journal) (row_name (salt_of later.journal) t row) < n)
+      (sym (ap (λ j. j.number) judged)) (rw (name_same s t same unused _ row (row_there s frame row of_row')) above)
   above_saved false other later inputs frame row delivered sound replay of_row delivers =
-      let q : Run = record later { inputs = through (opening_with other later) inputs } in
+      let q : Run = record later { inputs = through _ inputs } in
       let P : Keeping → Type 0 = λ k.
       k.secy.options.replay ≡ true → (judgement_of k.secy frame).row ≡ Some row →
       (judgement_of k.secy frame).delivered ≡ Some delivered →
@@ -178,17 +166,16 @@ module _ (alike : KeepersAlike) (fresh : Fresh) where
       (salt_of later.journal) k.secy row) < (judgement_of k.secy frame).number in
       let there : P (closing q) = λ replay' of_row' delivers'. fresh q q.inputs frame row delivered replay' of_row'
       delivers' in
-      subst P (sym (k_inside inputs (opening_with other later))) there replay of_row delivers
+      subst P (sym (k_inside inputs _)) there replay of_row delivers
 
 -- ---- what a list has it reserves
 
 has_highest : (rs : List Reservation) → All (λ x. x.last ≤ highest rs x.name) rs
-has_highest [] = All-nil (λ (x : Reservation). x.last ≤ 0)
+has_highest [] = All-nil (λ x. x.last ≤ 0)
 has_highest (y ∷ ys) =
     let P : Reservation → Type 0 = λ x. x.last ≤ highest (y ∷ ys) x.name in
-    All-cons P y ys (own (same_octets y.name y.name) (same_octets-refl y.name))
-    (All-weaker (λ (x : Reservation). x.last ≤ highest ys x.name) P
-    (λ x less. later x (same_octets y.name x.name) less) ys (has_highest ys))
+    All-cons P y ys (own _ (same_octets-refl y.name)) (All-weaker (λ x. x.last ≤ highest ys x.name) P
+    (λ x less. later x _ less) ys (has_highest ys))
   where
     own : (b : Bool) → b ≡ true → y.last ≤ (if b then max y.last (highest ys y.name) else highest ys y.name)
     own true is = omega arith
@@ -213,43 +200,37 @@ module _ (alike : KeepersAlike) (laws : EndpointLaws) (fresh : Fresh) (saves : S
       let s = l.k.secy in
       let j = judgement_of s saved.frame in
       let link = endpoint_input (link_frame saved.frame) in
-      let tells : IsDeliveredFrom s saved.frame saved.from saved.accepted.delivered =
+      let tells =
       laws.delivers s saved.frame saved.from saved.accepted.delivered saved.sound saved.accepted.row
       saved.accepted.gives in
-      let accepted : IsAbove (state_after_receiving s saved.frame j).rx.rows saved.from.sci saved.from.an
-      (j.number + 1) = tells.accepted saved.accepted.step in
+      let accepted = tells.accepted saved.accepted.step in
       let stepped : IsAbove (step s (link_frame saved.frame)).1.rx.rows saved.from.sci saved.from.an (j.number + 1) =
       rw saved.accepted.fits accepted in
       let kept : IsAbove (keeping_step l.k link).1.secy.rx.rows saved.from.sci saved.from.an (j.number + 1) =
-      rw (received_step l.k saved.frame) stepped in
+      rw (received_step l.k _) stepped in
       let first : IsAbove (ahead_forgetting_step l link).1.k.secy.rx.rows saved.from.sci saved.from.an (n + 1) =
       rw (← saved.number) (rw (step_inside l link true saved.passes) kept) in
       let at_last : IsAbove saved.last.k.secy.rx.rows saved.from.sci saved.from.an (n + 1) =
-      rw saved.last_is (above_on forgets saved.then_on (ahead_forgetting_step l link).1 saved.from.sci saved.from.an
-      (n + 1) saved.keeps first) in
-      let one : at_last.row ≡ saved.row = ap (λ (o : Option RxRow). unwrap_or o saved.row)
-      (sym at_last.there ∙ saved.there) in
-      let next : n + 1 ≤ saved.row.next = subst (λ (x : RxRow). n + 1 ≤ x.next) one at_last.above in
-      let covers : n ≤ (saved_for saved.last.k.salt saved.last.k.secy saved.row).last =
+      rw saved.last_is (above_on forgets _ _ saved.keeps first) in
+      let one : at_last.row ≡ saved.row = ap (λ o. unwrap_or o saved.row) (sym at_last.there ∙ saved.there) in
+      let next : n + 1 ≤ saved.row.next = subst (λ x. n + 1 ≤ x.next) one at_last.above in
+      let covers =
       saves saved.last.k.salt saved.last.k.secy saved.from.sci saved.from.an saved.row n saved.sound_last saved.window
       saved.there (omega (arith, next)) in
       let granted : (saved_for saved.last.k.salt saved.last.k.secy saved.row).last ≤ highest (reported run)
       (row_name saved.last.k.salt saved.last.k.secy saved.row) =
-      All-contains (λ (x : Reservation). x.last ≤ highest (reported run) x.name) (reported run)
-      (saved_for saved.last.k.salt saved.last.k.secy saved.row) (has_highest (reported run)) saved.durable in
-      let under : (saved_for saved.last.k.salt saved.last.k.secy saved.row).last ≤ highest (reported run) name =
+      All-contains (λ x. x.last ≤ highest (reported run) x.name) _ _ (has_highest _) saved.durable in
+      let under =
       rw saved.name_is at granted in
       let t = (after_with forgets (opening_with other later) inputs).k.secy in
-      let above : highest (reservations later.journal) name < (judgement_of t frame).number =
-      rw is_name at (above_saved alike fresh forgets other later inputs frame row delivered sound replay of_row
-      delivers) in
+      let above =
+      rw is_name at (above_saved alike fresh forgets other later inputs frame row _ sound replay of_row delivers) in
       omega (arith, covers, under, reads, above)
 
   pub never_delivers_again_under_with : (forgets ahead other : Bool) (run later : Run) (bytes : List ℕ) (sci : Sci)
       (an n : ℕ) → NeverDeliversAgainUnderWith forgets ahead other run later bytes sci an n
   never_delivers_again_under_with forgets ahead other run later bytes sci an n saved salt reads inputs frame row
       delivered sound replay of_row delivers is_key is_sci is_an =
-      never_delivers_again_with forgets ahead other run later
-      (receiving_name (sending_name (salt_of run.journal) bytes) sci an) n saved reads
+      never_delivers_again_with forgets ahead other run later _ n saved reads
       inputs frame row delivered sound replay of_row delivers
       (rw (is_key, salt, is_sci, is_an))

@@ -5,9 +5,9 @@ use Rattle.macsec_restarts.proofs.{
   Names.{[], ◌++◌, ◌∙◌, ◌∷◌, ◌≡◌, Ahead, ahead_forgetting_after, ahead_forgetting_step, All, All-head, All-tail, ap},
   Names.{append-nil, append_assoc, ap₂, Bool, closing_forgetting, ComesInOrderWith, delivered_in_all_forgetting},
   Names.{delivered_in_all_with, Delivery, End, EndpointLaws, false, given, Grammar, Happening, if◌then◌else◌, inside},
-  Names.{installs_retired, is_inside, IsOrderlyInside, IsSoundForgetting, KeepingInput, last_run, List, map, None, not},
-  Names.{opening_with, Option, other_end, others_with, passing_from, refl, remembering, Run, runs_of},
-  Names.{sent_in_all_forgetting, sent_in_all_with, SentIn, Some, sym, take, true},
+  Names.{installs_retired, is_inside, IsSoundForgetting, KeepingInput, List, map, None, not, opening_with, Option},
+  Names.{other_end, others_with, passing_from, refl, remembering, Run, runs_of, sent_in_all_forgetting},
+  Names.{sent_in_all_with, SentIn, Some, sym, take, true},
   AheadForgets.{KeepersAlike, ahead_forgets_alike},
   AheadOrder.{cut, first_moments, in_order_with},
   Passing.{passing-append, reaches, runs_passing},
@@ -23,8 +23,7 @@ others-push : (inputs : List KeepingInput) (a : Ahead) (input : KeepingInput) �
     others_with a (inputs ++ input ∷ []) ≡ others_with a inputs ++
     (if installs_retired (ahead_forgetting_after a inputs).k input then [] else input ∷ [])
 others-push [] a input = refl
-others-push (i ∷ inputs) a input = by_test (installs_retired a.k i) (others-push inputs (ahead_forgetting_step a i).1
-    input)
+others-push (i ∷ inputs) a input = by_test (installs_retired a.k i) (others-push inputs _ input)
   where
     added : List KeepingInput
     added = if installs_retired (ahead_forgetting_after (ahead_forgetting_step a i).1 inputs).k input then []
@@ -45,7 +44,7 @@ pub remembering_pushed : (ahead : Bool) (input : KeepingInput) (run : Run) →
     else remembering ahead run)
 remembering_pushed ahead input run =
     rw (
-      others-push run.inputs (opening_with ahead run) input,
+      others-push _ _ input,
       by_test
           (installs_retired (closing_forgetting ahead run).k input),
     )
@@ -55,7 +54,7 @@ remembering_pushed ahead input run =
 
     by_test : (b : Bool) → record run { inputs = inputs ++ (if b then [] else input ∷ []) } ≡
         (if not b then with_input input (remembering ahead run) else remembering ahead run)
-    by_test true = ap (λ (is : List KeepingInput). record run { inputs = is }) (append-nil inputs)
+    by_test true = ap (λ is. record run { inputs = is }) (append-nil inputs)
     by_test false = refl
 
 gives_is : (ahead : Bool) (input : KeepingInput) (o : Option Run) →
@@ -66,11 +65,10 @@ gives_is ahead input (Some run) = refl
 pub runs_given : (ahead : End → Bool) (e : End) (events : List Happening) → runs_of e (given ahead events) ≡ map
     (remembering (ahead e)) (runs_of e events)
 runs_given ahead e events =
-    runs_passing (is_given ahead) (λ f. remembering (ahead f))
+    runs_passing _ (λ f. remembering (ahead f))
     (λ f input run. not (installs_retired (closing_forgetting (ahead f) run).k input))
-    (λ before f config journal. refl)
-    (λ before f input. gives_is (ahead f) input (last_run (runs_of f before))) (λ f config journal. refl)
-    (λ f input run. remembering_pushed (ahead f) input run) e events
+    (λ before f config journal. refl) (λ before f input. gives_is _ input _) (λ f config journal. refl)
+    (λ f input run. remembering_pushed _ input run) e events
 
 -- ---- what they send and deliver
 
@@ -112,26 +110,22 @@ pub comes_in_order_once_forgetting : KeepersAlike → EndpointLaws → Grammar �
     (ahead : End → Bool) (events : List Happening) → ComesInOrderOnceForgetting ahead events
 comes_in_order_once_forgetting alike laws grammar fresh ahead events e bytes sci an sounds each peers k =
     let it = cut k events in
-    let first : List Happening = take k events in
+    let first = take k events in
     let those : given ahead events ≡ given ahead first ++ passing_from (is_given ahead) first it.rest =
-    ap (given ahead) (sym it.is) ∙ passing-append (is_given ahead) [] first it.rest in
-    let rest : List Happening = passing_from (is_inside ahead) (given ahead first)
-    (passing_from (is_given ahead) first it.rest) in
+    ap (given ahead) (sym it.is) ∙ passing-append _ [] first it.rest in
+    let rest = passing_from (is_inside ahead) (given ahead first) (passing_from (is_given ahead) first it.rest) in
     let inner : inside ahead (given ahead events) ≡ inside ahead (given ahead first) ++ rest =
-    rw (those, passing-append (is_inside ahead) [] (given ahead first) (passing_from (is_given ahead) first it.rest)) in
+    rw (those, passing-append _ [] _ _) in
     let own : ComesInOrderWith ahead e bytes sci an (given ahead first) =
-    in_order_with laws ahead e bytes sci an grammar fresh (given ahead first)
-    (first_moments (IsOrderlyInside (ahead e) e bytes sci an) [] (inside ahead (given ahead first)) rest
-    (rw inner at each))
-    (peers_before laws (inside ahead (given ahead first)) rest (rw inner at peers)) in
+    in_order_with laws ahead e bytes sci an grammar fresh _ (first_moments _ [] _ rest (rw inner at each))
+    (peers_before laws _ rest (rw inner at peers)) in
     let sound : (f : End) → All (IsSoundForgetting (ahead f)) (runs_of f first) =
-    λ f. sound_first (ahead f) f it.rest first (rw it.is (sounds f)) in
+    λ f. sound_first _ f it.rest first (rw it.is (sounds f)) in
     let other = other_end e in
     let delivers : delivered_in_all_with (ahead e) (runs_of e (given ahead first)) ≡ delivered_in_all_forgetting
     (ahead e) (runs_of e first) =
-    rw (runs_given ahead e first, delivers_same alike (ahead e) (runs_of e first) (sound e)) in
+    rw (runs_given ahead e first, delivers_same alike _ _ (sound e)) in
     let sends : sent_in_all_with (ahead other) (runs_of other (given ahead first)) ≡ sent_in_all_forgetting
     (ahead other) (runs_of other first) =
-    ap (sent_in_all_with (ahead other)) (runs_given ahead other first) ∙ sends_same alike (ahead other)
-    (runs_of other first) (sound other) in
+    ap (sent_in_all_with (ahead other)) (runs_given ahead other first) ∙ sends_same alike _ _ (sound other) in
     rw (← delivers) (rw sends at own)

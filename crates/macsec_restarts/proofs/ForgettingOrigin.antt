@@ -55,8 +55,8 @@ module _ (laws : EndpointLaws) (grammar : Grammar) (e : End) where
       AtEach IsNow before more
   with_peers before [] each peers = tt
   with_peers before (h ∷ more) each peers = (
-    record { peers = peers_before laws before (h ∷ more) peers; here = each.0 },
-    with_peers (before ++ h ∷ []) more each.1 (rw (append_assoc before (h ∷ []) more) peers),
+    record { peers = peers_before laws _ _ peers; here = each.0 },
+    with_peers _ more each.1 (rw (append_assoc before (h ∷ []) more) peers),
   )
 
   abbrev AllSent : List Happening → List Run → Type 0
@@ -66,12 +66,12 @@ module _ (laws : EndpointLaws) (grammar : Grammar) (e : End) where
       All (WasSentBy (before ++ h ∷ [])) gs
   still_sent before h gs all i d within =
       let more = sends_more (other_end e) before h in
-      rw more.more (sent_more (sent_in_all (runs_of (other_end e) before)) more.added (all i d within))
+      rw more.more (sent_more _ _ (all i d within))
 
-  new_delivery : (before : List Happening) → ArePeers before → (run : Run) → last_run (runs_of e before) ≡ Some run →
-      (closing run).secy.options.mode ≡ Strict → (input : KeepingInput) → IsGenuineAt before (comes_in e input) →
-      HasOctets (comes_in e input) → (g : Delivery) → IsGiven (closing run).secy input g → WasSentBy before g
-  new_delivery before peers run last strict _ genuine octets _ (is_given frame row delivered fits of_row delivers) =
+  new_delivery : {before : List Happening} → ArePeers before → {run : Run} → last_run (runs_of e before) ≡ Some run →
+      (closing run).secy.options.mode ≡ Strict → {input : KeepingInput} → IsGenuineAt before (comes_in e input) →
+      HasOctets (comes_in e input) → {g : Delivery} → IsGiven (closing run).secy input g → WasSentBy before g
+  new_delivery {before} peers {run} last strict genuine octets (is_given frame row delivered fits of_row delivers) =
       comes_from_other laws grammar before peers e run frame row delivered octets genuine last strict of_row delivers
 
   input_comes : (before : List Happening) (input : KeepingInput) → IsNow before (comes_in e input) → (runs : List Run) →
@@ -79,36 +79,34 @@ module _ (laws : EndpointLaws) (grammar : Grammar) (e : End) where
       IfSome o (λ run. IsStrictWhere (closing run) input) → AllSent before runs →
       AllSent (before ++ comes_in e input ∷ []) (with_last input runs)
   input_comes before input is runs are None last strict now =
-      rw (delivered_in_all-with_last input runs, last, append-nil (delivered_in_all runs))
-      (still_sent before (comes_in e input) (delivered_in_all runs) now)
+      rw (delivered_in_all-with_last input runs, last, append-nil (delivered_in_all runs)) (still_sent before _ _ now)
   input_comes before input is runs are (Some run) last strict now =
       let old = delivered_in_all runs in
       let new = newly_delivered (closing run) input in
-      rw (delivered_in_all-with_last input runs, last) (still_sent before (comes_in e input) (old ++ new)
+      rw (delivered_in_all-with_last input runs, last) (still_sent before _ _
       (All-append (WasSentBy before) old new now (λ i d within.
-      new_delivery before is.peers run (rw are at last)
-      (strict (get_or new i d) (all_there new i d within)) input is.here.genuine is.here.octets (get_or new i d)
+      new_delivery is.peers (rw are at last)
+      (strict (get_or new i d) (all_there new i d within)) is.here.genuine is.here.octets
       (each_given (closing run) input i d within))))
 
-  one_more : (before : List Happening) (h : Happening) → IsNow before h → (runs after : List Run) →
+  one_more : {before : List Happening} {h : Happening} → IsNow before h → {runs after : List Run} →
       runs ≡ runs_of e before → IsNext e runs h after → AllSent before runs → AllSent (before ++ h ∷ []) after
-  one_more before _ is runs _ are (same_runs h) now = still_sent before h (delivered_in_all runs) now
-  one_more before _ is runs _ are (new_run config journal) now =
+  one_more {before} is {runs} are (same_runs h) now = still_sent before h (delivered_in_all runs) now
+  one_more {before} is {runs} are (new_run config journal) now =
       rw (delivered_in_all-new runs (run_with config journal []) refl)
       (still_sent before (begins e config journal) (delivered_in_all runs) now)
-  one_more before _ is runs _ are (new_input input) now =
+  one_more {before} is {runs} are (new_input input) now =
       input_comes before input is runs are (last_run runs) refl (rw are (is.here.strict (same_own e))) now
 
   always : (before more : List Happening) → AtEach IsNow before more → AllSent before (runs_of e before) →
       AllSent (before ++ more) (runs_of e (before ++ more))
-  always before [] each now = subst (λ (hs : List Happening). AllSent hs (runs_of e hs)) (sym (append-nil before)) now
+  always before [] each now = subst (λ hs. AllSent hs (runs_of e hs)) (sym (append-nil before)) now
   always before (h ∷ more) each now =
-      rw (append_assoc before (h ∷ []) more) at (always (before ++ h ∷ []) more each.1
-      (one_more before h each.0 (runs_of e before) (runs_of e (before ++ h ∷ [])) refl (is_next e before h) now))
+      rw (append_assoc before (h ∷ []) more) at (always _ more each.1 (one_more each.0 refl (is_next e before h) now))
 
   pub all_sent : (events : List Happening) → AtEach (IsOriginHere e) [] events → ArePeers events →
       All (WasSentAs (sent_in_all (runs_of (other_end e) events))) (delivered_in_all (runs_of e events))
-  all_sent events each peers = always [] events (with_peers [] events each peers) (All-nil (WasSentBy []))
+  all_sent events each peers = always [] events (with_peers [] events each peers) (All-nil _)
 
 pub comes_from_other_forgetting : KeepersAlike → EndpointLaws → Grammar →
     (ahead : End → Bool) (events : List Happening) → ComesFromOtherForgetting ahead events
@@ -117,19 +115,18 @@ comes_from_other_forgetting alike laws grammar ahead events e sounds each peers 
     let delivers : delivered_in_all (runs_of e (inside ahead (given ahead events))) ≡ delivered_in_all_forgetting
     (ahead e) (runs_of e events) =
     rw (
-      runs_inside ahead e (given ahead events),
-      delivered_in_all_inside (ahead e) (runs_of e (given ahead events)),
+      runs_inside ahead e _,
+      delivered_in_all_inside _ _,
       runs_given ahead e events,
-      delivers_same alike (ahead e) (runs_of e events) (sounds e),
+      delivers_same alike _ _ (sounds e),
     ) in
     let sends : sent_in_all (runs_of other (inside ahead (given ahead events))) ≡ sent_in_all_forgetting (ahead other)
     (runs_of other events) =
     rw (
-      runs_inside ahead other (given ahead events),
-      sent_in_all_inside (ahead other)
-          (runs_of other (given ahead events)),
+      runs_inside ahead other _,
+      sent_in_all_inside _ _,
       runs_given ahead other events,
       sends_same alike (ahead other)
           (runs_of other events) (sounds other),
     ) in
-    rw (← sends) (rw delivers at (all_sent laws grammar e (inside ahead (given ahead events)) each peers))
+    rw (← sends) (rw delivers at (all_sent laws grammar e _ each peers))

@@ -1,15 +1,13 @@
 -- In the mode Strict nothing is delivered without a receive SA: by the steps of reception.
 use Rattle.macsec_restarts.{
-  proofs.Names.{◌&&◌, ◌||◌, ◌≡◌, at_row, bad, bare_frame, Bool, by_tests, client_frame, command_output, Delayed},
-  proofs.Names.{endpoint_input, endpoint_output, false, frame_fault, FrameFault, if◌then◌else◌, in_use, InstalledKey},
-  proofs.Names.{Invalid, is_below_floor, is_disabled, is_late, is_strict, IsFromSa, judge_number, judge_opened},
-  proofs.Names.{judge_reading, judge_row, judge_validated, Judgement, judgement_of, Keeping, KeepingInput, Late},
-  proofs.Names.{leaves, Leaving, link_frame, List, may_go, MpduParts, no_sa, None, NoSa, NoSaError, not, NoTag},
-  proofs.Names.{NotValid, now_durable, number_of_frame, operator_command, Option, plain, plaintext_of, protected},
-  proofs.Names.{Reading, reading, received_output, received_step, Refusal, refusal, Reserved, rx_options, RxOptions},
-  proofs.Names.{RxRow, sci_of, sending_of, sent_output, Some, State, state_after_command, state_after_receiving},
-  proofs.Names.{state_after_sending, tagged, the_key, too_long, true, Unchecked, uncontrolled_frame, unless_fault},
-  proofs.Names.{Untagged, untagged, without_row, ℕ},
+  proofs.Names.{◌||◌, ◌≡◌, at_row, bad, bare_frame, Bool, by_tests, client_frame, command_output, Delayed},
+  proofs.Names.{endpoint_input, endpoint_output, false, FrameFault, if◌then◌else◌, InstalledKey, Invalid},
+  proofs.Names.{is_below_floor, is_late, is_strict, IsFromSa, judge_number, judge_opened, judge_reading, judge_row},
+  proofs.Names.{judge_validated, Judgement, judgement_of, Keeping, KeepingInput, Late, leaves, Leaving, link_frame},
+  proofs.Names.{List, may_go, MpduParts, no_sa, None, NoSa, NoSaError, NoTag, NotValid, now_durable, number_of_frame},
+  proofs.Names.{operator_command, Option, plain, protected, Reading, received_output, received_step, Refusal, refusal},
+  proofs.Names.{Reserved, rx_options, RxOptions, RxRow, sent_output, Some, State, state_after_command, tagged, the_key},
+  proofs.Names.{too_long, true, Unchecked, uncontrolled_frame, unless_fault, Untagged, untagged, without_row, ℕ},
   specs.Delivered.DeliversFromSas,
 }
 
@@ -23,8 +21,7 @@ by_refusal k after false false r = tt
 
 by_plain : (k : Keeping) (frame : List ℕ) (go : Bool) (f : Option FrameFault) → IsFromSa (by_tests false go k (unless_fault f k.secy (leaves frame None, k.secy))).0
 by_plain k frame true None = tt
-by_plain k frame true (Some f) = tt
-by_plain k frame false f = tt
+by_plain k frame go f = tt
 
 by_leaving : (k : Keeping) (frame : List ℕ) (after : State) (go : Bool) (f : Option FrameFault) (leaving : Leaving) →
     IsFromSa (by_tests false go k (unless_fault f k.secy (sent_output frame leaving, after))).0
@@ -43,7 +40,7 @@ Comes frame j = IsFromSa (endpoint_output (received_output frame j))
 module _ (s : State) (frame : List ℕ) (strict : is_strict s.options.mode ≡ true) where
   by_cipher : (options : RxOptions) (key : InstalledKey) (row : RxRow) (number : ℕ) (p : MpduParts) (o : Option (List ℕ)) → Comes frame (judge_opened options key row number p o)
   by_cipher options key row number p (Some plaintext) = tt
-  by_cipher options key row number p None = by_test (p.tag.c || is_strict options.mode)
+  by_cipher options key row number p None = by_test _
     where
       by_test : (b : Bool) → Comes frame (if b then at_row row number 11 NotValid None else at_row row number 12 Invalid (Some (bare_frame p)))
       by_test true = tt
@@ -51,17 +48,15 @@ module _ (s : State) (frame : List ℕ) (strict : is_strict s.options.mode ≡ t
 
   by_number : (options : RxOptions) (key : InstalledKey) (row : RxRow) (p : MpduParts) (o : Option ℕ) → Comes frame (judge_number options key row p o)
   by_number options key row p None = tt
-  by_number options key row p (Some number) = by_three (options.replay && is_late row.lowest number) (is_disabled options.mode && p.tag.c) (is_disabled options.mode)
+  by_number options key row p (Some number) = by_three _ _ _
     where
       by_three : (dropped unusable disabled : Bool) → Comes frame (
           if dropped then at_row row number 8 Late None
           else if unusable then at_row row number 9 NotValid None
           else if disabled then at_row row number 10 (if is_late row.lowest number then Delayed else Unchecked) (Some (bare_frame p))
           else judge_validated options key row number p)
-      by_three true unusable disabled = tt
-      by_three false true disabled = tt
-      by_three false false true = tt
-      by_three false false false = by_cipher options key row number p (plaintext_of key row number p)
+      by_three false false false = by_cipher options key row number p _
+      by_three dropped unusable disabled = tt
 
   by_row : (p : MpduParts) (o : Option RxRow) → Comes frame (judge_row (rx_options s) s.keys p o)
   by_row p (Some row) = by_number (rx_options s) (the_key s.keys row.key) row p (number_of_frame (the_key s.keys row.key).suite row.lowest p.tag.pn)
@@ -77,7 +72,7 @@ module _ (s : State) (frame : List ℕ) (strict : is_strict s.options.mode ≡ t
 
   by_reading : (r : Reading) → Comes frame (judge_reading s frame r)
   by_reading (bad fault) = tt
-  by_reading (tagged p) = by_bits p (p.tag.e && not p.tag.c) (in_use s.rx.rows p.tag.an (sci_of s.rx.scis p))
+  by_reading (tagged p) = by_bits p _ _
   by_reading untagged = by_mode (is_strict s.options.mode) strict
     where
       by_mode : (b : Bool) → b ≡ true → Comes frame (if b then without_row 1 NoTag None else without_row 2 Untagged (Some frame))
@@ -94,8 +89,7 @@ delivers_from_sas k (now_durable r) strict = tt
 delivers_from_sas k (endpoint_input (operator_command c)) strict =
     by_refusal k (state_after_command k.secy c) (is_below_floor k (operator_command c)) (may_go k (operator_command c)) (refusal k.secy c)
 delivers_from_sas k (endpoint_input (client_frame frame)) strict =
-    by_leaving k frame (state_after_sending k.secy frame (sending_of k.secy frame)) (may_go k (client_frame frame)) (frame_fault frame) (sending_of k.secy frame).leaving
-delivers_from_sas k (endpoint_input (uncontrolled_frame frame)) strict = by_plain k frame (may_go k (uncontrolled_frame frame)) (frame_fault frame)
+    by_leaving k frame _ _ _ _
+delivers_from_sas k (endpoint_input (uncontrolled_frame frame)) strict = by_plain k frame _ _
 delivers_from_sas k (endpoint_input (link_frame frame)) strict =
-    rw (received_step k frame) (by_fault k.secy frame (state_after_receiving k.secy frame (judgement_of k.secy frame))
-    (frame_fault frame) (by_reading k.secy frame (rw strict) (reading frame)))
+    rw (received_step k frame) (by_fault k.secy frame _ _ (by_reading k.secy frame (rw strict) _))

@@ -3,14 +3,14 @@ use Rattle.std.proofs.lemmas.List.{get_or_default}
 use Rattle.macsec_link.proofs.Subsequences.{EachIs, IsAt}
 use Rattle.macsec_restarts.proofs.{
   Names.{[], ◌++◌, ◌<◌, ◌∙◌, ◌∷◌, ◌≡◌, ◌≤◌, ◌⊎◌, A, All, All-append, All-contains, All-head, All-nil, All-tail},
-  Names.{AllPairs, AllPairs-filter, append-nil, append_assoc, ArePeers, arith, AtEach, B, begins, Bool},
-  Names.{bytes_eq-Decides, closing, comes_in, ComesInOrder, contained, CreatesAbove, delivered_at, delivered_in},
-  Names.{delivered_in_all, delivered_so_far, Delivery, End, EndpointLaws, filter-append, get_or, Grammar, Happening},
-  Names.{HasStrictOrder, highest, IfSome, inl, inr, is_subsequence, IsHistory, IsMember, IsOrderedInput, IsOrderly},
-  Names.{keeping_step, KeepingInput, last_run, left_member, length, List, map, member, newly_delivered, no_pairs, None},
+  Names.{AllPairs, AllPairs-filter, append-nil, append_assoc, ArePeers, arith, AtEach, B, Bool, bytes_eq-Decides},
+  Names.{closing, comes_in, ComesInOrder, contained, CreatesAbove, delivered_at, delivered_in, delivered_in_all},
+  Names.{delivered_so_far, Delivery, End, EndpointLaws, filter-append, get_or, Grammar, Happening, HasStrictOrder},
+  Names.{highest, IfSome, inl, inr, is_subsequence, IsHistory, IsMember, IsOrderedInput, IsOrderly, keeping_step},
+  Names.{KeepingInput, last_run, left_member, length, List, map, member, newly_delivered, no_pairs, None},
   Names.{numbered_delivery, numbered_sent, Option, other_end, pairs-append, receiving_name, refl, reservations, Rises},
   Names.{Run, runs_of, salt_of, same_octets, same_octets-refl, Sci, sending_name, sent_in_all, sent_under, SentIn},
-  Names.{Some, State, subst, sym, take, true, WasSent, ℕ},
+  Names.{Some, State, subst, sym, true, WasSent, ℕ},
   Lists.{at_end, in_front},
   NextNumbers.{IsBelowNext, below_above, below_after},
   Origins.{comes_from_other, sent_more},
@@ -37,15 +37,14 @@ module _ (bytes : List ℕ) where
       let kept = AllPairs-filter Rises is_under sends pairs in
       let pass = all_pass is_under sends in
       let key : (k : ℕ) → k < length (sent_under bytes sends) → (get_or (sent_under bytes sends) k d).seal.key ≡ bytes =
-      λ k within'. (bytes_eq-Decides (get_or (sent_under bytes sends) k d).seal.key bytes).0 (pass k d within') in
+      λ k within'. (bytes_eq-Decides _ bytes).0 (pass k d within') in
       kept i j d less within (key i (omega (arith, less, within)) ∙ sym (key j within))
 
   found : (sends : List SentIn) (g : Delivery) → WasSent sends bytes g.frame g.number →
-      (p : ℕ) × IsAt (λ (x : SentIn). x.number) numbered_sent (sent_under bytes sends) g.number (numbered_delivery g) p
+      (p : ℕ) × IsAt (λ x. x.number) numbered_sent (sent_under bytes sends) g.number (numbered_delivery g) p
   found sends g it =
       let passes : is_under it.send ≡ true = rw (it.under, same_octets-refl bytes) in
-      let there = contained (sent_under bytes sends) it.send
-      (left_member is_under sends it.send (member sends it.send it.among) passes) in (
+      let there = contained _ it.send (left_member is_under sends it.send (member sends it.send it.among) passes) in (
         there.0,
         record {
           within = there.1;
@@ -57,7 +56,7 @@ module _ (bytes : List ℕ) where
       )
 
   pub each_found : (sends : List SentIn) (ds : List Delivery) → All (λ d. WasSent sends bytes d.frame d.number) ds →
-      EachIs (λ (d : Delivery) (f : List ℕ). (p : ℕ) × IsAt (λ (x : SentIn). x.number) numbered_sent
+      EachIs (λ (d : Delivery) (f : List ℕ). (p : ℕ) × IsAt (λ x. x.number) numbered_sent
       (sent_under bytes sends) d.number f p) ds (map numbered_delivery ds)
   each_found sends [] all = tt
   each_found sends (d ∷ ds) all = (
@@ -79,8 +78,8 @@ module _ (laws : EndpointLaws) (grammar : Grammar) (fresh : Fresh) (e : End) (by
       ArePeers (before ++ more) → AtEach IsNow before more
   with_peers before [] each peers = tt
   with_peers before (h ∷ more) each peers = (
-    record { peers = peers_before laws before (h ∷ more) peers; orderly = each.0 },
-    with_peers (before ++ h ∷ []) more each.1 (rw (append_assoc before (h ∷ []) more) peers),
+    record { peers = peers_before laws _ _ peers; orderly = each.0 },
+    with_peers _ more each.1 (rw (append_assoc before (h ∷ []) more) peers),
   )
 
   -- the run accepts no number up to this one any more: its journal had saved it, or its SA is above it
@@ -122,7 +121,7 @@ module _ (laws : EndpointLaws) (grammar : Grammar) (fresh : Fresh) (e : End) (by
       All (WasSentBy (before ++ h ∷ [])) gs
   still_sent before h gs all i d within =
       let more = sends_more (other_end e) before h in
-      rw more.more (sent_more (sent_in_all (runs_of (other_end e) before)) more.added (all i d within))
+      rw more.more (sent_more _ _ (all i d within))
 
   -- something comes in, in a run
   input_comes : (before : List Happening) (input : KeepingInput) → IsNow before (comes_in e input) → (runs : List Run) →
@@ -154,11 +153,11 @@ module _ (laws : EndpointLaws) (grammar : Grammar) (fresh : Fresh) (e : End) (by
             (newly_delivered k input),
       ) in
       let news = all_placed laws fresh bytes sci an run (closing_sound run sound) input order.order in
-      let sent : All (WasSentBy before) new =
+      let sent =
       of_ours bytes sci an (WasSentBy before) k input
       (λ g there it is_bytes is_sci is_an. origin before is.peers run (rw are at last) (order.order g there) input is g
       it is_bytes) in
-      let now_past : All (IsPast run') (old ++ new) =
+      let now_past =
       All-append (IsPast run') old new
       (λ i d within. still_past run input (get_or old i d) (past i d within) order.creates)
       (λ i d within. inr (
@@ -197,42 +196,40 @@ module _ (laws : EndpointLaws) (grammar : Grammar) (fresh : Fresh) (e : End) (by
       by_end A = peers.a.sound
       by_end B = peers.b.sound
 
-  last_sound : (before : List Happening) → ArePeers before → (o : Option Run) → last_run (runs_of e before) ≡ o →
+  last_sound : {before : List Happening} → ArePeers before → (o : Option Run) → last_run (runs_of e before) ≡ o →
       IfSome o IsSoundRun
-  last_sound before peers None last = tt
-  last_sound before peers (Some run) last = All-contains IsSoundRun (runs_of e before) run (sounds before peers)
-      (contained (runs_of e before) run (last_member (runs_of e before) run last))
+  last_sound peers None last = tt
+  last_sound peers (Some run) last = All-contains IsSoundRun _ run (sounds _ peers)
+      (contained _ run (last_member _ run last))
 
-  one_more : (before : List Happening) (h : Happening) → IsNow before h → (runs after : List Run) →
+  one_more : {before : List Happening} {h : Happening} → IsNow before h → {runs after : List Run} →
       runs ≡ runs_of e before → IsNext e runs h after →
       IsOrdered before runs → IsOrdered (before ++ h ∷ []) after
-  one_more before _ is runs _ are (same_runs h) now = record {
+  one_more {before} is are (same_runs h) now = record {
     rise = now.rise;
-    sent = still_sent before h (delivered_at bytes sci an (delivered_in_all runs)) now.sent;
+    sent = still_sent before h _ now.sent;
     past = now.past;
   }
-  one_more before _ is runs _ are (new_run config journal) now =
+  one_more {before} is {runs} are (new_run config journal) now =
       let run = run_with config journal [] in
-      let these : delivered_in_all (runs ++ run ∷ []) ≡ delivered_in_all runs = delivered_in_all-new runs run refl in
+      let these = delivered_in_all-new runs run refl in
       record {
         rise = rw these now.rise;
-        sent = rw these (still_sent before (begins e config journal) (delivered_at bytes sci an (delivered_in_all runs))
-            now.sent);
+        sent = rw these (still_sent before _ _ now.sent);
         past = rw (last_run-push runs run)
             (rw these (rw are (λ i d within. inl (is.orderly.ordered (same_own e) i d within))));
       }
-  one_more before _ is runs _ are (new_input input) now =
-      input_comes before input is runs are (last_run runs) refl (rw are (is.orderly.ordered (same_own e)))
-      (rw are (last_sound before is.peers (last_run (runs_of e before)) refl)) now.past now
+  one_more is {runs} are (new_input input) now =
+      input_comes _ input is runs are _ refl (rw are (is.orderly.ordered (same_own e)))
+      (rw are (last_sound is.peers _ refl)) now.past now
 
   always : (before more : List Happening) → AtEach IsNow before more → OrderNow before → OrderNow (before ++ more)
   always before [] each now = subst OrderNow (sym (append-nil before)) now
   always before (h ∷ more) each now =
-      rw (append_assoc before (h ∷ []) more) at (always (before ++ h ∷ []) more each.1
-      (one_more before h each.0 (runs_of e before) (runs_of e (before ++ h ∷ [])) refl (is_next e before h) now))
+      rw (append_assoc before (h ∷ []) more) at (always _ more each.1 (one_more each.0 refl (is_next e before h) now))
 
   at_start : OrderNow []
-  at_start = record { rise = no_pairs Before; sent = All-nil (WasSentBy []); past = tt }
+  at_start = record { rise = no_pairs Before; sent = All-nil _; past = tt }
 
   history : (events : List Happening) → ArePeers events → (f : End) → IsHistory (runs_of f events)
   history events peers A = peers.a
@@ -241,15 +238,14 @@ module _ (laws : EndpointLaws) (grammar : Grammar) (fresh : Fresh) (e : End) (by
   pub in_order : (events : List Happening) → AtEach (IsOrderly e bytes sci an) [] events → ArePeers events →
       ComesInOrder e bytes sci an events
   in_order events each peers =
-      let now : OrderNow events = always [] events (with_peers [] events each peers) at_start in
+      let now = always [] events (with_peers [] events each peers) at_start in
       let sends = sent_in_all (runs_of (other_end e) events) in
-      is_subsequence (λ (x : SentIn). x.number) numbered_sent (sent_under bytes sends)
+      is_subsequence (λ x. x.number) _ _
       (rising bytes sends (numbers_rise laws (runs_of (other_end e) events) (history events peers (other_end e))))
-      (λ (d : Delivery). d.number)
+      (λ d. d.number)
       (delivered_so_far e bytes sci an events) (map numbered_delivery (delivered_so_far e bytes sci an events)) now.rise
-      (each_found bytes sends (delivered_so_far e bytes sci an events) now.sent)
+      (each_found bytes sends _ now.sent)
 
 pub comes_in_order_once : EndpointLaws → Grammar → Fresh → (events : List Happening) → ComesInOrderOnce events
 comes_in_order_once laws grammar fresh events e bytes sci an each peers k =
-    in_order laws grammar fresh e bytes sci an (take k events) (each_taken (IsOrderly e bytes sci an) k [] events each)
-    (peers_taken laws k [] events peers)
+    in_order laws grammar fresh e bytes sci an _ (each_taken _ k [] events each) (peers_taken laws k [] events peers)

@@ -3,14 +3,14 @@
 use Rattle.macsec_restarts.proofs.{
   Names.{[], ◌&&◌, ◌++◌, ◌==◌, ◌∙◌, ◌∷◌, ◌≡◌, ◌≤◌, A, AgreeOnKeys, All, All-append, All-cons, All-contains, All-head},
   Names.{All-nil, All-tail, AllPairs, ap, append-nil, append_assoc, ap₂, ArePeerRuns, AreSameBut, arith, AtEach, B},
-  Names.{bad, begins, Bool, CipherUse, closing, closing_of, comes_in, contained, Contains, delivered_at, delivered_of},
+  Names.{Bool, CipherUse, closing, closing_of, comes_in, contained, Contains, delivered_at, delivered_of},
   Names.{delivered_of_all, Delivery, End, EndpointLaws, filter-append, from_sa, get_or, Grammar, Happening},
   Names.{HasStrictOrder, highest, IfSome, inl, inr, inside_of, is_subsequence, IsFair, IsFairHere, IsMember},
-  Names.{IsSoundWith, Judgement, judgement_of, KeepingInput, KeepsDelivered, KeepsSent, last_run, List, map},
-  Names.{map-append, member, newly_delivered_with, newly_sent, None, numbered_delivery, numbered_sent, Option},
-  Names.{other_end, Reading, reading, receiving_name, refl, reported, runs_at, RunWith, RxRow, salt_of, same_octets},
-  Names.{same_sci, Sci, seal_of, sealed_in_all, sending_name, sent_of, sent_of_all, sent_under, SentIn, Some, State},
-  Names.{subst, sym, tagged, take, true, under_key, untagged, unwrap_or, use_opened, use_opened_in, WasSent, ℕ},
+  Names.{IsSoundWith, Judgement, KeepingInput, KeepsDelivered, KeepsSent, last_run, List, map, map-append, member},
+  Names.{newly_delivered_with, newly_sent, None, numbered_delivery, Option, other_end, Reading, receiving_name, refl},
+  Names.{reported, runs_at, RunWith, RxRow, salt_of, same_octets, same_sci, Sci, seal_of, sealed_in_all, sending_name},
+  Names.{sent_of, sent_of_all, sent_under, Some, State, subst, sym, tagged, take, true, under_key, unwrap_or},
+  Names.{use_opened, use_opened_in, WasSent, ℕ},
   AheadForgets.KeepersAlike,
   AheadOrder.{cut, first_moments},
   InOrder.each_found,
@@ -18,7 +18,7 @@ use Rattle.macsec_restarts.proofs.{
   KeptWeaker.is_weaker_to_send,
   Lists.in_front,
   Origins.{AreRuns, comes, sent_more, swapped, turned},
-  Placed.{Fresh, IsGiven, is_given, is_ours, of_ours},
+  Placed.{Fresh, IsGiven, is_given, of_ours},
   Pushed.{run_with, same_own},
   RetiredUnused.AreUnused,
   RunsWith.{Goes, Grows, IsHereditary, begins_run, delivered_by_last, delivered_of-push, delivered_of_all-new},
@@ -37,23 +37,20 @@ opened_same : (s t : State) → AreSameBut s t → AreUnused s → (frame : List
 opened_same s t same unused frame =
     rw (
       judged_same s t same unused frame,
-      by_row (judgement_of s frame) (judgement_of s frame).row (reading frame)
-          (λ row is. row_there s frame row is),
+      by_row _ _ _ (λ row is. row_there s frame row is),
     )
   where
     by_row : (j : Judgement) (o : Option RxRow) (r : Reading) →
         ((row : RxRow) → o ≡ Some row → IsMember s.rx.rows row) → use_opened_in t j o r ≡ use_opened_in s j o r
-    by_row j None r there = refl
-    by_row j (Some row) untagged there = refl
-    by_row j (Some row) (bad fault) there = refl
     by_row j (Some row) (tagged p) there = rw (rx_key s t same unused row (there row refl))
+    by_row j o r there = refl
 
 -- ---- the runs of the endpoints that forget none
 
 last_inside : (rs : List RunWith) → (r : RunWith) → last_of rs ≡ Some r →
     last_run (map inside_of rs) ≡ Some (inside_of r)
 last_inside [] r last = cc
-last_inside (p ∷ []) r last = ap (λ (o : Option RunWith). Some (inside_of (unwrap_or o r))) last
+last_inside (p ∷ []) r last = ap (λ o. Some (inside_of (unwrap_or o r))) last
 last_inside (p ∷ q ∷ more) r last = last_inside (q ∷ more) r last
 
 last_there : (rs : List RunWith) → (r : RunWith) → last_of rs ≡ Some r → IsMember rs r
@@ -64,7 +61,7 @@ last_there (p ∷ q ∷ more) r last = inr (last_there (q ∷ more) r last)
 module _ (alike : KeepersAlike) where
   seals_same : (rs : List RunWith) → All IsSoundWith rs →
       map seal_of (sent_of_all rs) ≡ sealed_in_all (map inside_of rs)
-  seals_same rs sounds = rw (sent_of_all_same alike rs sounds, seals_of_runs (map inside_of rs))
+  seals_same rs sounds = rw (sent_of_all_same alike rs sounds, seals_of_runs _)
 
   seals_of_both : (ra rb : List RunWith) → All IsSoundWith ra → All IsSoundWith rb →
       map seal_of (sent_of_all ra ++ sent_of_all rb) ≡
@@ -80,10 +77,8 @@ module _ (alike : KeepersAlike) where
     one = peers.one_a;
     agree = λ run there q there' x y here here' bytes.
         let both : AgreeOnKeys run q =
-        All-contains (AgreeOnKeys run) (map inside_of rb) q
-        (All-contains (λ p. All (AgreeOnKeys p) (map inside_of rb)) (map inside_of ra) run peers.agree
-        (contained (map inside_of ra) run there))
-        (contained (map inside_of rb) q there') in
+        All-contains (AgreeOnKeys run) _ q (All-contains (λ p. All (AgreeOnKeys p) (map inside_of rb)) _ run peers.agree
+        (contained _ run there)) (contained _ q there') in
         turned (both x y here here' bytes);
   }
 
@@ -95,10 +90,8 @@ module _ (alike : KeepersAlike) where
     one = peers.one_b;
     agree = λ run there q there' x y here here' bytes.
         let both : AgreeOnKeys q run =
-        All-contains (AgreeOnKeys q) (map inside_of rb) run
-        (All-contains (λ p. All (AgreeOnKeys p) (map inside_of rb)) (map inside_of ra) q peers.agree
-        (contained (map inside_of ra) q there'))
-        (contained (map inside_of rb) run there) in
+        All-contains (AgreeOnKeys q) _ run (All-contains (λ p. All (AgreeOnKeys p) (map inside_of rb)) _ q peers.agree
+        (contained _ q there')) (contained _ run there) in
         both y x here' here (sym bytes);
   }
 
@@ -160,11 +153,11 @@ module _ (alike : KeepersAlike) (laws : EndpointLaws) (grammar : Grammar) (fresh
       IsGiven (closing (inside_of r)).secy input g → g.bytes ≡ bytes → WasSentBy before g
   origin before sounds r last _ _ it (is_given frame row delivered fits of_row delivers) key =
       let s = (closing (inside_of r)).secy in
-      let sound : IsSoundWith r = All-contains IsSoundWith (own before) r (sounds e)
+      let sound = All-contains IsSoundWith (own before) r (sounds e)
       (contained (own before) r (last_there (own before) r last)) in
       let beside = same_beside alike r sound in
       let order = rw beside.same at it.order in
-      let opened : use_opened (closing_of r).k.secy frame ≡ use_opened s frame =
+      let opened =
       opened_same s (closing_of r).k.secy beside (unused_beside alike r) frame in
       let there = by_end e before sounds it.peers r last frame (use_opened s frame) (rw opened at it.genuine) in
       rw (sent_of_all_same alike (others before) (sounds (other_end e)))
@@ -200,7 +193,7 @@ module _ (alike : KeepersAlike) (laws : EndpointLaws) (grammar : Grammar) (fresh
       last_of (push_last input rs) ≡ Some (push input r)
   last_pushed input [] r last = cc
   last_pushed input (p ∷ q ∷ t ∷ more) r last = last_pushed input (q ∷ t ∷ more) r last
-  last_pushed input it r last = ap (λ (o : Option RunWith). Some (push input (unwrap_or o r))) last
+  last_pushed input it r last = ap (λ o. Some (push input (unwrap_or o r))) last
 
   new_sent : (before : List Happening) → Sounds before → (input : KeepingInput) →
       All IsSoundWith (push_last input (own before)) →
@@ -231,46 +224,41 @@ module _ (alike : KeepersAlike) (laws : EndpointLaws) (grammar : Grammar) (fresh
     runs : All Is rs
     sent : All (WasSentBy (before ++ h ∷ [])) (ours rs)
 
-  next_by : (before : List Happening) (h : Happening) (rs : List RunWith) → rs ≡ own before →
-      (after : List RunWith) → Grows e rs h after → All IsSoundWith after →
+  next_by : {before : List Happening} {h : Happening} {rs : List RunWith} → rs ≡ own before →
+      {after : List RunWith} → Grows e rs h after → All IsSoundWith after →
       Sounds before → IsFairHere ahead e bytes sci an before h → Now before → After before h after
-  next_by before _ rs are _ (stays_as_it_is h) sounds' sounds fair now =
-      record { runs = rw are now.runs; sent = rw are (still_sent before h (ours (own before)) now.sent) }
-  next_by before _ rs are _ (begins_run config journal b) sounds' sounds fair now =
+  next_by {before} are (stays_as_it_is h) sounds' sounds fair now =
+      record { runs = rw are now.runs; sent = rw are (still_sent before h _ now.sent) }
+  next_by {before} {rs} are (begins_run config journal b) sounds' sounds fair now =
       let new : RunWith = record { ahead = b; run = run_with config journal [] } in
       let same : ours (rs ++ new ∷ []) ≡ ours (own before) = rw (delivered_of_all-new rs new refl, are) in
       record {
-        runs = All-append Is rs (new ∷ []) (rw are now.runs)
+        runs = All-append Is rs _ (rw are now.runs)
             (All-cons Is new [] (begins_now alike laws fresh bytes sci an new refl) (All-nil Is));
-        sent = rw same (still_sent before (begins e config journal) (ours (own before)) now.sent);
+        sent = rw same (still_sent before _ _ now.sent);
       }
-  next_by before _ rs are _ (gets_input input) sounds' sounds fair now =
-      let here : IfSome (last_of (own before)) (λ r. (g : Delivery) → Fair before input r g) = fair (same_own e) in
-      let sounds_own : All IsSoundWith (push_last input (own before)) = rw are at sounds' in
+  next_by {before} {rs} are (gets_input input) sounds' sounds fair now =
+      let here = fair (same_own e) in
+      let sounds_own = rw are at sounds' in
       let news = delivered_at bytes sci an (delivered_by_last (last_of (own before)) input) in
       let whole : ours (push_last input rs) ≡ ours (own before) ++ news =
       rw (
         are,
-        delivered_of_all-push input (own before),
-        filter-append (is_ours bytes sci an) (delivered_of_all (own before))
-            (delivered_by_last (last_of (own before)) input),
+        delivered_of_all-push input _,
+        filter-append _ _ _,
       ) in
       record {
-        runs = rw are (all_push input (own before) (sounds e) sounds_own now.runs
-            (λ r last g there.
-            let it = subst (λ (o : Option RunWith). IfSome o (λ r'. (x : Delivery) → Fair before input r' x)) last here
-            g there in
+        runs = rw are (all_push input _ (sounds e) sounds_own now.runs (λ r last g there.
+            let it = subst (λ o. IfSome o (λ r'. (x : Delivery) → Fair before input r' x)) last here g there in
             it.order));
-        sent = rw whole (still_sent before (comes_in e input) (ours (own before) ++ news)
-            (All-append (WasSentBy before) (ours (own before)) news now.sent
-            (new_sent before sounds input sounds_own (last_of (own before)) refl here)));
+        sent = rw whole (still_sent before _ _ (All-append (WasSentBy before) _ news now.sent
+            (new_sent before sounds input sounds_own _ refl here)));
       }
 
   next : (before : List Happening) (h : Happening) → Sounds before → Sounds (before ++ h ∷ []) →
       IsFairHere ahead e bytes sci an before h → Now before → Now (before ++ h ∷ [])
   next before h sounds sounds' fair now =
-      let it = next_by before h (own before) refl (own (before ++ h ∷ [])) (grows ahead e before h)
-      (sounds' e) sounds fair now in
+      let it = next_by refl (grows ahead e before h) (sounds' e) sounds fair now in
       record { runs = it.runs; sent = it.sent }
 
   -- ---- all happenings
@@ -280,8 +268,8 @@ module _ (alike : KeepersAlike) (laws : EndpointLaws) (grammar : Grammar) (fresh
   always before [] sounds each now = subst Now (sym (append-nil before)) now
   always before (h ∷ more) sounds each now =
       let whole : Sounds ((before ++ h ∷ []) ++ more) = rw (append_assoc before (h ∷ []) more) sounds in
-      rw (append_assoc before (h ∷ []) more) at (always (before ++ h ∷ []) more whole each.1
-      (next before h (λ f. sound_first ahead f (h ∷ more) before (sounds f))
+      rw (append_assoc before (h ∷ []) more) at (always _ more whole each.1
+      (next _ h (λ f. sound_first ahead f _ before (sounds f))
       (λ f. sound_first ahead f more (before ++ h ∷ []) (whole f)) each.0 now))
 
   sent_is_kept : (rs : List RunWith) → All IsSoundWith rs → AllPairs (ReadsSent bytes) rs →
@@ -298,7 +286,7 @@ module _ (alike : KeepersAlike) (laws : EndpointLaws) (grammar : Grammar) (fresh
   reads_reserved r later now on reads d g here there =
       let name : List ℕ → List ℕ = λ salt. receiving_name (sending_name salt bytes) sci an in
       let within : d.number ≤ highest (reported r.run) (name (salt_of r.run.journal)) =
-      All-contains (IsReserved alike laws fresh bytes sci an r) (from_sa bytes sci an r) d (now.reserved on) here in
+      All-contains (IsReserved alike laws fresh bytes sci an r) _ d (now.reserved on) here in
       rw reads.0 (omega (arith, within, reads.1 (name (salt_of r.run.journal))))
 
   delivered_is_kept : (rs : List RunWith) → All Is rs → AllPairs (ReadsDelivered bytes sci an) rs →
@@ -315,15 +303,13 @@ module _ (alike : KeepersAlike) (laws : EndpointLaws) (grammar : Grammar) (fresh
       AllPairs (ReadsSent bytes) (others events) → AllPairs (ReadsDelivered bytes sci an) (own events) →
       ComesInOrderAt ahead e bytes sci an events
   in_order_now events sounds each sent delivered =
-      let now : Now events = always [] events sounds each
-      (record { runs = All-nil Is; sent = All-nil (WasSentBy []) }) in
+      let now = always [] events sounds each (record { runs = All-nil Is; sent = All-nil _ }) in
       let sends = sent_of_all (others events) in
-      is_subsequence (λ (x : SentIn). x.number) numbered_sent (sent_under bytes sends)
-      (sent_rise alike laws bytes (others events) (sounds (other_end e))
-      (sent_is_kept (others events) (sounds (other_end e)) sent)) (λ (d : Delivery). d.number)
+      is_subsequence (λ x. x.number) _ _ (sent_rise alike laws bytes (others events) (sounds (other_end e))
+      (sent_is_kept (others events) (sounds (other_end e)) sent)) (λ d. d.number)
       (ours (own events)) (map numbered_delivery (ours (own events)))
-      (delivered_rise alike laws fresh bytes sci an (own events) now.runs
-      (delivered_is_kept (own events) now.runs delivered)) (each_found bytes sends (ours (own events)) now.sent)
+      (delivered_rise alike laws fresh bytes sci an _ now.runs
+      (delivered_is_kept _ now.runs delivered)) (each_found bytes sends _ now.sent)
 
 -- what is kept in all runs is kept in the first ones
 kept_sent : (bytes : List ℕ) → IsHereditary (KeepsSent bytes)
@@ -370,15 +356,11 @@ pub comes_in_order_if_read : KeepersAlike → EndpointLaws → Grammar → Fresh
     (ahead : End → ℕ → Bool) (events : List Happening) → ComesInOrderIfRead ahead events
 comes_in_order_if_read alike laws grammar fresh ahead events e bytes sci an sounds each sent delivered k =
     let it = cut k events in
-    let first : List Happening = take k events in
+    let first = take k events in
     in_order_now alike laws grammar fresh ahead e bytes sci an first
-    (λ f. sound_first ahead f it.rest first (rw it.is (sounds f)))
-    (first_moments (IsFairHere ahead e bytes sci an) [] first it.rest
-    (rw it.is each))
-    (pairs_first (ReadsSent bytes) (reads_sent bytes) ahead (other_end e) it.rest first
-    (rw it.is sent))
-    (pairs_first (ReadsDelivered bytes sci an) (reads_delivered bytes sci an) ahead e it.rest first
-    (rw it.is delivered))
+    (λ f. sound_first ahead f it.rest first (rw it.is (sounds f))) (first_moments _ [] first it.rest (rw it.is each))
+    (pairs_first _ (reads_sent bytes) ahead _ it.rest first (rw it.is sent))
+    (pairs_first _ (reads_delivered bytes sci an) ahead e it.rest first (rw it.is delivered))
 
 pub comes_in_order_if_kept : KeepersAlike → EndpointLaws → Grammar → Fresh →
     (ahead : End → ℕ → Bool) (events : List Happening) → ComesInOrderIfKept ahead events

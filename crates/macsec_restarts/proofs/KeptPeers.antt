@@ -1,8 +1,8 @@
 -- Two ends that are peers at the end of a list of happenings are peers at each moment of it: keys stay.
 use Rattle.macsec_restarts.proofs.{
-  Names.{[], ◌++◌, ◌∷◌, ◌≡◌, ◌⊎◌, A, AgreeOnKeys, All, append-nil, append_assoc, ArePeerRuns, B, Bool, comes_in, End},
-  Names.{EndpointLaws, false, Happening, if◌then◌else◌, inl, inr, inside_of, IsSameEnd, IsSoundWith, KeepingInput},
-  Names.{List, map, map-append, refl, runs_at, RunWith, take, true, ℕ},
+  Names.{[], ◌++◌, ◌∷◌, ◌≡◌, ◌⊎◌, A, All, append-nil, append_assoc, ArePeerRuns, B, Bool, comes_in, End, EndpointLaws},
+  Names.{false, Happening, if◌then◌else◌, inl, inr, inside_of, IsSoundWith, KeepingInput, List, map, map-append, refl},
+  Names.{runs_at, RunWith, take, true, ℕ},
   AheadForgets.KeepersAlike,
   AheadOrder.cut,
   Prefixes.{agree_before, agree_next, pairs_next, same_before},
@@ -34,18 +34,18 @@ inside_last input (r ∷ later ∷ more) = by_rest (inside_last input (later ∷
     by_rest (inr is) = inr (rw is)
 
 -- the runs of the endpoints that forget none, after one more happening
-next_inside : (e : End) (rs : List RunWith) (h : Happening) (after : List RunWith) → Grows e rs h after →
+next_inside : {e : End} {rs : List RunWith} {h : Happening} {after : List RunWith} → Grows e rs h after →
     IsNext e (map inside_of rs) h (map inside_of after)
-next_inside e rs _ _ (stays_as_it_is h) = same_runs h
-next_inside e rs _ _ (begins_run config journal b) =
+next_inside (stays_as_it_is h) = same_runs h
+next_inside {rs} (begins_run config journal b) =
     rw (map-append inside_of rs (record { ahead = b; run = run_with config journal [] } ∷ [])) (new_run config journal)
-next_inside e rs _ _ (gets_input input) = by_last (inside_last input rs)
+next_inside {e} {rs} (gets_input input) = by_last (inside_last input rs)
   where
     by_last : (map inside_of (push_last input rs) ≡ with_last input (map inside_of rs))
         ⊎ (map inside_of (push_last input rs) ≡ map inside_of rs) →
         IsNext e (map inside_of rs) (comes_in e input) (map inside_of (push_last input rs))
     by_last (inl it) = rw it (new_input input)
-    by_last (inr it) = rw it (same_runs (comes_in e input))
+    by_last (inr it) = rw it (same_runs _)
 
 module _ (alike : KeepersAlike) (laws : EndpointLaws) (ahead : End → ℕ → Bool) where
   abbrev Peers : List Happening → Type 0
@@ -58,15 +58,15 @@ module _ (alike : KeepersAlike) (laws : EndpointLaws) (ahead : End → ℕ → B
   one_less before h sounds is =
       let next : (e : End) → IsNext e (map inside_of (runs_at ahead e before)) h
       (map inside_of (runs_at ahead e (before ++ h ∷ []))) =
-      λ e. next_inside e (runs_at ahead e before) h (runs_at ahead e (before ++ h ∷ [])) (grows ahead e before h) in
+      λ e. next_inside (grows ahead e before h) in
       let sound : (e : End) → All IsSoundRun (map inside_of (runs_at ahead e before)) =
-      λ e. sounds_inside alike (runs_at ahead e before) (sounds e) in
+      λ e. sounds_inside alike _ (sounds e) in
       record {
-        agree_a = pairs_next AgreeOnKeys (agree_before laws) (next A) (sound A) is.agree_a;
-        agree_b = pairs_next AgreeOnKeys (agree_before laws) (next B) (sound B) is.agree_b;
+        agree_a = pairs_next _ (agree_before laws) (next A) (sound A) is.agree_a;
+        agree_b = pairs_next _ (agree_before laws) (next B) (sound B) is.agree_b;
         agree = agree_next laws (next A) (next B) (sound A) (sound B) is.agree;
-        one_a = pairs_next IsSameEnd (same_before laws) (next A) (sound A) is.one_a;
-        one_b = pairs_next IsSameEnd (same_before laws) (next B) (sound B) is.one_b;
+        one_a = pairs_next _ (same_before laws) (next A) (sound A) is.one_a;
+        one_b = pairs_next _ (same_before laws) (next B) (sound B) is.one_b;
       }
 
   peers_first : (more before : List Happening) → Sounds (before ++ more) → Peers (before ++ more) → Peers before

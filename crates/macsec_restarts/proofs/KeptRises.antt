@@ -4,12 +4,12 @@
 use Rattle.macsec_restarts.proofs.{
   Names.{[], ◌++◌, ◌<◌, ◌∙◌, ◌∷◌, ◌≡◌, ◌≤◌, ahead_step, All, All-append, All-filter, All-head, All-nil, All-tail},
   Names.{All-weaker, AllPairs, AllPairs-filter, ap, append-nil, arith, Bool, bytes_eq-Decides, closing, closing_of},
-  Names.{Contains, CreatesAbove, delivered_at, delivered_of, delivered_of_all, Delivery, EndpointLaws, filter-append},
-  Names.{from_sa, get_or, HasStrictOrder, highest, inside_of, IsSound, IsSoundWith, IsStrictInput, Keeping},
-  Names.{keeping_step, KeepingInput, KeepsDelivered, KeepsSent, List, newly_delivered, newly_delivered_with, no_pairs},
-  Names.{opening, opening_with, others_with, pairs-append, pairs-head, pairs-tail, receiving_name, reduced_reserves},
-  Names.{refl, reported, reported_in, reservations, Rises, RunWith, salt_of, same_octets, Sci, sending_name, sent_of},
-  Names.{sent_of_all, sent_under, SentIn, true, under_key, ℕ},
+  Names.{Contains, delivered_at, delivered_of, delivered_of_all, Delivery, EndpointLaws, filter-append, from_sa},
+  Names.{get_or, HasStrictOrder, highest, inside_of, IsSound, IsSoundWith, IsStrictInput, keeping_step, KeepingInput},
+  Names.{KeepsDelivered, KeepsSent, List, newly_delivered, newly_delivered_with, no_pairs, opening, opening_with},
+  Names.{others_with, pairs-append, pairs-head, pairs-tail, receiving_name, reduced_reserves, refl, reported},
+  Names.{reported_in, reservations, Rises, RunWith, salt_of, same_octets, Sci, sending_name, sent_of, sent_of_all},
+  Names.{sent_under, SentIn, true, under_key, ℕ},
   AheadAccepts.{option_after, salt_after, taken_after},
   AheadForgets.KeepersAlike,
   AheadInside.step_inside,
@@ -47,10 +47,10 @@ module _ (alike : KeepersAlike) (laws : EndpointLaws) (fresh : Fresh) (bytes : L
       let these : from_sa bytes sci an r ≡ [] = rw none in
       record {
         rise = rw these (no_pairs Before);
-        past = rw these (All-nil (IsPast laws bytes sci an (beside r)));
+        past = rw these (All-nil _);
         below = rw these (All-nil (λ d. IsBelowNext (beside r).k.secy bytes sci an d.number));
         saved = rw these (All-nil (λ d. highest (reservations r.run.journal) (name_in r.run.journal) < d.number));
-        reserved = λ on. rw these (All-nil (IsReserved r));
+        reserved = λ on. rw these (All-nil _);
       }
 
   strict_beside : (r : RunWith) → IsSoundWith r → HasStrictOrder (closing_of r).k.secy →
@@ -77,11 +77,11 @@ module _ (alike : KeepersAlike) (laws : EndpointLaws) (fresh : Fresh) (bytes : L
       new_reserved : (g : Delivery) → g.number ≤ highest (beside r).taken
           (receiving_name (sending_name (beside r).k.salt bytes) sci an) → IsReserved (push input r) g
       new_reserved g within =
-          let salt : (beside r).k.salt ≡ salt_of r.run.journal = salt_after others (opening_with r.ahead r.run) in
-          let here : g.number ≤ highest (beside r).taken (name_in r.run.journal) = rw salt at within in
+          let salt = salt_after others (opening_with r.ahead r.run) in
+          let here = rw salt at within in
           let told : g.number ≤ highest (reported_in others) (name_in r.run.journal) = omega
           (arith, here, taken_after others (opening_with r.ahead r.run) (name_in r.run.journal)) in
-          let all : g.number ≤ highest (reported_in r.run.inputs) (name_in r.run.journal) =
+          let all =
           rw (reports_kept r.run.inputs (opening_with r.ahead r.run)) at told in
           still_reserved g all
 
@@ -110,10 +110,10 @@ module _ (alike : KeepersAlike) (laws : EndpointLaws) (fresh : Fresh) (bytes : L
           let after = (ahead_step a input).1 in
           let q = inside_of r in
           let k = closing q in
-          let kk : a.k ≡ k = beside_inside r in
+          let kk = beside_inside r in
           let new = delivered_at bytes sci an (newly_delivered k input) in
           let whole : from_sa bytes sci an (push input r) ≡ old ++ new = rw (these, gives) in
-          let sound_k : IsSound k.secy = closing_sound q (sound_inside alike r sound) in
+          let sound_k = closing_sound q (sound_inside alike r sound) in
           let sound_a : IsSound a.k.secy = rw kk sound_k in
           let sound_after : IsSound after.k.secy =
           rw (← step') (rw (beside_inside (push input r)) (closing_sound (inside_of (push input r))
@@ -121,10 +121,10 @@ module _ (alike : KeepersAlike) (laws : EndpointLaws) (fresh : Fresh) (bytes : L
           let order_k : IsStrictInput k bytes sci an input =
           λ g there. strict_beside r sound (order g (rw gives there)) in
           let news = all_placed laws fresh bytes sci an q sound_k input order_k in
-          let pasts : All (IsNewPast laws bytes sci an a after) new =
+          let pasts =
           rw kk at (new_past laws bytes sci an a input sound_a sound_after lets (rw kk order_k)) in
-          let stepped : after.k ≡ (keeping_step a.k input).1 = step_inside a input true lets in
-          let creates : CreatesAbove a.k.secy (keeping_step a.k input).1.secy bytes sci an old =
+          let stepped = step_inside a input true lets in
+          let creates =
           rw stepped at (creates_above laws bytes sci an a input sound_a sound_after lets old now.past) in
           let below_old : All (λ d. IsBelowNext after.k.secy bytes sci an d.number) old =
           λ i d within.
@@ -132,9 +132,9 @@ module _ (alike : KeepersAlike) (laws : EndpointLaws) (fresh : Fresh) (bytes : L
           (now.below i d within) (λ row there under none. creates row there under none i d within)) in
           let below_new : All (λ d. IsBelowNext after.k.secy bytes sci an d.number) new =
           λ i d within.
-          rw (stepped ∙ ap (λ (x : Keeping). (keeping_step x input).1) kk) (below_above (keeping_step k input).1.secy
+          rw (stepped ∙ ap (λ x. (keeping_step x input).1) kk) (below_above (keeping_step k input).1.secy
           bytes sci an (get_or new i d).number (news i d within).above) in
-          let keeps : a.k.keeps ≡ true = keeps_after (others_with (opening_with r.ahead r.run) r.run.inputs)
+          let keeps = keeps_after (others_with (opening_with r.ahead r.run) r.run.inputs)
           (opening_with r.ahead r.run) in
           record {
             rise = rw whole (pairs-append Before old new now.rise (AllPairs-filter Before (is_ours bytes sci an)
@@ -180,9 +180,7 @@ module _ (alike : KeepersAlike) (laws : EndpointLaws) (fresh : Fresh) (bytes : L
       AllPairs Before (delivered_at bytes sci an (delivered_of_all rs))
   delivered_rise [] nows keeps = no_pairs Before
   delivered_rise (r ∷ rs) nows keeps =
-      rw (filter-append (is_ours bytes sci an) (delivered_of r) (delivered_of_all rs))
-      (pairs-append Before (from_sa bytes sci an r)
-      (delivered_at bytes sci an (delivered_of_all rs)) (All-head RunNow r rs nows).rise
+      rw (filter-append _ _ _) (pairs-append Before _ _ (All-head RunNow r rs nows).rise
       (delivered_rise rs (All-tail RunNow r rs nows) (pairs-tail (KeepsDelivered bytes sci an) r rs keeps))
       (to_later r rs (pairs-head (KeepsDelivered bytes sci an) r rs keeps) (All-tail RunNow r rs nows)))
 
@@ -241,9 +239,7 @@ module _ (alike : KeepersAlike) (laws : EndpointLaws) (bytes : List ℕ) where
   sent_rise (r ∷ rs) sounds keeps =
       let sound = All-head IsSoundWith r rs sounds in
       let own : AllPairs Rises (sent_of r) =
-      rw (sent_same alike r sound) (in_run laws (inside_of r).inputs (opening (inside_of r))
-      (sound_inside alike r sound)) in
-      rw (filter-append is_under (sent_of r) (sent_of_all rs)) (pairs-append Less (under_key bytes r)
-      (sent_under bytes (sent_of_all rs)) (rising bytes (sent_of r) own)
+      rw (sent_same alike r sound) (in_run laws _ _ (sound_inside alike r sound)) in
+      rw (filter-append is_under _ _) (pairs-append Less _ _ (rising bytes _ own)
       (sent_rise rs (All-tail IsSoundWith r rs sounds) (pairs-tail (KeepsSent bytes) r rs keeps))
       (sent_later r rs (pairs-head (KeepsSent bytes) r rs keeps) (All-tail IsSoundWith r rs sounds)))

@@ -33,7 +33,7 @@ pub is_weaker_to_deliver : (bytes : List ℕ) (sci : Sci) (an : ℕ) (r later : 
     later
 is_weaker_to_deliver bytes sci an r later accepts salt durable d g here there =
     let is_ours : Delivery → Bool = λ z. same_octets z.bytes bytes && same_sci z.sci sci && z.an == an in
-    let ours : is_ours d ≡ true = All-contains (λ z. is_ours z ≡ true) (from_sa bytes sci an r) d
+    let ours = All-contains (λ z. is_ours z ≡ true) (from_sa bytes sci an r) d
     (all_pass is_ours (delivered_of r)) here in
     let parts = and_parts (same_octets d.bytes bytes && same_sci d.sci sci) (d.an == an) ours in
     let octets = and_parts (same_octets d.bytes bytes) (same_sci d.sci sci) parts.0 in

@@ -5,8 +5,8 @@ use Rattle.macsec_restarts.{
   proofs.Names.{false, frame_fault, FrameFault, is_below_floor, Judgement, judgement_of, Keeping, KeepingInput, leaves},
   proofs.Names.{Leaving, link_frame, List, MatchesDeliveries, may_go, newly_delivered, no_sa, None, now_durable},
   proofs.Names.{operator_command, Option, option_map, plain, protected, received, received_step, refl, Refusal},
-  proofs.Names.{refusal, RxRow, sending_of, sent_output, Some, State, state_after_command, state_after_receiving},
-  proofs.Names.{state_after_sending, the_key, too_long, true, uncontrolled_frame, unless_fault, ℕ},
+  proofs.Names.{refusal, RxRow, sent_output, Some, State, state_after_command, state_after_receiving, the_key},
+  proofs.Names.{too_long, true, uncontrolled_frame, unless_fault, ℕ},
   specs.Delivered.DeliversEachListed,
 }
 
@@ -20,8 +20,7 @@ by_refusal k input after none false false r = none
 by_plain : (k : Keeping) (input : KeepingInput) (frame : List ℕ) → newly_delivered k input ≡ [] → (go : Bool) (f : Option FrameFault) →
     MatchesDeliveries k input (by_tests false go k (unless_fault f k.secy (leaves frame None, k.secy))).0
 by_plain k input frame none true None = none
-by_plain k input frame none true (Some f) = none
-by_plain k input frame none false f = none
+by_plain k input frame none go f = none
 
 by_leaving : (k : Keeping) (input : KeepingInput) (frame : List ℕ) (after : State) → newly_delivered k input ≡ [] → (go : Bool) (f : Option FrameFault) (leaving : Leaving) →
     MatchesDeliveries k input (by_tests false go k (unless_fault f k.secy (sent_output frame leaving, after))).0
@@ -34,8 +33,7 @@ by_leaving k input frame after none true None too_long = none
 
 by_link : (k : Keeping) (frame : List ℕ) → DeliversEachListed k (endpoint_input (link_frame frame))
 by_link k frame =
-    rw (received_step k frame) (by_parts (frame_fault frame) refl (judgement_of k.secy frame).row refl
-    (judgement_of k.secy frame).delivered refl)
+    rw (received_step k frame) (by_parts _ refl _ refl _ refl)
   where
     s : State
     s = k.secy
@@ -43,18 +41,18 @@ by_link k frame =
     j : Judgement
     j = judgement_of k.secy frame
 
-    these : (f : Option FrameFault) (o : Option RxRow) (d : Option (List ℕ)) → frame_fault frame ≡ f → j.row ≡ o → j.delivered ≡ d →
+    these : {f : Option FrameFault} {o : Option RxRow} {d : Option (List ℕ)} → frame_fault frame ≡ f → j.row ≡ o → j.delivered ≡ d →
         newly_delivered k (endpoint_input (link_frame frame)) ≡ delivered_by s j f o d
-    these f o d fits of_row delivers = rw (fits, of_row, delivers)
+    these fits of_row delivers = rw (fits, of_row, delivers)
 
     by_parts : (f : Option FrameFault) → frame_fault frame ≡ f → (o : Option RxRow) → j.row ≡ o → (d : Option (List ℕ)) → j.delivered ≡ d →
         MatchesDeliveries k (endpoint_input (link_frame frame)) (endpoint_output (unless_fault f s (received j.verdict (option_map place_of o) frame d, state_after_receiving s frame j)).0)
-    by_parts (Some f) fits o of_row d delivers = these (Some f) o d fits of_row delivers
-    by_parts None fits None of_row d delivers = these None None d fits of_row delivers
-    by_parts None fits (Some row) of_row None delivers = these None (Some row) None fits of_row delivers
+    by_parts (Some f) fits o of_row d delivers = these fits of_row delivers
+    by_parts None fits None of_row d delivers = these fits of_row delivers
+    by_parts None fits (Some row) of_row None delivers = these fits of_row delivers
     by_parts None fits (Some row) of_row (Some delivered) delivers = record {
       delivery = record { bytes = (the_key s.keys row.key).bytes; sci = row.sci; an = row.an; number = j.number; frame = delivered };
-      one = these None (Some row) (Some delivered) fits of_row delivers;
+      one = these fits of_row delivers;
       of_sci = refl;
       of_an = refl;
       of_frame = refl;
@@ -65,7 +63,7 @@ delivers_each_listed k (now_durable r) = refl
 delivers_each_listed k (endpoint_input (operator_command c)) =
     by_refusal k (endpoint_input (operator_command c)) (state_after_command k.secy c) refl (is_below_floor k (operator_command c)) (may_go k (operator_command c)) (refusal k.secy c)
 delivers_each_listed k (endpoint_input (client_frame frame)) =
-    by_leaving k (endpoint_input (client_frame frame)) frame (state_after_sending k.secy frame (sending_of k.secy frame)) refl (may_go k (client_frame frame)) (frame_fault frame) (sending_of k.secy frame).leaving
+    by_leaving k (endpoint_input (client_frame frame)) frame _ refl _ _ _
 delivers_each_listed k (endpoint_input (uncontrolled_frame frame)) =
-    by_plain k (endpoint_input (uncontrolled_frame frame)) frame refl (may_go k (uncontrolled_frame frame)) (frame_fault frame)
+    by_plain k (endpoint_input (uncontrolled_frame frame)) frame refl _ _
 delivers_each_listed k (endpoint_input (link_frame frame)) = by_link k frame

@@ -21,18 +21,18 @@ pub use Rattle.macsec_tag.specs.{
   Frame.MpduParts,
   Laws.AreOctets,
   Limits.max_frame_len,
-  Table.{bad, parts_at, Reading, reading, tagged, untagged},
+  Table.{bad, Reading, reading, tagged, untagged},
   declared.identifiers.Sci.Sci,
 }
 pub use Rattle.macsec_pn.specs.Numbers.{is_late}
 pub use Rattle.macsec_suite.specs.{
   CipherUses.{cipher_use, CipherUse},
   IvLaws.{iv_of_parts, IvParts},
-  KeyRows.{AreKeyRows, InstalledKey, keys_replacing, no_key, the_key},
+  KeyRows.{AreKeyRows, InstalledKey, keys_replacing, the_key},
   Refusals.{holds_of, is_retired},
   Replacing.can_replace,
   Suites.{is_xpn, iv_of, last_of},
-  declared.{refusal.Refusal.Refusal, suite.Suite.{Suite, TheVariants.Xpn128}},
+  declared.{refusal.Refusal.Refusal, suite.Suite.TheVariants.Xpn128},
 }
 pub use Rattle.macsec_commands.specs.declared.{
   command.Command.{Command, TheVariants.{Key, Replay, Retire, RxDel, RxOn, RxSa, RxSc, RxScDel, TxOn, TxSa}},
@@ -41,7 +41,6 @@ pub use Rattle.macsec_commands.specs.declared.{
   mode.Mode.TheVariants.Strict,
 }
 pub use Rattle.macsec_tx.specs.{
-  Commands.tx_uses,
   Transmit.{Leaving, no_sa, not_protected, octets_added, plain, protected, protected_frame, row_on, Sending},
   Transmit.{sending_by, tag_sent, too_long, use_sent},
   declared.{TxOptions.TxOptions, TxRow.TxRow},
@@ -50,7 +49,7 @@ pub use Rattle.macsec_rx.specs.{
   Channels.{is_at, rx_row, same_sci},
   Commands.rx_uses,
   Judge.{at_row, bare_frame, in_use, is_disabled, is_strict, judge_number, judge_opened, judge_row, judge_validated},
-  Judge.{Judgement, number_of_frame, plaintext_of, sci_of, without_row},
+  Judge.{Judgement, number_of_frame, sci_of, without_row},
   declared.{
     RxOptions.RxOptions,
     RxRow.RxRow,
@@ -66,7 +65,7 @@ pub use Rattle.macsec_secy.specs.{
   GivenUp.{IsGivenUp, replacing},
   Kept.{IsAbove, KeysStay},
   Reception.{judge_reading, judgement_of, state_after_receiving},
-  Sound.{IsReady, IsSound},
+  Sound.IsSound,
   State.{no_tx_counters, rx_options, start, State, tx_options},
   Step.{client_frame, command_output, done, frame_fault, Input, leaves, link_frame, operator_command, Output, received},
   Step.{received_output, refused, sending_of, sent_output, state_after_sending, step, uncontrolled_frame, unless_fault},
@@ -82,7 +81,7 @@ pub use Rattle.macsec_reserve.proofs.{
 pub use Rattle.macsec_reserve.specs.{
   Crashes.IsReservation,
   Entries.{raised_by, reduced},
-  Forgetting.{can_forget, fingerprint, forgetting, forgetting_step, is_done, retired_by, taken, then_forget},
+  Forgetting.{fingerprint, forgetting, forgetting_step, is_done, retired_by, taken, then_forget},
   Forgotten.{AreAlike, AreSameBut, installs_retired, RefusesRetired},
   Histories.{AgreeOnKey, AgreeOnKeys, closing, IsHistory, KeepsDurable, newly_sealed, opening, reported, reported_in},
   Histories.{Run, SameSalt, sealed_by, sealed_if, sealed_in_all, StaysSound},

@@ -8,12 +8,12 @@ use Rattle.{
   },
   macsec_restarts.proofs.{
     Names.{[], ◌++◌, ◌∙◌, ◌≡◌, ◌≤◌, ◌⊎◌, A, AgreeOnKey, AgreeOnKeys, All, All-contains, AllPairs, ap, AreOctets},
-    Names.{ArePeers, B, closing, comes_in, contained, Contains, End, EndConfig, endpoint_input, EndpointLaws, Grammar},
-    Names.{Happening, IfSome, if◌then◌else◌, inl, inr, InstalledKey, is_xpn, IsDeliveredFrom, IsFrom, IsGenuineAt},
-    Names.{IsHistory, IsMember, IsSameEnd, IsSound, iv_of, iv_of_parts, IvParts, judgement_of, key_row_facts, last_of},
-    Names.{last_run, link_frame, List, map, map-append, member, MpduParts, None, opening, Option, reading, refl, Run},
-    Names.{runs_of, RxRow, sealed_in_all, sent_in_all, SentIn, Some, State, Strict, sym, take, the_key, true},
-    Names.{use_opened, use_opened_in, WasSent, ℕ},
+    Names.{ArePeers, B, closing, comes_in, contained, Contains, End, endpoint_input, EndpointLaws, Grammar, Happening},
+    Names.{IfSome, if◌then◌else◌, inl, inr, InstalledKey, is_xpn, IsDeliveredFrom, IsFrom, IsGenuineAt, IsHistory},
+    Names.{IsMember, IsSameEnd, IsSound, iv_of, iv_of_parts, IvParts, judgement_of, key_row_facts, last_of, last_run},
+    Names.{link_frame, List, map, map-append, member, MpduParts, None, opening, Option, reading, refl, Run, runs_of},
+    Names.{RxRow, sealed_in_all, sent_in_all, SentIn, Some, State, Strict, sym, the_key, true, use_opened},
+    Names.{use_opened_in, WasSent, ℕ},
     Lists.{at_end, either_list, in_front},
     Prefixes.peers_taken,
     Sends.{IsSentIn, by_runs, last_member, last_or_before, seal_of_sent, seals_of_runs},
@@ -34,7 +34,7 @@ pub sent_more : (sends added : List SentIn) {bytes frame : List ℕ} {number : �
     WasSent (sends ++ added) bytes frame number
 sent_more sends added it = record {
   send = it.send;
-  among = contained (sends ++ added) it.send (in_front sends added it.send (member sends it.send it.among));
+  among = contained _ it.send (in_front sends added it.send (member sends it.send it.among));
   of_frame = it.of_frame;
   under = it.under;
   of_number = it.of_number;
@@ -81,9 +81,8 @@ sealed_before runs others s frame row delivered of_row it genuine =
     let opened : use_opened s frame ≡ Some opening' =
     ap (λ o. use_opened_in s j o (reading frame)) of_row ∙ ap (λ r. use_opened_in s j (Some row) r) it.reads ∙
     ap (λ b. if b then Some opening' else None) it.thirteen in
-    let there : Contains (sealed_in_all runs ++ sealed_in_all others) opening' = rw opened at genuine in
-    from_map seal_of_sent (sent_in_all runs ++ sent_in_all others) opening'
-    (rw (seals_of_both runs others) (member (sealed_in_all runs ++ sealed_in_all others) opening' there))
+    let there = rw opened at genuine in
+    from_map _ _ opening' (rw (seals_of_both runs others) (member _ opening' there))
   where
     seals_of_both : (ps qs : List Run) → map seal_of_sent (sent_in_all ps ++ sent_in_all qs) ≡ sealed_in_all ps ++
         sealed_in_all qs
@@ -174,7 +173,7 @@ comes laws grammar runs others are run last frame octets row delivered genuine s
       where
         by_run : (is.run ≡ run) ⊎ IsPair is.run run → ⊥
         by_run (inl same) =
-            let from : IsFrom s x.seal x.number = rw same at is.it.from in
+            let from = rw same at is.it.from in
             not_of_own_end laws s row number opened.p (in_link x) sound of most from asked
         by_run (inr pair) =
             let from = is.it.from in
@@ -182,8 +181,8 @@ comes laws grammar runs others are run last frame octets row delivered genuine s
             not_of_earlier_run laws (closing is.run).secy s row number opened.p x (closing_sound is.run is.sound) sound
             of most from
             (record {
-              sci = ap (λ (c : EndConfig). c.sci) (own_config is.run is.sound) ∙ pair.1.sci ∙
-                  ap (λ (c : EndConfig). c.sci) (sym (own_config run sound_run));
+              sci = ap (λ c. c.sci) (own_config is.run is.sound) ∙ pair.1.sci ∙
+                  ap (λ c. c.sci) (sym (own_config run sound_run));
               suite = agree.suite;
               salt = λ xpn. agree.salt (rw (agree.suite, xpn));
               ssci = λ xpn. pair.1.ssci from.key key from.there of.key.there (sym from.bytes ∙ bytes)
@@ -226,10 +225,8 @@ at_a before peers = record {
   one = peers.one_a;
   agree = λ run there q there' x y here here' bytes.
       let both : AgreeOnKeys run q =
-      All-contains (AgreeOnKeys run) (runs_of B before) q
-      (All-contains (λ p. All (AgreeOnKeys p) (runs_of B before)) (runs_of A before) run peers.agree
-      (contained (runs_of A before) run there))
-      (contained (runs_of B before) q there') in
+      All-contains (AgreeOnKeys run) _ q (All-contains (λ p. All (AgreeOnKeys p) (runs_of B before)) _ run peers.agree
+      (contained _ run there)) (contained _ q there') in
       turned (both x y here here' bytes);
 }
 
@@ -240,10 +237,8 @@ at_b before peers = record {
   one = peers.one_b;
   agree = λ run there q there' x y here here' bytes.
       let both : AgreeOnKeys q run =
-      All-contains (AgreeOnKeys q) (runs_of B before) run
-      (All-contains (λ p. All (AgreeOnKeys p) (runs_of B before)) (runs_of A before) q peers.agree
-      (contained (runs_of A before) q there'))
-      (contained (runs_of B before) run there) in
+      All-contains (AgreeOnKeys q) _ run (All-contains (λ p. All (AgreeOnKeys p) (runs_of B before)) _ q peers.agree
+      (contained _ q there')) (contained _ run there) in
       both y x here' here (sym bytes);
 }
 
@@ -251,44 +246,44 @@ at_b before peers = record {
 pub swapped : {X : Type 0} (xs ys : List X) (o : Option X) → IfSome o (Contains (xs ++ ys)) →
     IfSome o (Contains (ys ++ xs))
 swapped xs ys None there = there
-swapped xs ys (Some x) there = contained (ys ++ xs) x (by_list (either_list xs ys x (member (xs ++ ys) x there)))
+swapped xs ys (Some x) there = contained _ x (by_list (either_list xs ys x (member _ x there)))
   where
     by_list : IsMember xs x ⊎ IsMember ys x → IsMember (ys ++ xs) x
     by_list (inl here) = at_end ys xs x here
     by_list (inr here) = in_front ys xs x here
 
-genuine_now : (before : List Happening) (e : End) (run : Run) (frame : List ℕ) → last_run (runs_of e before) ≡ Some
+genuine_now : (before : List Happening) (e : End) {run : Run} (frame : List ℕ) → last_run (runs_of e before) ≡ Some
     run → IsGenuineAt before (comes_in e (endpoint_input (link_frame frame))) →
     IfSome (use_opened (closing run).secy frame)
     (Contains (sealed_in_all (runs_of A before) ++ sealed_in_all (runs_of B before)))
-genuine_now before e run frame last genuine = rw last at genuine
+genuine_now before e frame last genuine = rw last at genuine
 
 pub comes_from_other_at_all : EndpointLaws → Grammar → (before : List Happening) → ComesFromOtherAtAll before
 comes_from_other_at_all laws grammar before peers A run frame row delivered octets genuine last strict of_row delivers =
-    comes laws grammar (runs_of A before) (runs_of B before) (at_a before peers) run last frame octets row delivered
-    (genuine_now before A run frame last genuine) strict of_row delivers
+    comes laws grammar _ _ (at_a _ peers) run last frame octets row _
+    (genuine_now before A frame last genuine) strict of_row delivers
 comes_from_other_at_all laws grammar before peers B run frame row delivered octets genuine last strict of_row delivers =
-    comes laws grammar (runs_of B before) (runs_of A before) (at_b before peers) run last frame octets row delivered
-    (swapped (sealed_in_all (runs_of A before)) (sealed_in_all (runs_of B before)) (use_opened (closing run).secy frame)
-    (genuine_now before B run frame last genuine)) strict of_row delivers
+    comes laws grammar _ _ (at_b _ peers) run last frame octets row _
+    (swapped (sealed_in_all (runs_of A before)) (sealed_in_all (runs_of B before)) _
+    (genuine_now before B frame last genuine)) strict of_row delivers
 
-without_journal : (runs : List Run) → IsHistory runs → IsSoundHistory runs
-without_journal runs is = record { sound = is.sound; agree = is.agree }
+without_journal : {runs : List Run} → IsHistory runs → IsSoundHistory runs
+without_journal is = record { sound = is.sound; agree = is.agree }
 
-at_all : (before : List Happening) → ArePeers before → ArePeersAtAll before
-at_all before peers = record {
-  a = without_journal (runs_of A before) peers.a;
-  b = without_journal (runs_of B before) peers.b;
+at_all : {before : List Happening} → ArePeers before → ArePeersAtAll before
+at_all peers = record {
+  a = without_journal peers.a;
+  b = without_journal peers.b;
   agree = peers.agree;
   one_a = peers.one_a;
   one_b = peers.one_b;
 }
 
 pub comes_from_other : EndpointLaws → Grammar → (before : List Happening) → ComesFromOther before
-comes_from_other laws grammar before peers = comes_from_other_at_all laws grammar before (at_all before peers)
+comes_from_other laws grammar before peers = comes_from_other_at_all laws grammar before (at_all peers)
 
 pub always_comes_from_other : EndpointLaws → Grammar → (events : List Happening) → AlwaysComesFromOther events
 always_comes_from_other laws grammar events genuine peers k e run frame row delivered octets happens last strict of_row
     delivers =
-    comes_from_other laws grammar (take k events) (peers_taken laws k [] events peers) e run frame row delivered octets
+    comes_from_other laws grammar _ (peers_taken laws k [] events peers) e run frame row delivered octets
     (rw happens at (genuine k)) last strict of_row delivers

@@ -34,10 +34,10 @@ numbers_tell laws s t sound sound' x y here there agree n m n_most m_most less i
     agree.salt same in
     omega (arith, equal.pn, less)
 
-tells : EndpointLaws → (s t : State) → IsSound s → IsSound t →
+tells : EndpointLaws → {s t : State} → IsSound s → IsSound t →
     ((k k' : InstalledKey) → Contains s.keys k → Contains t.keys k' → k.bytes ≡ k'.bytes → AgreeOnKey k k') →
-    (x y : SentIn) → IsSentBy s x → IsSentBy t y → Rises x y → OtherSeal x y
-tells laws s t sound sound' agree x y first second rises bytes iv =
+    {x y : SentIn} → IsSentBy s x → IsSentBy t y → Rises x y → OtherSeal x y
+tells laws {s} {t} sound sound' agree {x} {y} first second rises bytes iv =
     let f = first.from in
     let g = second.from in
     numbers_tell laws s t sound sound' f.key g.key f.there g.there
@@ -55,27 +55,24 @@ one_run laws run sound i j d less within =
     let s = (closing run).secy in
     let is = closing_sound run sound in
     let xs = sent_from (opening run) run.inputs in
-    let sent = by_inputs laws run.inputs (opening run) sound in
-    tells laws s s is is (itself laws s is) (get_or xs i d) (get_or xs j d)
-    (sent i d (omega (arith, less, within))) (sent j d within)
-    (in_run laws run.inputs (opening run) sound i j d less within)
+    let sent = by_inputs laws _ _ sound in
+    tells laws is is (itself laws s is) (sent i d (omega (arith, less, within))) (sent j d within)
+    (in_run laws _ _ sound i j d less within)
 
 two_runs : EndpointLaws → (run q : Run) → IsSoundRun run → IsSoundRun q → AgreeOnKeys run q → KeepsUsed run q →
     All (λ x. All (OtherSeal x) (sent_from (opening q) q.inputs)) (sent_from (opening run) run.inputs)
 two_runs laws run q sound sound' agree keeps i d within j e within' =
-    tells laws (closing run).secy (closing q).secy (closing_sound run sound) (closing_sound q sound') agree
-    (get_or (sent_from (opening run) run.inputs) i d) (get_or (sent_from (opening q) q.inputs) j e)
-    (by_inputs laws run.inputs (opening run) sound i d within) (by_inputs laws q.inputs (opening q) sound' j e within')
+    tells laws (closing_sound run sound) (closing_sound q sound') agree
+    (by_inputs laws _ _ sound i d within) (by_inputs laws q.inputs _ sound' j e within')
     (rises_in run q keeps i d within j e within')
 
 to_later : EndpointLaws → (run : Run) → IsSoundRun run → (later : List Run) → All IsSoundRun later →
     All (AgreeOnKeys run) later → All (KeepsUsed run) later →
     All (λ x. All (OtherSeal x) (sent_in_all later)) (sent_from (opening run) run.inputs)
 to_later laws run sound [] sounds agree keeps i d within =
-    All-nil (OtherSeal (get_or (sent_from (opening run) run.inputs) i d))
+    All-nil _
 to_later laws run sound (q ∷ qs) sounds agree keeps i d within =
-    All-append (OtherSeal (get_or (sent_from (opening run) run.inputs) i d)) (sent_from (opening q) q.inputs)
-    (sent_in_all qs)
+    All-append (OtherSeal (get_or (sent_from (opening run) run.inputs) i d)) _ _
     (two_runs laws run q sound (All-head IsSoundRun q qs sounds) (All-head (AgreeOnKeys run) q qs agree)
     (All-head (KeepsUsed run) q qs keeps) i d within)
     (to_later laws run sound qs (All-tail IsSoundRun q qs sounds) (All-tail (AgreeOnKeys run) q qs agree)
@@ -85,8 +82,8 @@ all_differ : EndpointLaws → (runs : List Run) → All IsSoundRun runs → AllP
     AllPairs KeepsUsed runs → AllPairs OtherSeal (sent_in_all runs)
 all_differ laws [] sounds agree keeps = no_pairs OtherSeal
 all_differ laws (run ∷ runs) sounds agree keeps =
-    let sound : IsSoundRun run = All-head IsSoundRun run runs sounds in
-    pairs-append OtherSeal (sent_from (opening run) run.inputs) (sent_in_all runs) (one_run laws run sound)
+    let sound = All-head IsSoundRun run runs sounds in
+    pairs-append OtherSeal _ _ (one_run laws run sound)
     (all_differ laws runs (All-tail IsSoundRun run runs sounds) (pairs-tail AgreeOnKeys run runs agree)
     (pairs-tail KeepsUsed run runs keeps))
     (to_later laws run sound runs (All-tail IsSoundRun run runs sounds) (pairs-head AgreeOnKeys run runs agree)

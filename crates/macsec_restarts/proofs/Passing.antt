@@ -27,7 +27,7 @@ passing-append test before (x ∷ xs) ys =
 -- one more happening passes, or it does not
 pub passing-push : (test : List Happening → Happening → Bool) (before : List Happening) (h : Happening) →
     passing_from test [] (before ++ h ∷ []) ≡ passing_from test [] before ++ (if test before h then h ∷ [] else [])
-passing-push test before h = passing-append test [] before (h ∷ [])
+passing-push test before h = passing-append test [] before _
 
 -- what comes in before the first run passes
 abbrev pub reaches : (Run → Bool) → Option Run → Bool
@@ -73,10 +73,9 @@ module _ (test : List Happening → Happening → Bool) (of : End → Run → Ru
       runs_of e (those (before ++ h ∷ [])) ≡ map (of e) (runs_of e (before ++ h ∷ []))
   run_more e before (begins f config journal) same =
       rw (
-        passing-push test before (begins f config journal),
+        passing-push test before _,
         begins_pass before f config journal,
-        runs_of-begins e f
-            config journal (those before),
+        runs_of-begins e f config journal _,
         same,
         by_end (same_end e f),
         ← map-append (of e) (runs_of e before)
@@ -86,36 +85,35 @@ module _ (test : List Happening → Happening → Bool) (of : End → Run → Ru
     where
       by_end : (b : Bool) → (if b then run_with config journal [] ∷ [] else []) ≡ map (of e)
           (if b then run_with config journal [] ∷ [] else [])
-      by_end true = ap (λ (r : Run). r ∷ []) (sym (begun e config journal))
+      by_end true = ap (λ r. r ∷ []) (sym (begun e config journal))
       by_end false = refl
-  run_more e before (comes_in f input) same = rw (passing-push test before (comes_in f input))
-      (by_end (same_end e f) refl)
+  run_more e before (comes_in f input) same = rw (passing-push test before _) (by_end (same_end e f) refl)
     where
       own : (b : Bool) → runs_of e (those before ++ (if b then comes_in e input ∷ [] else [])) ≡
           (if b then with_last input (map (of e) (runs_of e before)) else map (of e) (runs_of e before))
-      own true = rw (runs_of-input e e input (those before) (same_own e), same)
+      own true = rw (runs_of-input e e input _ (same_own e), same)
       own false = rw (append-nil (those before), same)
 
       other : (b : Bool) → same_end e f ≡ false → runs_of e (those before ++ (if b then comes_in f input ∷ [] else []))
           ≡ map (of e) (runs_of e before)
-      other true is = rw (runs_of-other_input e f input (those before) is, same)
+      other true is = rw (runs_of-other_input e f input _ is, same)
       other false is = rw (append-nil (those before), same)
 
       by_end : (b : Bool) → same_end e f ≡ b →
           runs_of e (those before ++ (if test before (comes_in f input) then comes_in f input ∷ [] else [])) ≡
           map (of e) (runs_of e (before ++ comes_in f input ∷ []))
-      by_end false is = rw (runs_of-other_input e f input before is) (other (test before (comes_in f input)) is)
+      by_end false is = rw (runs_of-other_input e f input before is) (other _ is)
       by_end true is =
           rw (
             same_is e f is,
             inputs_pass before e input,
             runs_of-input e e input before (same_own e),
-            map_with_last e input (runs_of e before),
-          ) (own (reaches (lets e input) (last_run (runs_of e before))))
+            map_with_last e input _,
+          ) (own _)
 
   runs_from : (e : End) (before more : List Happening) → runs_of e (those before) ≡ map (of e) (runs_of e before) →
       runs_of e (those (before ++ more)) ≡ map (of e) (runs_of e (before ++ more))
-  runs_from e before [] same = subst (λ (hs : List Happening). runs_of e (those hs) ≡ map (of e) (runs_of e hs))
+  runs_from e before [] same = subst (λ hs. runs_of e (those hs) ≡ map (of e) (runs_of e hs))
       (sym (append-nil before)) same
   runs_from e before (h ∷ more) same =
       rw (append_assoc before (h ∷ []) more) at (runs_from e (before ++ h ∷ []) more (run_more e before h same))

@@ -23,7 +23,7 @@ all_pass p (x ∷ xs) = by_test (p x) refl (all_pass p xs)
   where
     by_test : (b : Bool) → p x ≡ b → All (λ y. p y ≡ true) (filter p xs) →
         All (λ y. p y ≡ true) (cond b (x ∷ filter p xs) (filter p xs))
-    by_test true is rest = All-cons (λ y. p y ≡ true) x (filter p xs) is rest
+    by_test true is rest = All-cons (λ y. p y ≡ true) x _ is rest
     by_test false is rest = rest
 
 pub all_there : {X : Type 0} (gs : List X) → All (Contains gs) gs
@@ -58,9 +58,9 @@ each_given k (endpoint_input (link_frame frame)) =
         (judgement_of k.secy frame).row ≡ o → (d : Option (List ℕ)) → (judgement_of k.secy frame).delivered ≡ d →
         All P (delivered_by k.secy (judgement_of k.secy frame) f o d)
     by_delivery None fits (Some row) of_row (Some delivered) delivers =
-        All-cons P _ [] (is_given frame row delivered fits of_row delivers) (All-nil P)
+        All-cons P _ [] (is_given frame row _ fits of_row delivers) (All-nil P)
     by_delivery f fits o of_row d delivers = All-nil P
-each_given k input = All-nil (IsGiven k.secy input)
+each_given k input = All-nil _
 
 module _ (bytes : List ℕ) (sci : Sci) (an : ℕ) where
   abbrev pub is_ours : Delivery → Bool
@@ -78,8 +78,7 @@ module _ (bytes : List ℕ) (sci : Sci) (an : ℕ) where
       (all_pass is_ours ds i d within) in
       let octets = and_parts (same_octets g.bytes bytes) (same_sci g.sci sci) parts.0 in
       let place = same_place g.sci sci g.an an (rw (octets.1, parts.1)) in
-      holds g (all_there (delivered_at bytes sci an ds) i d within)
-      (All-filter is_ours (IsGiven k.secy input) ds (each_given k input) i d within)
+      holds g (all_there _ i d within) (All-filter is_ours (IsGiven k.secy input) ds (each_given k input) i d within)
       ((bytes_eq-Decides g.bytes bytes).0 octets.0) place.0 place.1
 
 -- ---- deliveries in rising order
@@ -116,7 +115,7 @@ module _ (laws : EndpointLaws) (fresh : Fresh) (bytes : List ℕ) (sci : Sci) (a
       let tells = laws.delivers s frame row delivered sound of_row delivers in
       let name : row_name (salt_of run.journal) s row ≡ name_in run.journal = rw (is_bytes, is_sci, is_an) in
       let place : rx_row s.rx.rows sci an ≡ Some row =
-      rw (← is_an) (subst (λ (x : Sci). rx_row s.rx.rows x row.an ≡ Some row) is_sci tells.at_place) in
+      rw (← is_an) (subst (λ x. rx_row s.rx.rows x row.an ≡ Some row) is_sci tells.at_place) in
       let stepped : IsAbove (step s (link_frame frame)).1.rx.rows row.sci row.an ((judgement_of s frame).number + 1) =
       rw fits (tells.accepted (tells.opened order.mode).thirteen) in
       let ours : IsAbove (step s (link_frame frame)).1.rx.rows sci an ((judgement_of s frame).number + 1) =
@@ -140,5 +139,4 @@ module _ (laws : EndpointLaws) (fresh : Fresh) (bytes : List ℕ) (sci : Sci) (a
       All (IsPlaced run (keeping_step (closing run) input).1.secy)
       (delivered_at bytes sci an (newly_delivered (closing run) input))
   all_placed run sound input order =
-      of_ours bytes sci an (IsPlaced run (keeping_step (closing run) input).1.secy) (closing run) input
-      (λ g there. placed run sound (order g there) input g)
+      of_ours bytes sci an _ (closing run) input (λ g there. placed run sound (order g there) input g)

@@ -5,7 +5,7 @@ use Rattle.macsec_restarts.proofs.{
   Names.{append-nil, append_assoc, ArePeers, AtEach, B, closing, Contains, End, EndpointLaws, get_or, Happening},
   Names.{InstalledKey, IsHistory, IsSameEnd, Keeping, KeepingInput, KeepsDurable, List, no_pairs, one_alone, opening},
   Names.{pairs-head, pairs-tail, refl, Run, SameSalt, StaysSound, suc, sym, take, zero, ℕ},
-  Pushed.{IsNext, closing-input, is_next, new_input, new_run, run_with, same_runs, with_input, with_last},
+  Pushed.{IsNext, closing-input, is_next, new_input, new_run, same_runs, with_input, with_last},
   SoundRuns.{IsSoundRun, closing_sound, keys_stay},
 }
 
@@ -13,9 +13,8 @@ use Rattle.macsec_restarts.proofs.{
 
 pub taken : (n : ℕ) (inputs : List KeepingInput) (input : KeepingInput) →
     (m : ℕ) × (take n inputs ≡ take m (inputs ++ input ∷ []))
-taken zero inputs input = (0, refl)
-taken (suc n) [] input = (0, refl)
 taken (suc n) (i ∷ inputs) input = let it = taken n inputs input in (suc it.0, rw it.1)
+taken n inputs input = (0, refl)
 
 sound_before : (k : Keeping) (inputs : List KeepingInput) (input : KeepingInput) → StaysSound k (inputs ++ input ∷ []) →
     StaysSound k inputs
@@ -27,7 +26,7 @@ module _ (laws : EndpointLaws) (input : KeepingInput) where
   key_stays : (run : Run) → IsSoundRun run → (x : InstalledKey) → Contains (closing run).secy.keys x →
       KeyStaysIn (closing (with_input input run)).secy.keys x
   key_stays run sound x there =
-      rw (closing-input input run) ((keys_stay laws (closing run) input (closing_sound run sound)).keys x there)
+      rw (closing-input input run) ((keys_stay laws _ input (closing_sound run sound)).keys x there)
 
   pub agree_before : (run later : Run) → IsSoundRun later → AgreeOnKeys run (with_input input later) →
       AgreeOnKeys run later
@@ -60,14 +59,12 @@ module _ (laws : EndpointLaws) (input : KeepingInput) where
 
 pub first_all : {X : Type 0} (P : X → Type 0) (xs ys : List X) → All P (xs ++ ys) → All P xs
 first_all P [] ys all = All-nil P
-first_all P (x ∷ xs) ys all = All-cons P x xs (All-head P x (xs ++ ys) all)
-    (first_all P xs ys (All-tail P x (xs ++ ys) all))
+first_all P (x ∷ xs) ys all = All-cons P x xs (All-head P x (xs ++ ys) all) (first_all P xs ys (All-tail P x _ all))
 
 pub first_pairs : {X : Type 0} (R : X → X → Type 0) (xs ys : List X) → AllPairs R (xs ++ ys) → AllPairs R xs
 first_pairs R [] ys pairs = no_pairs R
 first_pairs R (x ∷ xs) ys pairs =
-    AllPairs-cons R x xs (first_all (R x) xs ys (pairs-head R x (xs ++ ys) pairs))
-    (first_pairs R xs ys (pairs-tail R x (xs ++ ys) pairs))
+    AllPairs-cons R x xs (first_all (R x) xs ys (pairs-head R x _ pairs)) (first_pairs R xs ys (pairs-tail R x _ pairs))
 
 -- ---- runs, the last one without its last input
 
@@ -106,7 +103,7 @@ module _ (input : KeepingInput) where
 pub less_next : (P : Run → Type 0) → ((input : KeepingInput) (run : Run) → P (with_input input run) → P run) →
     {e : End} {runs : List Run} {h : Happening} {after : List Run} → IsNext e runs h after → All P after → All P runs
 less_next P less (same_runs h) all = all
-less_next P less {runs} (new_run config journal) all = first_all P runs (run_with config journal [] ∷ []) all
+less_next P less {runs} (new_run config journal) all = first_all P runs _ all
 less_next P less {runs} (new_input input) all = all_less input P (less input) runs all
 
 all_next : (P : Run → Type 0) →
@@ -114,7 +111,7 @@ all_next : (P : Run → Type 0) →
     {e : End} {runs : List Run} {h : Happening} {after : List Run} → IsNext e runs h after → All IsSoundRun runs →
     All P after → All P runs
 all_next P weaker (same_runs h) sounds all = all
-all_next P weaker {runs} (new_run config journal) sounds all = first_all P runs (run_with config journal [] ∷ []) all
+all_next P weaker {runs} (new_run config journal) sounds all = first_all P runs _ all
 all_next P weaker {runs} (new_input input) sounds all = all_before input P (weaker input) runs sounds all
 
 pub pairs_next : (R : Run → Run → Type 0) →
@@ -123,7 +120,7 @@ pub pairs_next : (R : Run → Run → Type 0) →
     AllPairs R after → AllPairs R runs
 pairs_next R weaker (same_runs h) sounds pairs = pairs
 pairs_next R weaker {runs} (new_run config journal) sounds pairs =
-    first_pairs R runs (run_with config journal [] ∷ []) pairs
+    first_pairs R runs _ pairs
 pairs_next R weaker {runs} (new_input input) sounds pairs = pairs_before input R (weaker input) runs sounds pairs
 
 -- the runs of both ends
@@ -142,7 +139,7 @@ history_next laws next is =
     let sounds = less_next IsSoundRun (λ input run. sound_before (opening run) run.inputs input) next is.sound in
     record {
       sound = sounds;
-      agree = pairs_next AgreeOnKeys (agree_before laws) next sounds is.agree;
+      agree = pairs_next _ (agree_before laws) next sounds is.agree;
       salt = pairs_next SameSalt (λ input run later sound same. same) next sounds is.salt;
       durable = pairs_next KeepsDurable (λ input run later sound keeps. keeps) next sounds is.durable;
     }
@@ -155,14 +152,14 @@ one_less laws before h peers =
       a = a;
       b = b;
       agree = agree_next laws (is_next A before h) (is_next B before h) a.sound b.sound peers.agree;
-      one_a = pairs_next IsSameEnd (same_before laws) (is_next A before h) a.sound peers.one_a;
-      one_b = pairs_next IsSameEnd (same_before laws) (is_next B before h) b.sound peers.one_b;
+      one_a = pairs_next _ (same_before laws) (is_next A before h) a.sound peers.one_a;
+      one_b = pairs_next _ (same_before laws) (is_next B before h) b.sound peers.one_b;
     }
 
 pub peers_before : EndpointLaws → (before more : List Happening) → ArePeers (before ++ more) → ArePeers before
 peers_before laws before [] peers = rw (append-nil before) at peers
 peers_before laws before (h ∷ more) peers =
-    one_less laws before h (peers_before laws (before ++ h ∷ []) more (rw (append_assoc before (h ∷ []) more) peers))
+    one_less laws _ h (peers_before laws _ more (rw (append_assoc before (h ∷ []) more) peers))
 
 pub peers_taken : EndpointLaws → (k : ℕ) (before events : List Happening) → ArePeers (before ++ events) →
     ArePeers (before ++ take k events)
@@ -175,6 +172,5 @@ peers_taken laws (suc k) before (h ∷ more) peers =
 -- what holds at each moment holds at each moment of a beginning
 pub each_taken : (P : List Happening → Happening → Type 0) (k : ℕ) (before events : List Happening) →
     AtEach P before events → AtEach P before (take k events)
-each_taken P zero before events each = tt
-each_taken P (suc k) before [] each = tt
-each_taken P (suc k) before (h ∷ more) each = (each.0, each_taken P k (before ++ h ∷ []) more each.1)
+each_taken P (suc k) before (h ∷ more) each = (each.0, each_taken P k _ more each.1)
+each_taken P k before events each = tt

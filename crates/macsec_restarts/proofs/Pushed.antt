@@ -43,11 +43,11 @@ until_open e f input (comes_in g i ∷ more) none same = by_end (same_end e g) (
     by_end false rest = rest
 
 -- if a run begins later
-until_closed : (e : End) (h : Happening) (more : List Happening) (run : Run) (runs : List Run) →
+until_closed : (e : End) (h : Happening) (more : List Happening) {run : Run} {runs : List Run} →
     runs_of e more ≡ run ∷ runs → inputs_until e (more ++ h ∷ []) ≡ inputs_until e more
-until_closed e h [] run runs some = cc
-until_closed e h (begins g config journal ∷ more) run runs some =
-    by_end (same_end e g) some (λ some'. until_closed e h more run runs some')
+until_closed e h [] some = cc
+until_closed e h (begins g config journal ∷ more) {run} {runs} some =
+    by_end (same_end e g) some (λ some'. until_closed e h more some')
   where
     by_end : (b : Bool) → (if b then record { journal = journal; config = config; inputs = inputs_until e more }
         ∷ runs_of e more else runs_of e more) ≡ run ∷ runs →
@@ -55,7 +55,7 @@ until_closed e h (begins g config journal ∷ more) run runs some =
         (if b then [] else inputs_until e (more ++ h ∷ [])) ≡ (if b then [] else inputs_until e more)
     by_end true some' later = refl
     by_end false some' later = later some'
-until_closed e h (comes_in g i ∷ more) run runs some = rw (until_closed e h more run runs some)
+until_closed e h (comes_in g i ∷ more) some = rw (until_closed e h more some)
 
 -- what happens at the other end
 until_other : (e f : End) (input : KeepingInput) (more : List Happening) → same_end e f ≡ false →
@@ -64,14 +64,14 @@ until_other e f input [] other = rw other
 until_other e f input (begins g config journal ∷ more) other = rw (until_other e f input more other)
 until_other e f input (comes_in g i ∷ more) other = rw (until_other e f input more other)
 
-either_way : (b : Bool) (is : List KeepingInput) → (if b then is else is) ≡ is
-either_way true is = refl
-either_way false is = refl
+either_way : (b : Bool) {is : List KeepingInput} → (if b then is else is) ≡ is
+either_way true = refl
+either_way false = refl
 
 -- a beginning
 until_begins : (e f : End) (config : EndConfig) (journal : List ℕ) (more : List Happening) →
     inputs_until e (more ++ begins f config journal ∷ []) ≡ inputs_until e more
-until_begins e f config journal [] = either_way (same_end e f) []
+until_begins e f config journal [] = either_way _
 until_begins e f config journal (begins g config' journal' ∷ more) = rw (until_begins e f config journal more)
 until_begins e f config journal (comes_in g i ∷ more) = rw (until_begins e f config journal more)
 
@@ -85,8 +85,7 @@ pub runs_of-input : (e f : End) (input : KeepingInput) (before : List Happening)
 runs_of-input e f input [] same = refl
 runs_of-input e f input (comes_in g i ∷ more) same = runs_of-input e f input more same
 runs_of-input e f input (begins g config journal ∷ more) same =
-    by_end (same_end e g) (by_rest (runs_of e more) refl (runs_of-input e f input more same))
-    (runs_of-input e f input more same)
+    by_end (same_end e g) (by_rest _ refl (runs_of-input e f input more same)) (runs_of-input e f input more same)
   where
     Pushed : Type 0
     Pushed = run_with config journal (inputs_until e (more ++ comes_in f input ∷ []))
@@ -105,8 +104,7 @@ runs_of-input e f input (begins g config journal ∷ more) same =
         (later ∙ ap (with_last input) none)
         ∙ ap (λ rs. with_last input (run_with config journal (inputs_until e more) ∷ rs)) (sym none)
     by_rest (run ∷ runs) some later =
-        ap (λ is. run_with config journal is ∷ runs_of e (more ++ comes_in f input ∷ []))
-        (until_closed e (comes_in f input) more run runs some)
+        ap (λ is. run_with config journal is ∷ runs_of e (more ++ comes_in f input ∷ [])) (until_closed e _ more some)
         ∙ ap (λ rs. run_with config journal (inputs_until e more) ∷ rs) (later ∙ ap (with_last input) some)
         ∙ ap (λ rs. with_last input (run_with config journal (inputs_until e more) ∷ rs)) (sym some)
 
@@ -147,10 +145,9 @@ runs_of-begins e f config journal (begins g config' journal' ∷ more) =
     by_end false later = later
 
 pub same_is : (e f : End) → same_end e f ≡ true → f ≡ e
-same_is A A same = refl
-same_is B B same = refl
 same_is A B same = cc
 same_is B A same = cc
+same_is e f same = refl
 
 pub same_own : (e : End) → same_end e e ≡ true
 same_own A = refl
@@ -172,14 +169,13 @@ is_next e before (begins f config journal) = by_end (same_end e f) refl
     by_end true same =
         rw (runs_of-begins e f config journal before, same, same_is e f same) (new_run config journal)
     by_end false other =
-        rw (runs_of-begins e f config journal before, other, append-nil (runs_of e before))
-        (same_runs (begins f config journal))
+        rw (runs_of-begins e f config journal before, other, append-nil (runs_of e before)) (same_runs _)
 is_next e before (comes_in f input) = by_end (same_end e f) refl
   where
     by_end : (b : Bool) → same_end e f ≡ b → IsNext e (runs_of e before) (comes_in f input)
         (runs_of e (before ++ comes_in f input ∷ []))
     by_end true same = rw (runs_of-input e f input before same, same_is e f same) (new_input input)
-    by_end false other = rw (runs_of-other_input e f input before other) (same_runs (comes_in f input))
+    by_end false other = rw (runs_of-other_input e f input before other) (same_runs _)
 
 -- ---- the last run
 
@@ -189,14 +185,13 @@ last_run-with_last input (run ∷ later ∷ third ∷ more) = last_run-with_last
 last_run-with_last input it = refl
 
 pub last_run-push : (runs : List Run) (run : Run) → last_run (runs ++ run ∷ []) ≡ Some run
-last_run-push [] run = refl
-last_run-push (p ∷ []) run = refl
 last_run-push (p ∷ q ∷ more) run = last_run-push (q ∷ more) run
+last_run-push runs run = refl
 
 pub after-push : (inputs : List KeepingInput) (k : Keeping) (input : KeepingInput) →
     keeping_after k (inputs ++ input ∷ []) ≡ (keeping_step (keeping_after k inputs) input).1
 after-push [] k input = refl
-after-push (i ∷ inputs) k input = after-push inputs (keeping_step k i).1 input
+after-push (i ∷ inputs) k input = after-push inputs _ input
 
 -- the end of a run with one more input
 pub closing-input : (input : KeepingInput) (run : Run) →
@@ -210,7 +205,7 @@ pub delivered_from-push : (inputs : List KeepingInput) (k : Keeping) (input : Ke
 delivered_from-push [] k input = append-nil (newly_delivered k input)
 delivered_from-push (i ∷ inputs) k input =
     rw (
-      delivered_from-push inputs (keeping_step k i).1 input,
+      delivered_from-push inputs _ input,
       ← append_assoc (newly_delivered k i)
           (delivered_from (keeping_step k i).1 inputs)
           (newly_delivered (keeping_after (keeping_step k i).1 inputs) input),
@@ -221,7 +216,7 @@ sent_from-push : (inputs : List KeepingInput) (k : Keeping) (input : KeepingInpu
 sent_from-push [] k input = append-nil (newly_sent k input)
 sent_from-push (i ∷ inputs) k input =
     rw (
-      sent_from-push inputs (keeping_step k i).1 input,
+      sent_from-push inputs _ input,
       ← append_assoc (newly_sent k i)
           (sent_from (keeping_step k i).1 inputs)
           (newly_sent (keeping_after (keeping_step k i).1 inputs) input),
@@ -295,12 +290,12 @@ pub record SendsMore (e : End) (before : List Happening) (h : Happening) : Type 
 
 pub sends_more : (e : End) (before : List Happening) (h : Happening) → SendsMore e before h
 sends_more e before h =
-    let it = by_next (runs_of e before) h (runs_of e (before ++ h ∷ [])) (is_next e before h) in
+    let it = by_next (is_next e before h) in
     record { added = it.0; more = it.1 }
   where
-    by_next : (runs : List Run) (h' : Happening) (after : List Run) → IsNext e runs h' after →
+    by_next : {runs : List Run} {h' : Happening} {after : List Run} → IsNext e runs h' after →
         (added : List SentIn) × (sent_in_all after ≡ sent_in_all runs ++ added)
-    by_next runs _ _ (same_runs h') = ([], sym (append-nil (sent_in_all runs)))
-    by_next runs _ _ (new_run config journal) =
-        ([], sent_in_all-new runs (run_with config journal []) refl ∙ sym (append-nil (sent_in_all runs)))
-    by_next runs _ _ (new_input input) = (sent_by_last (last_run runs) input, sent_in_all-with_last input runs)
+    by_next {runs} (same_runs h') = ([], sym (append-nil (sent_in_all runs)))
+    by_next {runs} (new_run config journal) =
+        ([], sent_in_all-new runs _ refl ∙ sym (append-nil (sent_in_all runs)))
+    by_next {runs} (new_input input) = (sent_by_last (last_run runs) input, sent_in_all-with_last input runs)

@@ -1,15 +1,15 @@
 -- No SA uses a retired key: from the creation of an endpoint on, whatever the inputs are.
 use Rattle.{
-  macsec_suite.specs.KeyRows.{at_number, key_row, keys_retiring, new_row, retired_row, row_noting, suite_of},
+  macsec_suite.specs.KeyRows.{key_row, keys_retiring, retired_row, row_noting},
   macsec_tx.specs.Transmit.keys_after,
   macsec_secy.{proofs.{KeysKept.{field_kept, same_number}, OtherOctets.row-map}, specs.Commands.uses},
   macsec_restarts.proofs.{
     Names.{[], ◌++◌, ◌==◌, ◌∙◌, ◌∷◌, ◌≡◌, Bool, client_frame, Command, EndConfig, endpoint_input, eqb-true, false},
     Names.{frame_fault, FrameFault, gives_up, holds_of, if◌then◌else◌, Input, InstalledKey, is_retired, IsGivenUp},
-    Names.{judgement_of, Keeping, keeping_step, KeepingInput, Key, leaves, link_frame, List, map, None, now_durable},
-    Names.{operator_command, Option, option_map, Output, received_output, refl, Refusal, refusal, Retire, sending_of},
-    Names.{sent_output, Some, start, State, state_after_receiving, state_after_sending, stays_given_up, step, sym},
-    Names.{true, TxRow, uncontrolled_frame, unless_fault, unless_refused, ℕ},
+    Names.{Keeping, keeping_step, KeepingInput, Key, link_frame, List, map, None, now_durable, operator_command},
+    Names.{Option, option_map, Output, refl, Refusal, refusal, Retire, sending_of, sent_output, Some, start, State},
+    Names.{state_after_sending, stays_given_up, step, sym, true, TxRow, uncontrolled_frame, unless_fault},
+    Names.{unless_refused, ℕ},
     SoundRuns.by_keeping,
   },
 }
@@ -18,10 +18,10 @@ abbrev pub AreUnused : State → Type 0
 AreUnused s = (n : ℕ) → is_retired s.keys n ≡ true → uses s n ≡ false
 
 abbrev RowRetired : Option InstalledKey → Type 0
-RowRetired o = holds_of (λ (row : InstalledKey). row.retired) o ≡ true
+RowRetired o = holds_of (λ row. row.retired) o ≡ true
 
 abbrev RowFree : Option InstalledKey → Type 0
-RowFree o = holds_of (λ (row : InstalledKey). row.retired) o ≡ false
+RowFree o = holds_of (λ row. row.retired) o ≡ false
 
 differ : {b : Bool} → b ≡ true → b ≡ false → ⊥
 differ is isnt = let contradiction : true ≡ false = sym is ∙ isnt in cc
@@ -32,10 +32,10 @@ differ is isnt = let contradiction : true ≡ false = sym is ∙ isnt in cc
 same_retired : (f : InstalledKey → InstalledKey) → ((row : InstalledKey) → (f row).number ≡ row.number) →
     ((row : InstalledKey) → (f row).retired ≡ row.retired) →
     (keys : List InstalledKey) (n : ℕ) → is_retired (map f keys) n ≡ is_retired keys n
-same_retired f number kept keys n = rw (row-map f number keys n, by_row (key_row keys n))
+same_retired f number kept keys n = rw (row-map f number keys n, by_row _)
   where
-    by_row : (o : Option InstalledKey) → holds_of (λ (row : InstalledKey). row.retired) (option_map f o) ≡ holds_of
-        (λ (row : InstalledKey). row.retired) o
+    by_row : (o : Option InstalledKey) → holds_of (λ row. row.retired) (option_map f o) ≡ holds_of
+        (λ row. row.retired) o
     by_row None = refl
     by_row (Some row) = kept row
 
@@ -43,8 +43,8 @@ sending_retires : (keys : List InstalledKey) (n : ℕ) (by : Option TxRow) → i
     is_retired keys n
 sending_retires keys n None = refl
 sending_retires keys n (Some row) =
-    same_retired (at_number (row_noting row.next) row.key) (same_number (row_noting row.next) (λ r. refl) row.key)
-    (λ r. field_kept (λ (x : InstalledKey). x.retired) (row_noting row.next) (λ x. refl) (r.number == row.key) r) keys n
+    same_retired _ (same_number _ (λ r. refl) row.key)
+    (λ r. field_kept (λ x. x.retired) (row_noting row.next) (λ x. refl) _ r) keys n
 
 with_another : (keys : List InstalledKey) (new : InstalledKey) (n : ℕ) → new.retired ≡ false →
     is_retired (keys ++ new ∷ []) n ≡ true → is_retired keys n ≡ true
@@ -64,7 +64,7 @@ with_another (row ∷ keys) new n fresh is = by_test (row.number == n) is (with_
 this_one : (keys : List InstalledKey) (m n : ℕ) → is_retired keys n ≡ false → is_retired (keys_retiring keys m) n ≡
     true → n ≡ m
 this_one [] m n free is = cc
-this_one (row ∷ keys) m n free is = by_number (row.number == m) refl is (this_one keys m n)
+this_one (row ∷ keys) m n free is = by_number _ refl is (this_one keys m n)
   where
     rest : Option InstalledKey
     rest = key_row (keys_retiring keys m) n
@@ -85,8 +85,8 @@ this_one (row ∷ keys) m n free is = by_number (row.number == m) refl is (this_
     by_number : (b : Bool) → (row.number == m) ≡ b →
         RowRetired (let now : InstalledKey = if b then retired_row row else row in if now.number == n then Some now
         else rest) → Later → n ≡ m
-    by_number true at is' later = retiring (row.number == n) refl (eqb-true row.number m at) free is' later
-    by_number false at is' later = keeping (row.number == n) free is' later
+    by_number true at is' later = retiring _ refl (eqb-true row.number m at) free is' later
+    by_number false at is' later = keeping _ free is' later
 
 -- ---- a step
 
@@ -94,11 +94,10 @@ by_command : (s : State) (c : Command) (n : ℕ) (r : Option Refusal) → refusa
     is_retired (unless_refused r s c).keys n ≡ true →
     IsGivenUp (unless_refused r s c) n
 by_command s c n (Some r) is free retired = absurd (differ retired free)
-by_command s (Key key) n None is free retired = absurd
-    (differ (with_another s.keys (new_row (suite_of s.config.suite key) key) n refl retired) free)
+by_command s (Key key) n None is free retired = absurd (differ (with_another s.keys _ n refl retired) free)
 by_command s (Retire m) n None is free retired =
-    let one : n ≡ m = this_one s.keys m n free retired in
-    let up : IsGivenUp (unless_refused (refusal s (Retire m)) s (Retire m)) m = gives_up s m (rw is) in
+    let one = this_one s.keys m n free retired in
+    let up = gives_up s m (rw is) in
     rw one (rw is at up)
 by_command s c n None is free retired = absurd (differ retired free)
 
@@ -109,22 +108,20 @@ by_fault s after output (Some f) n same = refl
 
 newly : (s : State) (input : Input) (n : ℕ) → is_retired s.keys n ≡ false → is_retired (step s input).1.keys n ≡ true →
     IsGivenUp (step s input).1 n
-newly s (operator_command c) n free is = by_command s c n (refusal s c) refl free is
+newly s (operator_command c) n free is = by_command s c n _ refl free is
 newly s (client_frame frame) n free is =
     absurd (differ is (by_fault s (state_after_sending s frame (sending_of s frame))
     (sent_output frame (sending_of s frame).leaving) (frame_fault frame) n
     (sending_retires s.keys n (sending_of s frame).by) ∙ free))
-newly s (uncontrolled_frame frame) n free is = absurd
-    (differ is (by_fault s s (leaves frame None) (frame_fault frame) n refl ∙ free))
+newly s (uncontrolled_frame frame) n free is = absurd (differ is (by_fault s s _ _ n refl ∙ free))
 newly s (link_frame frame) n free is =
-    absurd (differ is (by_fault s (state_after_receiving s frame (judgement_of s frame))
-    (received_output frame (judgement_of s frame)) (frame_fault frame) n refl ∙ free))
+    absurd (differ is (by_fault s _ _ _ n refl ∙ free))
 
 step_unused : (s : State) (input : Input) → AreUnused s → AreUnused (step s input).1
-step_unused s input unused n is = by_before (is_retired s.keys n) refl
+step_unused s input unused n is = by_before _ refl
   where
     by_before : (b : Bool) → is_retired s.keys n ≡ b → uses (step s input).1 n ≡ false
-    by_before true was = let up : IsGivenUp (step s input).1 n = stays_given_up s n input
+    by_before true was = let up = stays_given_up s n input
         (record { retired = was; unused = unused n was }) in up.unused
     by_before false free = let up = newly s input n free is in up.unused
 

@@ -7,7 +7,7 @@ use Rattle.{
   macsec_rx.specs.{
     Channels.at_place,
     Commands.{is_below_lowest, row_narrowed, row_raised, row_switched, rx_low_refusals, rx_sa_refusals},
-    Judge.{accepted_number, row_accepting, rows_accepting},
+    Judge.{accepted_number, rows_accepting},
   },
   macsec_secy.proofs.{
     AfterCommands.none_hold,
@@ -16,7 +16,7 @@ use Rattle.{
   macsec_restarts.proofs.{
     Names.{[], ◌&&◌, ◌++◌, ◌==◌, ◌∙◌, ◌∷◌, ◌≡◌, ◌≤◌, ap, arith, Bool, client_frame, Command, cond, effect, false},
     Names.{filter, frame_fault, FrameFault, holds_of, if◌then◌else◌, inl, Input, inr, is_at, IsMember, judgement_of},
-    Names.{last_of, leaves, link_frame, List, ltb-false, map, nat_lt, None, not, operator_command, Option, option_map},
+    Names.{last_of, link_frame, List, ltb-false, map, nat_lt, None, not, operator_command, Option, option_map},
     Names.{or_parts, Output, received_output, refl, Refusal, refusal, Replay, rx_row, RxDel, RxOn, RxRow, RxSa},
     Names.{RxScDel, same_sci, Sci, sending_of, sent_output, Some, State, state_after_receiving, state_after_sending},
     Names.{step, subst, sym, the_key, true, uncontrolled_frame, unless_fault, unless_refused, ℕ},
@@ -52,7 +52,7 @@ found_at (r ∷ rows) sci an row found = by_test (is_at sci an r) refl found (fo
   where
     by_test : (b : Bool) → is_at sci an r ≡ b → (if b then Some r else rx_row rows sci an) ≡ Some row →
         (rx_row rows sci an ≡ Some row → is_at sci an row ≡ true) → is_at sci an row ≡ true
-    by_test true here found' later = let one : r ≡ row = cc in subst (λ (x : RxRow). is_at sci an x ≡ true) one here
+    by_test true here found' later = let one : r ≡ row = cc in subst (λ x. is_at sci an x ≡ true) one here
     by_test false elsewhere found' later = later found'
 
 pub found_row : (sci : Sci) (an : ℕ) (rows : List RxRow) (row : RxRow) → rx_row rows sci an ≡ Some row →
@@ -71,7 +71,7 @@ mapped : (input : Input) (f : RxRow → RxRow) → KeepsPlace f → (rows : List
     ((row : RxRow) → rx_row rows sci an ≡ Some row → IsLaterRow row (f row)) →
     RowStep input (rx_row rows sci an) (rx_row (map f rows) sci an)
 mapped input f keeps rows sci an later =
-    rw (rx_row-map f keeps rows sci an) (by_row (rx_row rows sci an) refl)
+    rw (rx_row-map f keeps rows sci an) (by_row _ refl)
   where
     by_row : (o : Option RxRow) → rx_row rows sci an ≡ o → RowStep input o (option_map f o)
     by_row None none = tt
@@ -82,7 +82,7 @@ at_one : (input : Input) (f : RxRow → RxRow) → KeepsPlace f →
     ((row : RxRow) → rx_row rows sci an ≡ Some row → is_at of_sci of_an row ≡ true → IsLaterRow row (f row)) →
     RowStep input (rx_row rows sci an) (rx_row (map (at_place f of_sci of_an) rows) sci an)
 at_one input f keeps of_sci of_an rows sci an later =
-    mapped input (at_place f of_sci of_an) (at_one_place f keeps of_sci of_an) rows sci an
+    mapped input _ (at_one_place f keeps of_sci of_an) rows sci an
     (λ row there. by_test (is_at of_sci of_an row) row there refl)
   where
     by_test : (b : Bool) → (row : RxRow) → rx_row rows sci an ≡ Some row → is_at of_sci of_an row ≡ b →
@@ -93,13 +93,13 @@ at_one input f keeps of_sci of_an rows sci an later =
 -- ---- SAs are deleted and created
 
 -- the SAs of the place all stay, or none does
-kept_or_none : (keep : RxRow → Bool) (b : Bool) (rows : List RxRow) (sci : Sci) (an : ℕ) →
+kept_or_none : {keep : RxRow → Bool} (b : Bool) (rows : List RxRow) (sci : Sci) (an : ℕ) →
     ((r : RxRow) → is_at sci an r ≡ true → keep r ≡ b) →
     rx_row (filter keep rows) sci an ≡ (if b then rx_row rows sci an else None)
-kept_or_none keep true [] sci an same = refl
-kept_or_none keep false [] sci an same = refl
-kept_or_none keep b (r ∷ rows) sci an same =
-    by_tests (is_at sci an r) (keep r) refl refl (kept_or_none keep b rows sci an same)
+kept_or_none true [] sci an same = refl
+kept_or_none false [] sci an same = refl
+kept_or_none {keep} b (r ∷ rows) sci an same =
+    by_tests (is_at sci an r) (keep r) refl refl (kept_or_none b rows sci an same)
   where
     by_same : (left c : Bool) → left ≡ c → rx_row (filter keep rows) sci an ≡ (if c then rx_row rows sci an else None) →
         is_at sci an r ≡ true →
@@ -120,10 +120,10 @@ kept_or_none keep b (r ∷ rows) sci an same =
 filtered : (input : Input) (keep : RxRow → Bool) (b : Bool) (rows : List RxRow) (sci : Sci) (an : ℕ) →
     ((r : RxRow) → is_at sci an r ≡ true → keep r ≡ b) →
     RowStep input (rx_row rows sci an) (rx_row (filter keep rows) sci an)
-filtered input keep b rows sci an same = rw (kept_or_none keep b rows sci an same) (by_test b)
+filtered input keep b rows sci an same = rw (kept_or_none b rows sci an same) (by_test b)
   where
     by_test : (b' : Bool) → RowStep input (rx_row rows sci an) (if b' then rx_row rows sci an else None)
-    by_test true = still input (rx_row rows sci an)
+    by_test true = still input _
     by_test false = tt
 
 appended : (input : Input) (rows : List RxRow) (new : RxRow) (sci : Sci) (an : ℕ) → IsCreatedBy input new →
@@ -144,7 +144,7 @@ appended input (r ∷ rows) new sci an created = by_test (is_at sci an r) (appen
 -- ---- commands
 
 first_least : (last first : ℕ) → is_outside last first ≡ false → 1 ≤ first
-first_least last first inside = by_zero (eqb-false first 0 (or_parts (first == 0) (nat_lt last first) inside).0)
+first_least last first inside = by_zero (eqb-false first 0 (or_parts _ _ inside).0)
   where
     by_zero : (first ≡ 0 → ⊥) → 1 ≤ first
     by_zero differs = omega (arith, differs)
@@ -156,7 +156,7 @@ raised rows of_sci of_an pn above sci an row there here =
     let own = same_place row.sci sci row.an an (found_at rows sci an row there) in
     let other = same_place row.sci of_sci row.an of_an here in
     let found : rx_row rows of_sci of_an ≡ Some row = rw ((sym other.0 ∙ own.0), (sym other.1 ∙ own.1), there) in
-    let not_below : nat_lt pn row.lowest ≡ false = ap (holds_of (λ (r : RxRow). nat_lt pn r.lowest)) (sym found)
+    let not_below : nat_lt pn row.lowest ≡ false = ap (holds_of (λ r. nat_lt pn r.lowest)) (sym found)
     ∙ above in
     record { key = refl; lowest = ltb-false pn row.lowest not_below }
 
@@ -199,37 +199,35 @@ by_effect s c sci an none = still (operator_command c) (rx_row s.rx.rows sci an)
 by_command : (s : State) (c : Command) (sci : Sci) (an : ℕ) (r : Option Refusal) → refusal s c ≡ r →
     RowStep (operator_command c) (rx_row s.rx.rows sci an) (rx_row (unless_refused r s c).rx.rows sci an)
 by_command s c sci an None is = by_effect s c sci an is
-by_command s c sci an (Some r) is = still (operator_command c) (rx_row s.rx.rows sci an)
+by_command s c sci an (Some r) is = still _ _
 
 -- ---- frames
 
 accepting : (input : Input) (window : ℕ) (number : Option ℕ) (row : Option RxRow) (rows : List RxRow) (sci : Sci)
     (an : ℕ) →
     RowStep input (rx_row rows sci an) (rx_row (rows_accepting window number row rows) sci an)
-accepting input window None row rows sci an = still input (rx_row rows sci an)
-accepting input window (Some number) None rows sci an = still input (rx_row rows sci an)
 accepting input window (Some number) (Some row) rows sci an =
-    at_one input (row_accepting window number) (accepts window number) row.sci row.an rows sci an
+    at_one input _ (accepts window number) row.sci row.an rows sci an
     (λ r there here. record { key = refl; lowest = omega arith })
+accepting input window number row rows sci an = still input _
 
 by_fault : (input : Input) (s after : State) (output : Output) (fault : Option FrameFault) (sci : Sci) (an : ℕ) →
     RowStep input (rx_row s.rx.rows sci an) (rx_row after.rx.rows sci an) →
     RowStep input (rx_row s.rx.rows sci an) (rx_row (unless_fault fault s (output, after)).1.rx.rows sci an)
 by_fault input s after output None sci an stepped = stepped
-by_fault input s after output (Some f) sci an stepped = still input (rx_row s.rx.rows sci an)
+by_fault input s after output (Some f) sci an stepped = still input _
 
 -- ---- every input
 
 pub row_step : (s : State) (input : Input) (sci : Sci) (an : ℕ) →
     RowStep input (rx_row s.rx.rows sci an) (rx_row (step s input).1.rx.rows sci an)
-row_step s (operator_command c) sci an = by_command s c sci an (refusal s c) refl
+row_step s (operator_command c) sci an = by_command s c sci an _ refl
 row_step s (client_frame frame) sci an =
     by_fault (client_frame frame) s (state_after_sending s frame (sending_of s frame))
     (sent_output frame (sending_of s frame).leaving) (frame_fault frame) sci an
     (still (client_frame frame) (rx_row s.rx.rows sci an))
 row_step s (uncontrolled_frame frame) sci an =
-    by_fault (uncontrolled_frame frame) s s (leaves frame None) (frame_fault frame) sci an
-    (still (uncontrolled_frame frame) (rx_row s.rx.rows sci an))
+    by_fault _ s s _ _ sci an (still _ _)
 row_step s (link_frame frame) sci an =
     let j = judgement_of s frame in
     by_fault (link_frame frame) s (state_after_receiving s frame j) (received_output frame j) (frame_fault frame) sci an

@@ -6,11 +6,11 @@ use Rattle.macsec_restarts.proofs.{
   Names.{All-cons, All-head, All-map, All-nil, All-tail, AllPairs, AllPairs-cons, ap, append-nil, append_assoc, ap₂},
   Names.{AreSameBut, begins, Bool, closing, closing_of, closing_with, comes_in, delivered_from},
   Names.{delivered_from_forgetting, delivered_of, delivered_of_all, Delivery, End, EndConfig, false, Happening, get_or},
-  Names.{if◌then◌else◌, inside_of, installs_retired, IsSoundWith, Keeping, keeping_after, keeping_step, KeepingInput},
-  Names.{length, lets_through, List, map, newly_delivered, newly_delivered_with, newly_sent, no_pairs, None, not},
-  Names.{one_alone, opening, opening_with, Option, others_with, pairs-head, pairs-tail, refl, remembering, Run},
-  Names.{run_inside, runs_at, runs_of, RunWith, sent_from, sent_from_forgetting, sent_in_all, sent_of, sent_of_all},
-  Names.{SentIn, Some, suc, sym, true, ℕ},
+  Names.{if◌then◌else◌, inside_of, installs_retired, IsSoundWith, Keeping, keeping_after, KeepingInput, length},
+  Names.{lets_through, List, map, newly_delivered, newly_delivered_with, newly_sent, no_pairs, None, not, one_alone},
+  Names.{opening, opening_with, Option, others_with, pairs-head, pairs-tail, refl, remembering, Run, run_inside},
+  Names.{runs_at, RunWith, sent_from, sent_from_forgetting, sent_in_all, sent_of, sent_of_all, SentIn, Some, suc, sym},
+  Names.{true, ℕ},
   AheadForgets.{KeepersAlike, ahead_forgets_alike, stays_sound_inside},
   AheadInside.{delivered_inside, k_inside, sent_inside, stays},
   AheadOrder.{closing_with-input, inside_pushed},
@@ -34,9 +34,8 @@ push_last input (r ∷ later ∷ more) = r ∷ push_last input (later ∷ more)
 
 runs_with-last : (ahead : ℕ → Bool) (input : KeepingInput) (runs : List Run) → runs_with ahead (with_last input runs) ≡
     push_last input (runs_with ahead runs)
-runs_with-last ahead input [] = refl
-runs_with-last ahead input (run ∷ []) = refl
 runs_with-last ahead input (run ∷ later ∷ more) = rw (runs_with-last (λ n. ahead (suc n)) input (later ∷ more))
+runs_with-last ahead input runs = refl
 
 runs_with-more : (ahead : ℕ → Bool) (runs : List Run) (run : Run) → runs_with ahead (runs ++ run ∷ []) ≡ runs_with ahead
     runs ++ record { ahead = ahead (length runs); run = run } ∷ []
@@ -52,15 +51,14 @@ pub data Grows (e : End) (rs : List RunWith) : Happening → List RunWith → Ty
 
 pub grows : (ahead : End → ℕ → Bool) (e : End) (before : List Happening) (h : Happening) →
     Grows e (runs_at ahead e before) h (runs_at ahead e (before ++ h ∷ []))
-grows ahead e before h = by_next (runs_of e before) h (runs_of e (before ++ h ∷ [])) (is_next e before h)
+grows ahead e before h = by_next (is_next e before h)
   where
-    by_next : (runs : List Run) (h' : Happening) (after : List Run) → IsNext e runs h' after →
+    by_next : {runs : List Run} {h' : Happening} {after : List Run} → IsNext e runs h' after →
         Grows e (runs_with (ahead e) runs) h' (runs_with (ahead e) after)
-    by_next runs _ _ (same_runs h') = stays_as_it_is h'
-    by_next runs _ _ (new_run config journal) =
-        rw (runs_with-more (ahead e) runs (run_with config journal []))
-        (begins_run config journal (ahead e (length runs)))
-    by_next runs _ _ (new_input input) = rw (runs_with-last (ahead e) input runs) (gets_input input)
+    by_next (same_runs h') = stays_as_it_is h'
+    by_next {runs} (new_run config journal) =
+        rw (runs_with-more _ runs _) (begins_run config journal _)
+    by_next {runs} (new_input input) = rw (runs_with-last _ input runs) (gets_input input)
 
 -- ---- what they sent and delivered
 
@@ -70,7 +68,7 @@ sent-push : (inputs : List KeepingInput) (l : Ahead) (input : KeepingInput) →
 sent-push [] l input = append-nil (newly_sent l.k input)
 sent-push (i ∷ inputs) l input =
     rw (
-      sent-push inputs (ahead_forgetting_step l i).1 input,
+      sent-push inputs _ input,
       ← append_assoc (newly_sent l.k i)
           (sent_from_forgetting (ahead_forgetting_step l i).1 inputs)
           (newly_sent (ahead_forgetting_after (ahead_forgetting_step l i).1 inputs).k input),
@@ -82,7 +80,7 @@ delivered-push : (inputs : List KeepingInput) (l : Ahead) (input : KeepingInput)
 delivered-push [] l input = append-nil (newly_delivered_with l input)
 delivered-push (i ∷ inputs) l input =
     rw (
-      delivered-push inputs (ahead_forgetting_step l i).1 input,
+      delivered-push inputs _ input,
       ← append_assoc (newly_delivered_with l i)
           (delivered_from_forgetting (ahead_forgetting_step l i).1 inputs)
           (newly_delivered_with (ahead_forgetting_after (ahead_forgetting_step l i).1 inputs) input),
@@ -109,7 +107,7 @@ sent_of_all-push : (input : KeepingInput) (rs : List RunWith) → sent_of_all (p
 sent_of_all-push input [] = refl
 sent_of_all-push input (r ∷ []) =
     append-nil (sent_of (push input r)) ∙ sent_of-push input r ∙
-    ap (λ (xs : List SentIn). xs ++ newly_sent (closing_of r).k input) (sym (append-nil (sent_of r)))
+    ap (λ xs. xs ++ newly_sent (closing_of r).k input) (sym (append-nil (sent_of r)))
 sent_of_all-push input (r ∷ later ∷ more) =
     rw (
       sent_of_all-push input (later ∷ more),
@@ -122,7 +120,7 @@ pub delivered_of_all-push : (input : KeepingInput) (rs : List RunWith) → deliv
 delivered_of_all-push input [] = refl
 delivered_of_all-push input (r ∷ []) =
     append-nil (delivered_of (push input r)) ∙ delivered_of-push input r ∙
-    ap (λ (ds : List Delivery). ds ++ newly_delivered_with (closing_of r) input) (sym (append-nil (delivered_of r)))
+    ap (λ ds. ds ++ newly_delivered_with (closing_of r) input) (sym (append-nil (delivered_of r)))
 delivered_of_all-push input (r ∷ later ∷ more) =
     rw (
       delivered_of_all-push input (later ∷ more),
@@ -151,8 +149,7 @@ sends_more e rs _ _ (stays_as_it_is h) = record { added = []; more = sym (append
 sends_more e rs _ _ (begins_run config journal b) =
     record {
       added = [];
-      more = sent_of_all-new rs (record { ahead = b; run = run_with config journal [] }) refl ∙
-          sym (append-nil (sent_of_all rs));
+      more = sent_of_all-new rs _ refl ∙ sym (append-nil (sent_of_all rs));
     }
 sends_more e rs _ _ (gets_input input) = record {
   added = sent_by_last (last_of rs) input;
@@ -185,8 +182,7 @@ pairs_less R by input (r ∷ later ∷ more) pairs =
 one_less : (R : RunWith → RunWith → Type 0) → IsHereditary R → (e : End) (rs : List RunWith) (h : Happening)
     (after : List RunWith) → Grows e rs h after → AllPairs R after → AllPairs R rs
 one_less R by e rs _ _ (stays_as_it_is h) pairs = pairs
-one_less R by e rs _ _ (begins_run config journal b) pairs = first_pairs R rs
-    (record { ahead = b; run = run_with config journal [] } ∷ []) pairs
+one_less R by e rs _ _ (begins_run config journal b) pairs = first_pairs R rs _ pairs
 one_less R by e rs _ _ (gets_input input) pairs = pairs_less R by input rs pairs
 
 pub pairs_first : (R : RunWith → RunWith → Type 0) → IsHereditary R → (ahead : End → ℕ → Bool) (e : End)
@@ -200,10 +196,8 @@ pairs_first R by ahead e (h ∷ more) before pairs =
 sound_one_less : (e : End) (rs : List RunWith) (h : Happening) (after : List RunWith) → Grows e rs h after →
     All IsSoundWith after → All IsSoundWith rs
 sound_one_less e rs _ _ (stays_as_it_is h) sounds = sounds
-sound_one_less e rs _ _ (begins_run config journal b) sounds = first_all IsSoundWith rs
-    (record { ahead = b; run = run_with config journal [] } ∷ []) sounds
-sound_one_less e rs _ _ (gets_input input) sounds = all_less IsSoundWith input (λ r. sound_less r.ahead input r.run) rs
-    sounds
+sound_one_less e rs _ _ (begins_run config journal b) sounds = first_all IsSoundWith rs _ sounds
+sound_one_less e rs _ _ (gets_input input) sounds = all_less _ input (λ r. sound_less r.ahead input r.run) rs sounds
 
 pub sound_first : (ahead : End → ℕ → Bool) (e : End) (more before : List Happening) →
     All IsSoundWith (runs_at ahead e (before ++ more)) → All IsSoundWith (runs_at ahead e before)
@@ -253,7 +247,7 @@ beside-push input r = ap (closing_with r.ahead) (remembering_pushed r.ahead inpu
 
 unused_after : (inputs : List KeepingInput) (k : Keeping) → AreUnused k.secy → AreUnused (keeping_after k inputs).secy
 unused_after [] k unused = unused
-unused_after (input ∷ inputs) k unused = unused_after inputs (keeping_step k input).1 (stay_unused k input unused)
+unused_after (input ∷ inputs) k unused = unused_after inputs _ (stay_unused k input unused)
 
 -- the first of two lists can be left out
 cancel : {X : Type 0} (xs ys zs : List X) → xs ++ ys ≡ xs ++ zs → ys ≡ zs
@@ -265,8 +259,7 @@ module _ (alike : KeepersAlike) where
   sound_inside r sound = stays_sound_inside alike r.ahead r.run sound
 
   pub sounds_inside : (rs : List RunWith) → All IsSoundWith rs → All IsSoundRun (map inside_of rs)
-  sounds_inside rs sounds = All-map IsSoundRun inside_of rs (λ i d within. sound_inside (get_or rs i d)
-      (sounds i d within))
+  sounds_inside rs sounds = All-map IsSoundRun _ rs (λ i d within. sound_inside (get_or rs i d) (sounds i d within))
 
   pub sent_same : (r : RunWith) → IsSoundWith r → sent_of r ≡ sent_from (opening (inside_of r)) (inside_of r).inputs
   sent_same r sound =
@@ -304,11 +297,10 @@ module _ (alike : KeepersAlike) where
       newly_delivered_with (closing_of r) input ≡ (if passes_in r input then newly_delivered (closing (inside_of r))
       input else [])
   delivers r input sound sound' =
-      cancel (delivered_of r) (newly_delivered_with (closing_of r) input) (if passes_in r input then newly_delivered
-      (closing (inside_of r)) input else [])
+      cancel _ _ (if passes_in r input then newly_delivered (closing (inside_of r)) input else [])
       (sym (delivered_of-push input r) ∙ delivered_same (push input r) sound'
-      ∙ ap (λ (q : Run). delivered_from (opening q) q.inputs) (inside-push input r) ∙ by_test (passes_in r input)
-      ∙ ap (λ (ds : List Delivery). ds ++ (if passes_in r input then newly_delivered (closing (inside_of r)) input
+      ∙ ap (λ q. delivered_from (opening q) q.inputs) (inside-push input r) ∙ by_test (passes_in r input)
+      ∙ ap (λ ds. ds ++ (if passes_in r input then newly_delivered (closing (inside_of r)) input
       else [])) (sym (delivered_same r sound)))
     where
       q : Run
@@ -319,7 +311,7 @@ module _ (alike : KeepersAlike) where
 
       by_test : (b : Bool) → list_of (if b then with_input input q else q) ≡ list_of q ++
           (if b then newly_delivered (closing q) input else [])
-      by_test true = delivered_from-push q.inputs (opening q) input
+      by_test true = delivered_from-push q.inputs _ input
       by_test false = sym (append-nil (list_of q))
 
   pub goes : (r : RunWith) (input : KeepingInput) → IsSoundWith r → IsSoundWith (push input r) → Goes r input

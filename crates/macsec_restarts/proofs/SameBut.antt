@@ -12,11 +12,11 @@ use Rattle.{
     Names.{is_at, is_disabled, is_late, is_retired, is_strict, is_valid, IsMember, judge_number, judge_opened},
     Names.{judge_reading, judge_row, judge_validated, Judgement, judgement_of, Keeping, keeping_step, KeepingInput},
     Names.{last_of, Late, length, link_frame, List, may_go, MpduParts, nat_lt, newly_delivered, newly_sent, no_sa},
-    Names.{None, NoSa, NoSaError, not, not_protected, NoTag, NotValid, now_durable, number_of_frame, octets_added},
-    Names.{Option, or_parts, Output, plaintext_of, protected, protected_frame, Reading, reading, refl, RefusesRetired},
-    Names.{Reserved, row_name, row_on, rx_options, rx_uses, RxOptions, RxRow, Sci, sci_of, Sending, sending_by},
-    Names.{sending_of, sent_by, SentIn, Some, State, step, sym, tag_sent, tagged, the_key, too_long, true, tx_options},
-    Names.{tx_uses, TxOptions, TxRow, Unchecked, Untagged, untagged, use_sent, without_row, ℕ},
+    Names.{None, NoSa, NoSaError, not, not_protected, NoTag, NotValid, number_of_frame, octets_added, Option, or_parts},
+    Names.{Output, protected, protected_frame, Reading, refl, RefusesRetired, Reserved, row_name, row_on, rx_options},
+    Names.{RxOptions, RxRow, Sci, sci_of, Sending, sending_by, sending_of, sent_by, SentIn, Some, State, step, sym},
+    Names.{tag_sent, tagged, the_key, too_long, true, tx_options, TxOptions, TxRow, Unchecked, Untagged, untagged},
+    Names.{use_sent, without_row, ℕ},
     AheadPast.not_used,
     RetiredUnused.AreUnused,
   },
@@ -36,7 +36,7 @@ found_in test (y ∷ ys) x is = by_test (test y) is (found_in test ys x)
 in_use_there : (rows : List RxRow) (an : ℕ) (o : Option Sci) (row : RxRow) → in_use rows an o ≡ Some row →
     IsMember rows row
 in_use_there rows an None row is = cc
-in_use_there rows an (Some sci) row is = found_in (λ (r : RxRow). is_at sci an r && r.on) rows row is
+in_use_there rows an (Some sci) row is = found_in (λ r. is_at sci an r && r.on) rows row is
 
 opened_row : (options : RxOptions) (key : InstalledKey) (row : RxRow) (number : ℕ) (p : MpduParts)
     (o : Option (List ℕ)) → (judge_opened options key row number p o).row ≡ Some row
@@ -61,13 +61,11 @@ number_row options key row p (Some number) =
         else if disabled then at_row row number 10 (if is_late row.lowest number then Delayed else Unchecked)
         (Some (bare_frame p))
         else judge_validated options key row number p).row ≡ Some row
-    by_three true unusable disabled = refl
-    by_three false true disabled = refl
-    by_three false false true = refl
-    by_three false false false = opened_row options key row number p (plaintext_of key row number p)
+    by_three false false false = opened_row options key row number p _
+    by_three dropped unusable disabled = refl
 
 no_sa_row : (s : State) (p : MpduParts) (row : RxRow) → (judge_row (rx_options s) s.keys p None).row ≡ Some row → ⊥
-no_sa_row s p row is = by_mode (is_strict s.options.mode || p.tag.c) is
+no_sa_row s p row is = by_mode _ is
   where
     by_mode : (b : Bool) → (if b then without_row 5 NoSaError None else without_row 6 NoSa (Some (bare_frame p))).row ≡
         Some row → ⊥
@@ -75,7 +73,7 @@ no_sa_row s p row is = by_mode (is_strict s.options.mode || p.tag.c) is
     by_mode false is' = cc
 
 untagged_row : (s : State) (frame : List ℕ) (row : RxRow) → (judge_reading s frame untagged).row ≡ Some row → ⊥
-untagged_row s frame row is = by_mode (is_strict s.options.mode) is
+untagged_row s frame row is = by_mode _ is
   where
     by_mode : (b : Bool) → (if b then without_row 1 NoTag None else without_row 2 Untagged (Some frame)).row ≡
         Some row → ⊥
@@ -137,9 +135,9 @@ module _ (s t : State) (same : AreSameBut s t) (unused : AreUnused s) where
     where
       by_test : (b : Bool) → is_retired s.keys row.key ≡ b → b ≡ false
       by_test true is =
-          let none = (or_parts (tx_uses s.tx row.key) (rx_uses s.rx.rows row.key) (unused row.key is)).0 in
+          let none = (or_parts _ _ (unused row.key is)).0 in
           let no : true ≡ false = sym (eq-eqb row.key row.key refl)
-          ∙ found_unused (λ (r : TxRow). r.key == row.key) (λ (r : TxRow). r.on) s.tx row none on in
+          ∙ found_unused (λ r. r.key == row.key) (λ r. r.on) s.tx row none on in
           cc
       by_test false is = refl
 
@@ -152,22 +150,18 @@ module _ (s t : State) (same : AreSameBut s t) (unused : AreUnused s) where
 
   read_same : (frame : List ℕ) (r : Reading) →
       judge_reading (record s { keys = t.keys }) frame r ≡ judge_reading s frame r
-  read_same frame untagged = refl
-  read_same frame (bad fault) = refl
   read_same frame (tagged p) =
-      judged_row p (in_use s.rx.rows p.tag.an (sci_of s.rx.scis p))
-      (λ row is. in_use_there s.rx.rows p.tag.an (sci_of s.rx.scis p) row is)
+      judged_row p _ (λ row is. in_use_there _ p.tag.an _ row is)
+  read_same frame r = refl
 
   pub judged_same : (frame : List ℕ) → judgement_of t frame ≡ judgement_of s frame
-  judged_same frame = rw (same.same, read_same frame (reading frame))
+  judged_same frame = rw (same.same, read_same frame _)
 
   delivered_same : (j : Judgement) (f : Option FrameFault) (o : Option RxRow) (delivered : Option (List ℕ)) →
       ((row : RxRow) → o ≡ Some row → IsMember s.rx.rows row) →
       delivered_by t j f o delivered ≡ delivered_by s j f o delivered
-  delivered_same j (Some f) o delivered there = refl
-  delivered_same j None None delivered there = refl
-  delivered_same j None (Some row) None there = refl
   delivered_same j None (Some row) (Some delivered) there = rw (rx_key row (there row refl))
+  delivered_same j f o delivered there = refl
 
   pub name_same : (salt : List ℕ) (row : RxRow) → IsMember s.rx.rows row → row_name salt t row ≡ row_name salt s row
   name_same salt row there = rw (rx_key row there)
@@ -181,14 +175,13 @@ module _ (s t : State) (same : AreSameBut s t) (unused : AreUnused s) where
   by_row frame (Some row) keys = rw (keys row refl)
 
   sending_same : (frame : List ℕ) → sending_of t frame ≡ sending_of s frame
-  sending_same frame = rw (same.same, by_row frame (row_on s.tx) tx_key)
+  sending_same frame = rw (same.same, by_row frame _ tx_key)
 
   sealed_same : (frame : List ℕ) (f : Option FrameFault) (by : Option TxRow) → (by ≡ None) ⊎ (by ≡ row_on s.tx) →
       sent_by (record s { keys = t.keys }) frame f by ≡ sent_by s frame f by
-  sealed_same frame (Some f) by is = refl
-  sealed_same frame None None is = refl
   sealed_same frame None (Some row) (inl none) = cc
   sealed_same frame None (Some row) (inr on) = rw (tx_key row (sym on))
+  sealed_same frame f by is = refl
 
   pub sent_same : (frame : List ℕ) → sent_by t frame (frame_fault frame) (sending_of t frame).by ≡
       sent_by s frame (frame_fault frame) (sending_of s frame).by
@@ -196,27 +189,23 @@ module _ (s t : State) (same : AreSameBut s t) (unused : AreUnused s) where
       rw (
         sending_same frame,
         same.same,
-        sealed_same frame (frame_fault frame) (sending_of s frame).by
-            (by_none_or_on (tx_options s) s.keys s.tx frame),
+        sealed_same frame _ _ (by_none_or_on (tx_options s) s.keys s.tx frame),
       )
 
 -- ---- the keeping endpoints
 
 module _ (k f : Keeping) (same : AreSameBut k.secy f.secy) (unused : AreUnused k.secy) where
   pub newly_delivered_same : (input : KeepingInput) → newly_delivered f input ≡ newly_delivered k input
-  newly_delivered_same (now_durable r) = refl
   newly_delivered_same (endpoint_input (link_frame frame)) =
       let j = judgement_of k.secy frame in
-      ap (λ (x : Judgement). delivered_by f.secy x (frame_fault frame) x.row x.delivered)
+      ap (λ x. delivered_by f.secy x (frame_fault frame) x.row x.delivered)
       (judged_same k.secy f.secy same unused frame)
-      ∙ delivered_same k.secy f.secy same unused j (frame_fault frame) j.row j.delivered
-      (λ row is. judged_there k.secy frame (reading frame) row is)
+      ∙ delivered_same k.secy f.secy same unused j _ j.row _ (λ row is. judged_there k.secy frame _ row is)
   newly_delivered_same input = refl
 
   pub is_valid_same : (input : KeepingInput) → is_valid f.secy input ≡ is_valid k.secy input
-  is_valid_same (now_durable r) = refl
   is_valid_same (endpoint_input (link_frame frame)) =
-      ap (λ (j : Judgement). j.step == 13) (judged_same k.secy f.secy same unused frame)
+      ap (λ j. j.step == 13) (judged_same k.secy f.secy same unused frame)
   is_valid_same input = refl
 
   no_refusal : RefusesRetired dropped_no_reservation → ⊥
@@ -225,25 +214,21 @@ module _ (k f : Keeping) (same : AreSameBut k.secy f.secy) (unused : AreUnused k
 
   -- a frame is dropped by both, or by none
   go_same : (b c : Bool) (x y : Output × State) → AreAlike (by_tests false b k x).0 (by_tests false c f y).0 → c ≡ b
-  go_same true true x y alike = refl
-  go_same false false x y alike = refl
   go_same true false x y (inl is) = cc
   go_same true false x y (inr refuse) = absurd (no_refusal refuse.1)
   go_same false true x y (inl is) = cc
   go_same false true x y (inr refuse) = absurd (no_refusal refuse.0)
+  go_same b c x y alike = refl
 
   pub newly_sent_same : (input : KeepingInput) → AreAlike (keeping_step k input).0 (forgetting_step f input).0 →
       newly_sent f input ≡ newly_sent k input
-  newly_sent_same (now_durable r) alike = refl
   newly_sent_same (endpoint_input (client_frame frame)) alike =
       let go : may_go f (client_frame frame) ≡ may_go k (client_frame frame) =
-      go_same (may_go k (client_frame frame)) (may_go f (client_frame frame)) (step k.secy (client_frame frame))
-      (step f.secy (client_frame frame)) alike in
-      ap (λ (b : Bool). if b then sent_by f.secy frame (frame_fault frame) (sending_of f.secy frame).by else []) go
-      ∙ ap (λ (xs : List SentIn). if may_go k (client_frame frame) then xs else [])
-      (sent_same k.secy f.secy same unused frame)
+      go_same _ _ _ _ alike in
+      ap (λ b. if b then sent_by f.secy frame (frame_fault frame) (sending_of f.secy frame).by else []) go
+      ∙ ap (λ xs. if may_go k (client_frame frame) then xs else []) (sent_same k.secy f.secy same unused frame)
   newly_sent_same input alike = refl
 
 pub row_there : (s : State) (frame : List ℕ) (row : RxRow) → (judgement_of s frame).row ≡ Some row →
     IsMember s.rx.rows row
-row_there s frame row is = judged_there s frame (reading frame) row is
+row_there s frame row is = judged_there s frame _ row is

@@ -2,16 +2,16 @@
 -- frame.
 use Rattle.{
   macsec_secy.specs.Protects.OpensAs,
-  macsec_reserve.specs.{Histories.{sealed_from}},
+  macsec_reserve.specs.{Histories.sealed_from},
   macsec_link.proofs.Seals.sealed_from as from_new,
   macsec_restarts.proofs.{
     Names.{[], ◌∙◌, ◌∷◌, ◌≡◌, ◌⊎◌, All, All-append, All-cons, All-contains, All-head, All-nil, All-tail, All-weaker},
     Names.{AllPairs, Bool, CipherUse, client_frame, closing, contained, endpoint_input, EndpointLaws, false},
-    Names.{frame_fault, FrameFault, from_later, get_or, if◌then◌else◌, inl, inr, IsFrom, IsMember, IsSound, Keeping},
-    Names.{keeping_after, keeping_step, KeepingInput, KeysStay, last_run, link_frame, List, map, map-append, may_go},
-    Names.{newly_sent, None, now_durable, opening, operator_command, Option, pairs-head, pairs-tail, refl, Run},
-    Names.{sealed_by, sealed_if, sealed_in_all, sending_of, sent_by, sent_from, sent_in_all, SentIn, Some, State},
-    Names.{StaysSound, step, suc, sym, the_key, true, tx_options, TxRow, uncontrolled_frame, use_sent, ℕ},
+    Names.{frame_fault, FrameFault, from_later, if◌then◌else◌, inl, inr, IsFrom, IsMember, IsSound, Keeping},
+    Names.{keeping_after, keeping_step, KeepingInput, KeysStay, last_run, List, map, map-append, may_go, newly_sent},
+    Names.{None, now_durable, opening, Option, pairs-head, pairs-tail, refl, Run, sealed_by, sealed_if, sealed_in_all},
+    Names.{sending_of, sent_by, sent_from, sent_in_all, SentIn, Some, State, StaysSound, step, suc, sym, the_key, true},
+    Names.{tx_options, TxRow, use_sent, ℕ},
     SoundRuns.{IsSoundRun, stay_after},
   },
   macsec_restarts.specs.Sent.ListsEachUse,
@@ -46,13 +46,13 @@ each_new k (endpoint_input (client_frame frame)) =
     by_tests : (go : Bool) → may_go k (client_frame frame) ≡ go → (f : Option FrameFault) → frame_fault frame ≡ f →
         (by : Option TxRow) → (sending_of k.secy frame).by ≡ by → All P (if go then sent_by k.secy frame f by else [])
     by_tests true go None fits (Some row) sent =
-        All-cons P (sent_at k.secy frame row) [] (is_new frame row fits sent go) (All-nil P)
+        All-cons P _ [] (is_new frame row fits sent go) (All-nil P)
     by_tests b go f fits by sent = All-nil P
-each_new k input = All-nil (IsNew k input)
+each_new k input = All-nil _
 
-sent_new : EndpointLaws → (k : Keeping) (input : KeepingInput) (x : SentIn) → IsSound k.secy → IsNew k input x →
+sent_new : EndpointLaws → {k : Keeping} {input : KeepingInput} {x : SentIn} → IsSound k.secy → IsNew k input x →
     IsSentBy (keeping_step k input).1.secy x
-sent_new laws k _ _ sound (is_new frame row fits sent go) =
+sent_new laws {k} sound (is_new frame row fits sent go) =
     let it : IsSentBy (step k.secy (client_frame frame)).1 (sent_at k.secy frame row) =
     record {
       from = from_new laws k.secy frame row sound fits sent;
@@ -63,20 +63,18 @@ sent_new laws k _ _ sound (is_new frame row fits sent go) =
 pub by_input : EndpointLaws → (k : Keeping) (input : KeepingInput) → IsSound k.secy →
     All (IsSentBy (keeping_step k input).1.secy) (newly_sent k input)
 by_input laws k input sound i d within =
-    sent_new laws k input (get_or (newly_sent k input) i d) sound (each_new k input i d within)
+    sent_new laws sound (each_new k input i d within)
 
 -- ---- a run
 
 pub by_inputs : EndpointLaws → (inputs : List KeepingInput) (k : Keeping) → StaysSound k inputs →
     All (IsSentBy (keeping_after k inputs).secy) (sent_from k inputs)
-by_inputs laws [] k sound = All-nil (IsSentBy k.secy)
+by_inputs laws [] k sound = All-nil _
 by_inputs laws (input ∷ inputs) k sound =
     let after = (keeping_step k input).1 in
     let last = (keeping_after after inputs).secy in
     let stay = stay_after laws inputs after (λ n. sound (suc n)) in
-    All-append (IsSentBy last) (newly_sent k input) (sent_from after inputs)
-    (All-weaker (IsSentBy after.secy) (IsSentBy last) (sent_later after.secy last stay) (newly_sent k input)
-    (by_input laws k input (sound 0)))
+    All-append (IsSentBy last) _ _ (All-weaker _ _ (sent_later _ last stay) _ (by_input laws k input (sound 0)))
     (by_inputs laws inputs after (λ n. sound (suc n)))
 
 -- ---- all runs
@@ -91,8 +89,8 @@ pub record IsSentIn (runs : List Run) (x : SentIn) : Type 0 where
 pub by_runs : EndpointLaws → (runs : List Run) → All IsSoundRun runs → All (IsSentIn runs) (sent_in_all runs)
 by_runs laws [] sounds = All-nil (IsSentIn [])
 by_runs laws (run ∷ runs) sounds =
-    let sound : IsSoundRun run = All-head IsSoundRun run runs sounds in
-    let P : SentIn → Type 0 = IsSentIn (run ∷ runs) in
+    let sound = All-head IsSoundRun run runs sounds in
+    let P = IsSentIn (run ∷ runs) in
     All-append P (sent_from (opening run) run.inputs) (sent_in_all runs)
     (All-weaker (IsSentBy (closing run).secy) P (λ x it. record { run = run; among = inl refl; sound = sound; it = it })
     (sent_from (opening run) run.inputs)
@@ -119,11 +117,9 @@ none_if false = refl
 
 pub seals_of_input : (k : Keeping) (input : KeepingInput) → ListsEachUse k input
 seals_of_input k (now_durable r) = refl
-seals_of_input k (endpoint_input (operator_command c)) = none_if (may_go k (operator_command c))
 seals_of_input k (endpoint_input (client_frame frame)) =
-    seals_by k.secy frame (may_go k (client_frame frame)) (frame_fault frame) (sending_of k.secy frame).by
-seals_of_input k (endpoint_input (uncontrolled_frame frame)) = none_if (may_go k (uncontrolled_frame frame))
-seals_of_input k (endpoint_input (link_frame frame)) = none_if (may_go k (link_frame frame))
+    seals_by k.secy frame _ _ _
+seals_of_input k input = none_if _
 
 seals_of_inputs : (inputs : List KeepingInput) (k : Keeping) →
     map seal_of_sent (sent_from k inputs) ≡ sealed_from k inputs
@@ -133,7 +129,7 @@ seals_of_inputs (input ∷ inputs) k =
       map-append seal_of_sent (newly_sent k input) (sent_from (keeping_step k input).1 inputs),
       seals_of_input k
           input,
-      seals_of_inputs inputs (keeping_step k input).1,
+      seals_of_inputs inputs _,
     )
 
 pub seals_of_runs : (runs : List Run) → map seal_of_sent (sent_in_all runs) ≡ sealed_in_all runs
@@ -141,8 +137,7 @@ seals_of_runs [] = refl
 seals_of_runs (run ∷ runs) =
     rw (
       map-append seal_of_sent (sent_from (opening run) run.inputs) (sent_in_all runs),
-      seals_of_inputs run.inputs
-          (opening run),
+      seals_of_inputs _ _,
       seals_of_runs runs,
     )
 

@@ -12,7 +12,7 @@ use Rattle.{
       Names.{pairs-append, pairs-head, pairs-tail, reduced, reduced_reserves, refl, reported_in, Reservation},
       Names.{reservations, Rises, Run, salt_of, salt_stays, SameSalt, sending_name, sending_of, sent_by, sent_from},
       Names.{sent_in_all, SentIn, Some, State, StaysSound, subst, suc, sym, the_key, true, TxRow, ℕ},
-      Sends.{IsNew, IsSentBy, by_input, each_new, is_new, sent_at},
+      Sends.{IsNew, IsSentBy, by_input, each_new, is_new},
       SoundRuns.{IsSoundRun, keys_stay},
     },
     specs.{Sent.NumbersRise, Used.{Covers, IsWeaker, RisesIfUsedIsKept}},
@@ -21,39 +21,37 @@ use Rattle.{
 
 -- ---- one run
 
-rises_now : EndpointLaws → (k : Keeping) (x : SentIn) → IsSound k.secy → IsFrom k.secy x.seal x.number →
-    (input : KeepingInput) (y : SentIn) → IsNew k input y → Rises x y
-rises_now laws k x sound from _ _ (is_new frame row fits by go) bytes =
+rises_now : EndpointLaws → {k : Keeping} (x : SentIn) → IsSound k.secy → IsFrom k.secy x.seal x.number →
+    {input : KeepingInput} {y : SentIn} → IsNew k input y → Rises x y
+rises_now laws {k} x sound from (is_new frame row fits by go) bytes =
     let s = k.secy in
     let it = laws.protects s frame row sound fits by in
     let key = the_key s.keys row.key in
     let there : Contains s.keys key = ((laws.keys_apart s sound).found row.key it.there).there in
     let one : from.key ≡ key = (laws.keys_apart s sound).by_bytes from.key key from.there there
     (sym from.bytes ∙ bytes) in
-    let used : x.number < key.first_unused = rw one at from.used in
+    let used = rw one at from.used in
     omega (arith, used, it.unused)
 
 rises_after : EndpointLaws → (inputs : List KeepingInput) (k : Keeping) (x : SentIn) → StaysSound k inputs →
     IsFrom k.secy x.seal x.number → All (Rises x) (sent_from k inputs)
-rises_after laws [] k x sound from = All-nil (Rises x)
+rises_after laws [] k x sound from = All-nil _
 rises_after laws (input ∷ inputs) k x sound from =
     let after = (keeping_step k input).1 in
-    All-append (Rises x) (newly_sent k input) (sent_from after inputs) (λ i d within. rises_now laws k x (sound 0) from
-    input (get_or (newly_sent k input) i d) (each_new k input i d within))
+    All-append (Rises x) _ _ (λ i d within. rises_now laws x (sound 0) from (each_new k input i d within))
     (rises_after laws inputs after x (λ n. sound (suc n))
-    (from_later k.secy after.secy x.seal x.number (keys_stay laws k input (sound 0)) from))
+    (from_later k.secy _ x.seal x.number (keys_stay laws k input (sound 0)) from))
 
 one_at_most : (s : State) (frame : List ℕ) (fault : Option FrameFault) (by : Option TxRow) (go : Bool) →
     AllPairs Rises (if go then sent_by s frame fault by else [])
 one_at_most s frame fault by false = no_pairs Rises
 one_at_most s frame (Some f) by true = no_pairs Rises
 one_at_most s frame None None true = no_pairs Rises
-one_at_most s frame None (Some row) true = one_alone Rises (sent_at s frame row)
+one_at_most s frame None (Some row) true = one_alone Rises _
 
 new_pairs : (k : Keeping) (input : KeepingInput) → AllPairs Rises (newly_sent k input)
-new_pairs k (now_durable r) = no_pairs Rises
 new_pairs k (endpoint_input (client_frame frame)) =
-    one_at_most k.secy frame (frame_fault frame) (sending_of k.secy frame).by (may_go k (client_frame frame))
+    one_at_most k.secy frame _ _ _
 new_pairs k input = no_pairs Rises
 
 pub in_run : EndpointLaws → (inputs : List KeepingInput) (k : Keeping) → StaysSound k inputs →
@@ -75,16 +73,14 @@ pub record IsLeased (before : List Reservation) (salt : List ℕ) (most : List �
 
 only_one : (keeps b : Bool) → keeps ≡ true → not keeps || not (not b || false) ≡ true → b ≡ true
 only_one true true is go = refl
-only_one true false is go = cc
-only_one false b is go = cc
+only_one keeps b is go = cc
 
 may_be_used : (k : Keeping) (frame : List ℕ) (row : TxRow) → k.keeps ≡ true → frame_fault frame ≡ None →
     (sending_of k.secy frame).by ≡ Some row →
     may_go k (client_frame frame) ≡ true → may_use k (row.key, row.next) ≡ true
 may_be_used k frame row keeps fits by go =
     let uses : number_used k.secy (client_frame frame) ≡ (row.key, row.next) ∷ [] = rw (fits, by) in
-    only_one k.keeps (may_use k (row.key, row.next)) keeps
-    (rw uses at go)
+    only_one k.keeps _ keeps (rw uses at go)
 
 leased_now : (k : Keeping) → k.keeps ≡ true → (input : KeepingInput) (x : SentIn) → IsNew k input x →
     IsLeased k.before k.salt (highest k.granted) x
@@ -112,7 +108,7 @@ pub leased : (inputs : List KeepingInput) (k : Keeping) → k.keeps ≡ true →
 leased [] k keeps = All-nil (IsLeased k.before k.salt (most_of k []))
 leased (input ∷ inputs) k keeps =
     let after = (keeping_step k input).1 in
-    let P : SentIn → Type 0 = IsLeased k.before k.salt (most_of k (input ∷ inputs)) in
+    let P = IsLeased k.before k.salt (most_of k (input ∷ inputs)) in
     All-append P (newly_sent k input) (sent_from after inputs)
     (λ i d within'.
     let it = leased_now k keeps input (get_or (newly_sent k input) i d) (each_new k input i d within') in
@@ -120,7 +116,7 @@ leased (input ∷ inputs) k keeps =
     (All-weaker (IsLeased after.before after.salt (most_of after inputs)) P
     (λ x it.
     let here : IsLeased k.before k.salt (most_of after inputs) x =
-    subst (λ (salt : List ℕ). IsLeased k.before salt (most_of after inputs) x) (salt_stays k input)
+    subst (λ salt. IsLeased k.before salt (most_of after inputs) x) (salt_stays k input)
     (rw (before_stays k input) at it) in
     record {
       above = here.above;
@@ -141,26 +137,21 @@ between run later salt durable x y first second bytes =
 
 to_later : (run : Run) (x : SentIn) → IsLeasedIn run x → (later : List Run) → All (SameSalt run) later →
     All (KeepsDurable run) later → All (Rises x) (sent_in_all later)
-to_later run x first [] salt durable = All-nil (Rises x)
+to_later run x first [] salt durable = All-nil _
 to_later run x first (q ∷ qs) salt durable =
-    All-append (Rises x) (sent_from (opening q) q.inputs) (sent_in_all qs)
-    (All-weaker (IsLeasedIn q) (Rises x) (λ y second. between run q (All-head (SameSalt run) q qs salt)
-    (All-head (KeepsDurable run) q qs durable) x y first second) (sent_from (opening q) q.inputs)
-    (leased q.inputs (opening q) refl))
+    All-append (Rises x) _ _ (All-weaker _ _ (λ y second. between run q (All-head (SameSalt run) q qs salt)
+    (All-head (KeepsDurable run) q qs durable) x y first second) _ (leased q.inputs _ refl))
     (to_later run x first qs (All-tail (SameSalt run) q qs salt) (All-tail (KeepsDurable run) q qs durable))
 
 pub sends_rise : EndpointLaws → (runs : List Run) → All IsSoundRun runs → AllPairs SameSalt runs →
     AllPairs KeepsDurable runs → AllPairs Rises (sent_in_all runs)
 sends_rise laws [] sound salt durable = no_pairs Rises
 sends_rise laws (run ∷ runs) sound salt durable =
-    pairs-append Rises (sent_from (opening run) run.inputs) (sent_in_all runs)
-    (in_run laws run.inputs (opening run) (All-head IsSoundRun run runs sound))
+    pairs-append Rises _ _ (in_run laws _ _ (All-head IsSoundRun run runs sound))
     (sends_rise laws runs (All-tail IsSoundRun run runs sound) (pairs-tail SameSalt run runs salt)
-    (pairs-tail KeepsDurable run runs durable))
-    (All-weaker (IsLeasedIn run) (λ x. All (Rises x) (sent_in_all runs))
+    (pairs-tail KeepsDurable run runs durable)) (All-weaker _ (λ x. All (Rises x) (sent_in_all runs))
     (λ x first. to_later run x first runs (pairs-head SameSalt run runs salt)
-    (pairs-head KeepsDurable run runs durable)) (sent_from (opening run) run.inputs)
-    (leased run.inputs (opening run) refl))
+    (pairs-head KeepsDurable run runs durable)) _ (leased run.inputs (opening run) refl))
 
 pub numbers_rise : EndpointLaws → (runs : List Run) → NumbersRise runs
 numbers_rise laws runs is = sends_rise laws runs is.sound is.salt is.durable
@@ -181,22 +172,21 @@ pub rises_in : (run q : Run) → KeepsUsed run q →
     All (λ x. All (Rises x) (sent_from (opening q) q.inputs)) (sent_from (opening run) run.inputs)
 rises_in run q keeps i d within j e within' =
     let sends = sent_from (opening q) q.inputs in
-    above_used q (get_or (sent_from (opening run) run.inputs) i d) (get_or sends j e)
-    (keeps i d within j e within') (leased q.inputs (opening q) refl j e within')
+    above_used q (get_or (sent_from (opening run) run.inputs) i d) _
+    (keeps i d within j e within') (leased q.inputs _ refl j e within')
 
 used_to_later : (run : Run) (later : List Run) → All (KeepsUsed run) later →
     All (λ x. All (Rises x) (sent_in_all later)) (sent_from (opening run) run.inputs)
-used_to_later run [] keeps i d within = All-nil (Rises (get_or (sent_from (opening run) run.inputs) i d))
+used_to_later run [] keeps i d within = All-nil _
 used_to_later run (q ∷ qs) keeps i d within =
-    All-append (Rises (get_or (sent_from (opening run) run.inputs) i d)) (sent_from (opening q) q.inputs)
-    (sent_in_all qs) (rises_in run q (All-head (KeepsUsed run) q qs keeps) i d within)
+    All-append (Rises (get_or (sent_from (opening run) run.inputs) i d)) _
+    _ (rises_in run q (All-head (KeepsUsed run) q qs keeps) i d within)
     (used_to_later run qs (All-tail (KeepsUsed run) q qs keeps) i d within)
 
 pub rises_if_used_is_kept : EndpointLaws → (runs : List Run) → RisesIfUsedIsKept runs
 rises_if_used_is_kept laws [] sound keeps = no_pairs Rises
 rises_if_used_is_kept laws (run ∷ runs) sound keeps =
-    pairs-append Rises (sent_from (opening run) run.inputs) (sent_in_all runs)
-    (in_run laws run.inputs (opening run) (All-head IsSoundRun run runs sound))
+    pairs-append Rises _ _ (in_run laws _ _ (All-head IsSoundRun run runs sound))
     (rises_if_used_is_kept laws runs (All-tail IsSoundRun run runs sound) (pairs-tail KeepsUsed run runs keeps))
     (used_to_later run runs (pairs-head KeepsUsed run runs keeps))
 
@@ -209,5 +199,5 @@ covered run later salt durable x first y bytes =
 
 pub is_weaker : (run later : Run) → IsWeaker run later
 is_weaker run later salt durable i d within j e within' =
-    covered run later salt durable (get_or (sent_from (opening run) run.inputs) i d)
+    covered run later salt durable _
     (leased run.inputs (opening run) refl i d within) (get_or (sent_from (opening later) later.inputs) j e)

@@ -3,10 +3,10 @@
 use Rattle.macsec_reserve.specs.Forgetting.{command_taken}
 use Rattle.macsec_restarts.{
   proofs.{
-    Names.{◌∙◌, ◌≡◌, Ahead, ahead_by, before_this_run, begins_again, Bool, endpoint_input, endpoint_output, false},
-    Names.{forgetting_step, Input, IsFromSa, Keeping, keeping_step, KeepingInput, KeepingOutput, MatchesDeliveries},
-    Names.{newly_delivered, None, not_yet, now_durable, operator_command, Option, passes, received, refl, retired_by},
-    Names.{Some, Standing, standing, taken, then_forget, true, ℕ},
+    Names.{◌∙◌, ◌≡◌, Ahead, ahead_by, begins_again, Bool, endpoint_input, endpoint_output, false, forgetting_step},
+    Names.{Input, IsFromSa, Keeping, keeping_step, KeepingInput, KeepingOutput, MatchesDeliveries, newly_delivered},
+    Names.{None, now_durable, operator_command, Option, passes, received, refl, retired_by, Some, Standing, taken},
+    Names.{then_forget, ℕ},
     AheadInside.{delivers_each_listed_with, matches_by},
     FromSas.delivers_from_sas,
     Listed.delivers_each_listed,
@@ -23,16 +23,13 @@ same_output (Some n) answer = refl
 
 from_sa_by : (again : Bool) (it : Standing) (a : Ahead) (input : Input) (answer : KeepingOutput × Keeping) →
     IsFromSa answer.0 → IsFromSaWith (ahead_by again it a input answer).0
-from_sa_by true it a input answer is = tt
-from_sa_by false (not_yet at) a input answer is = tt
-from_sa_by false (before_this_run at) a input answer is = tt
 from_sa_by false passes a input answer is = is
+from_sa_by again it a input answer is = tt
 
 pub delivers_from_sas_with : (a : Ahead) (input : KeepingInput) → DeliversFromSasWith a input
 delivers_from_sas_with a (now_durable r) strict = tt
 delivers_from_sas_with a (endpoint_input input) strict =
-    from_sa_by (begins_again a input) (standing a input) a input (keeping_step a.k (endpoint_input input))
-    (delivers_from_sas a.k (endpoint_input input) strict)
+    from_sa_by _ _ a input _ (delivers_from_sas a.k (endpoint_input input) strict)
 
 pub delivers_from_sas_forgetting : (a : Ahead) (input : KeepingInput) → DeliversFromSasForgetting a input
 delivers_from_sas_forgetting a (now_durable r) = delivers_from_sas_with a (now_durable r)
@@ -57,9 +54,6 @@ delivers_each_listed_forgetting a (now_durable r) = delivers_each_listed_with a 
 delivers_each_listed_forgetting a (endpoint_input (operator_command c)) =
     let command = endpoint_input (operator_command c) in
     let told = endpoint_input (operator_command (command_taken a.k c)) in
-    matches_by a command (operator_command c) (begins_again a (operator_command c)) passes
-    (forgetting_step a.k command) refl
-    (rw (same_output (retired_by command)
-    (keeping_step a.k (taken a.k command))) (recast a.k command told refl (keeping_step a.k told).0
+    matches_by a command _ _ passes _ refl (rw (same_output _ _) (recast a.k command told refl _
     (delivers_each_listed a.k told)))
 delivers_each_listed_forgetting a input = delivers_each_listed_with a input

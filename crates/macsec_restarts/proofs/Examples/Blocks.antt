@@ -3,15 +3,14 @@
 use Rattle.macsec_counterexamples.proofs.Restarts.{Goes.{commands_by, link_step}, Tables.heard_sound}
 use Rattle.macsec_restarts.proofs.{
   Names.{[], ◌++◌, ◌<◌, ◌∙◌, ◌∷◌, ◌≡◌, ◌≢◌, ◌⊎◌, A, after_commands, All-nil, all_fit, ap, append-nil, append_assoc},
-  Names.{AreNew, AreOctets, AtEach, B, begins, Bool, CipherUse, client_frame, closing, comes_in, Command, command},
-  Names.{commands_stay, contained, Contains, CreatesAbove, delivered_at, delivered_by, delivered_from, delivered_in},
-  Names.{delivered_in_all, delivered_so_far, Delivery, End, EndConfig, endpoint_input, false, frame_fault, Happening},
-  Names.{HasOctets, IfSome, if◌then◌else◌, inl, inputs_until, inr, IsGenuineAt, IsMember, IsSound, Judgement},
-  Names.{judgement_of, Keeping, keeping_after, keeping_step, KeepingInput, last_run, link_frame, List, map, map-append},
-  Names.{member, newly_delivered, newly_sent, None, none_refused, now_durable, opening, operator_command, Option, refl},
-  Names.{Run, runs_of, same_end, SavedIn, Sci, sealed_in_all, sent_from, sent_in_all, SentIn, Some, sound_end},
-  Names.{sound_next, State, state_after_receiving, StaysSound, step, Strict, subst, sym, tables_fit, true},
-  Names.{uncontrolled_frame, use_opened, ℕ},
+  Names.{AreNew, AreOctets, AtEach, B, begins, Bool, CipherUse, closing, comes_in, Command, command, commands_stay},
+  Names.{contained, Contains, CreatesAbove, delivered_at, delivered_by, delivered_from, delivered_in, delivered_in_all},
+  Names.{delivered_so_far, Delivery, End, EndConfig, endpoint_input, false, frame_fault, Happening, HasOctets, IfSome},
+  Names.{if◌then◌else◌, inl, inputs_until, inr, IsGenuineAt, IsMember, IsSound, Judgement, judgement_of, Keeping},
+  Names.{keeping_after, keeping_step, KeepingInput, last_run, link_frame, List, map, map-append, member},
+  Names.{newly_delivered, newly_sent, None, none_refused, opening, Option, refl, Run, runs_of, same_end, SavedIn, Sci},
+  Names.{sealed_in_all, sent_from, sent_in_all, SentIn, Some, sound_end, sound_next, State, state_after_receiving},
+  Names.{StaysSound, step, Strict, subst, sym, tables_fit, true, use_opened, ℕ},
   Examples.Premises.{HasStrictOrderBut, IsCreatedAbove, IsNotForged, IsOrderlyBut, IsSaved, Premise},
   Lists.{at_end, either_list, in_front},
   Pushed.{closing-input, delivered_in-input, last_run-push, last_run-with_last, runs_of-begins, runs_of-input},
@@ -107,7 +106,7 @@ pub told_link : {k last : Keeping} {f : List ℕ} {inputs : List KeepingInput} {
     Told (record k { secy = state_after_receiving k.secy f j }) inputs xs ds last →
     Told k (endpoint_input (link_frame f) ∷ inputs) xs (delivered_by k.secy j None j.row j.delivered ++ ds) last
 told_link {k} {f} j whole is sound rest =
-    told_next {now = []} sound refl (gives_by k f j whole is) (link_step_by k f j whole is) rest
+    told_next {now = []} sound refl (gives_by k f _ whole is) (link_step_by k f _ whole is) rest
 
 -- ---- the premises at an input of the receiver
 
@@ -118,11 +117,8 @@ IsAmong uses k other = Unit {0}
 
 -- an input that does not come from the link
 abbrev pub IsOwn : KeepingInput → Type 0
-IsOwn (now_durable r) = Unit {0}
-IsOwn (endpoint_input (operator_command c)) = Unit {0}
-IsOwn (endpoint_input (client_frame frame)) = Unit {0}
-IsOwn (endpoint_input (uncontrolled_frame frame)) = Unit {0}
 IsOwn (endpoint_input (link_frame frame)) = ⊥
+IsOwn _ = Unit {0}
 
 abbrev pub AreOwn : List KeepingInput → Type 0
 AreOwn [] = Unit {0}
@@ -150,14 +146,11 @@ seals_more e before h u there =
 pub more_sealed : (before : List Happening) (h : Happening) (u : CipherUse) → Contains (sealed_so_far before) u →
     Contains (sealed_so_far (before ++ h ∷ [])) u
 more_sealed before h u there =
-    contained (sealed_so_far (before ++ h ∷ [])) u
-    (by_end (either_list (sealed_in_all (runs_of A before)) (sealed_in_all (runs_of B before)) u
-    (member (sealed_so_far before) u there)))
+    contained _ u (by_end (either_list _ _ u (member _ u there)))
   where
     by_end : IsMember (sealed_in_all (runs_of A before)) u ⊎ IsMember (sealed_in_all (runs_of B before)) u →
         IsMember (sealed_so_far (before ++ h ∷ [])) u
-    by_end (inl here) = in_front (sealed_in_all (runs_of A (before ++ h ∷ [])))
-        (sealed_in_all (runs_of B (before ++ h ∷ []))) u (seals_more A before h u here)
+    by_end (inl here) = in_front _ _ u (seals_more A before h u here)
     by_end (inr here) = at_end (sealed_in_all (runs_of A (before ++ h ∷ [])))
         (sealed_in_all (runs_of B (before ++ h ∷ []))) u (seals_more B before h u here)
 
@@ -193,7 +186,7 @@ pub step_link : {left_out : Premise} {bytes : List ℕ} {sci : Sci} {an : ℕ} {
     AreSteps left_out bytes sci an (record k { secy = state_after_receiving k.secy f j })
     (ds ++ delivered_at bytes sci an (delivered_by k.secy j None j.row j.delivered)) uses inputs →
     AreSteps left_out bytes sci an k ds uses (endpoint_input (link_frame f) ∷ inputs)
-step_link {k} {f} j whole is now rest = step_next now (link_step_by k f j whole is) (gives_by k f j whole is) rest
+step_link {k} {f} j whole is now rest = step_next now (link_step_by k f _ whole is) (gives_by k f _ whole is) rest
 
 pub is_strict : {left_out : Premise} {s : State} → s.options.mode ≡ Strict → s.options.replay ≡ true →
     s.options.window ≡ 0 →
@@ -210,7 +203,7 @@ first_link genuine octets order = record {
   genuine = genuine;
   octets = octets;
   order = λ d among. order;
-  creates = λ d row at under fresh. All-nil (λ (d' : Delivery). d'.number < row.next);
+  creates = λ d row at under fresh. All-nil (λ d'. d'.number < row.next);
 }
 
 module _ (left_out : Premise) (bytes : List ℕ) (sci : Sci) (an : ℕ) where
@@ -225,18 +218,16 @@ module _ (left_out : Premise) (bytes : List ℕ) (sci : Sci) (an : ℕ) where
     genuine = λ d. among;
     octets = octets;
     order = λ d there. absurd (none d there);
-    creates = λ d row there under fresh. All-nil (λ (d' : Delivery). d'.number < row.next);
+    creates = λ d row there under fresh. All-nil (λ d'. d'.number < row.next);
   }
 
   -- what does not come from the link, before the SA delivers anything in this run
   pub own_step : (k : Keeping) (uses : List CipherUse) (input : KeepingInput) → IsOwn input →
       IsStep left_out bytes sci an k [] uses input
-  own_step k uses (now_durable r) own = made tt tt nothing
   own_step k uses (endpoint_input (link_frame frame)) own = absurd own
   own_step k uses input own = made tt tt nothing
 
   no_delivery : (k : Keeping) (input : KeepingInput) → IsOwn input → newly_delivered k input ≡ []
-  no_delivery k (now_durable r) own = refl
   no_delivery k (endpoint_input (link_frame frame)) own = absurd own
   no_delivery k input own = refl
 
@@ -245,8 +236,7 @@ module _ (left_out : Premise) (bytes : List ℕ) (sci : Sci) (an : ℕ) where
       AreSteps left_out bytes sci an k [] uses (first ++ more)
   after_own [] more k uses own rest = rest
   after_own (input ∷ first) more k uses own rest =
-      step_next (own_step k uses input own.0) refl (no_delivery k input own.0)
-      (after_own first more (keeping_step k input).1 uses own.1 rest)
+      step_next (own_step _ _ input own.0) refl (no_delivery k input own.0) (after_own first more _ uses own.1 rest)
 
   pub commands_steps : (cs : List Command) {k : Keeping} {uses : List CipherUse} {more : List KeepingInput} →
       AreNew k cs →
@@ -255,7 +245,7 @@ module _ (left_out : Premise) (bytes : List ℕ) (sci : Sci) (an : ℕ) where
       AreSteps left_out bytes sci an k [] uses (map command cs ++ more)
   commands_steps cs {k} {uses} {more} new none rest =
       commands_by (λ k' is. AreSteps left_out bytes sci an k' [] uses is)
-      (λ k' c is step later. step_next (own_step k' uses (command c) tt) step refl later) cs k more new none rest
+      (λ k' c is step later. step_next (own_step _ _ _ tt) step refl later) cs k more new none rest
 
   -- ---- in a list of happenings; B is the receiver
 
@@ -273,18 +263,15 @@ module _ (left_out : Premise) (bytes : List ℕ) (sci : Sci) (an : ℕ) where
       (record { genuine = λ d. tt; octets = tt; ordered = λ same. saved }, rest)
 
   a_input : (before : List Happening) (input : KeepingInput) → IsOwn input → IsMet before (comes_in A input)
-  a_input before (now_durable r) own = record { genuine = λ d. tt; octets = tt; ordered = λ same. cc }
   a_input before (endpoint_input (link_frame frame)) own = absurd own
-  a_input before input own =
-      record { genuine = λ d. tt; octets = tt; ordered = λ same. cc }
+  a_input before input own = record { genuine = λ d. tt; octets = tt; ordered = λ same. cc }
 
   pub a_inputs : (inputs : List KeepingInput) (before more : List Happening) → AreOwn inputs →
       AtEach IsMet (before ++ map (comes_in A) inputs) more → AtEach IsMet before (map (comes_in A) inputs ++ more)
-  a_inputs [] before more own rest = subst (λ (hs : List Happening). AtEach IsMet hs more) (append-nil before) rest
+  a_inputs [] before more own rest = subst (λ hs. AtEach IsMet hs more) (append-nil before) rest
   a_inputs (input ∷ inputs) before more own rest = (
     a_input before input own.0,
-    a_inputs inputs (before ++ comes_in A input ∷ []) more own.1
-        (rw (append_assoc before (comes_in A input ∷ []) (map (comes_in A) inputs)) rest),
+    a_inputs inputs _ more own.1 (rw (append_assoc before (comes_in A input ∷ []) (map (comes_in A) inputs)) rest),
   )
 
   among_more : (xs ys : List CipherUse) → ((u : CipherUse) → Contains xs u → Contains ys u) → (o : Option CipherUse) →
@@ -295,11 +282,9 @@ module _ (left_out : Premise) (bytes : List ℕ) (sci : Sci) (an : ℕ) where
   is_genuine : (before : List Happening) (run : Run) → last_run (runs_of B before) ≡ Some run →
       (uses : List CipherUse) → AreSealed before uses → (input : KeepingInput) →
       IsAmong uses (closing run) input → IsGenuineAt before (comes_in B input)
-  is_genuine before run last uses within (now_durable r) among = tt
   is_genuine before run last uses within (endpoint_input (link_frame frame)) among =
-      subst (λ (o : Option Run). IfSome o (λ q. IfSome (use_opened (closing q).secy frame)
-      (Contains (sealed_so_far before)))) (sym last)
-      (among_more uses (sealed_so_far before) within (use_opened (closing run).secy frame) among)
+      subst (λ o. IfSome o (λ q. IfSome (use_opened (closing q).secy frame)
+      (Contains (sealed_so_far before)))) (sym last) (among_more uses _ within _ among)
   is_genuine before run last uses within input among = tt
 
   b_input : (before : List Happening) (run : Run) → last_run (runs_of B before) ≡ Some run → (uses : List CipherUse) →
@@ -307,7 +292,7 @@ module _ (left_out : Premise) (bytes : List ℕ) (sci : Sci) (an : ℕ) where
       IsStep left_out bytes sci an (closing run) (delivered_in run bytes sci an) uses input →
       IsMet before (comes_in B input)
   b_input before run last uses within input now = record {
-    genuine = λ d. is_genuine before run last uses within input (now.genuine d);
+    genuine = λ d. is_genuine before _ last _ within input (now.genuine d);
     octets = now.octets;
     ordered = λ same. rw last (record { order = now.order; creates = now.creates });
   }
@@ -317,18 +302,16 @@ module _ (left_out : Premise) (bytes : List ℕ) (sci : Sci) (an : ℕ) where
       AreSteps left_out bytes sci an (closing run) (delivered_in run bytes sci an) uses inputs →
       AtEach IsMet (before ++ map (comes_in B) inputs) more → AtEach IsMet before (map (comes_in B) inputs ++ more)
   b_inputs [] before more run last uses within steps rest =
-      subst (λ (hs : List Happening). AtEach IsMet hs more) (append-nil before) rest
+      subst (λ hs. AtEach IsMet hs more) (append-nil before) rest
   b_inputs (input ∷ inputs) before more run last uses within (a_step now later) rest =
       let hs = before ++ comes_in B input ∷ [] in
       let run' = with_input input run in (
         b_input before run last uses within input now,
         b_inputs inputs hs more run' (rw (
           runs_of-input B B input before refl,
-          last_run-with_last input
-              (runs_of B before),
+          last_run-with_last input _,
           last,
-        ))
-            uses (λ u there. more_sealed before (comes_in B input) u (within u there))
+        )) uses (λ u there. more_sealed before _ u (within u there))
             (rw (delivered_in-input bytes sci an input run) (rw (closing-input input run) later))
             (rw (append_assoc before (comes_in B input ∷ []) (map (comes_in B) inputs)) rest),
       )
@@ -371,7 +354,7 @@ none_before e (it ∷ more) = by_end (same_end e it.0) refl (none_before e more)
     by_end : (b : Bool) → same_end e it.0 ≡ b → inputs_until e (blocks more) ≡ [] →
         (if b then [] else inputs_until e (map (comes_in it.0) it.1.inputs ++ blocks more)) ≡ []
     by_end true same none = refl
-    by_end false other none = rw (inputs_passed e it.0 it.1.inputs (blocks more), other, none)
+    by_end false other none = rw (inputs_passed e it.0 _ _, other, none)
 
 runs_passed : (e f : End) (inputs : List KeepingInput) (more : List Happening) →
     runs_of e (map (comes_in f) inputs ++ more) ≡ runs_of e more
@@ -397,7 +380,7 @@ runs_of-blocks e (it ∷ more) = by_end (same_end e it.0) refl
     by_end false other rest = rest
     by_end true same rest =
         let all : inputs ≡ it.1.inputs =
-        rw (inputs_passed e it.0 it.1.inputs (blocks more), same, none_before e more, append-nil it.1.inputs) in
+        rw (inputs_passed e it.0 _ _, same, none_before e more, append-nil it.1.inputs) in
         rw (all, rest)
 
 blocks-push : (its : List EndRun) (it : EndRun) →
@@ -409,7 +392,7 @@ blocks-push (x ∷ its) it =
       blocks-push its it,
       (sym (append_assoc (map (comes_in x.0) x.1.inputs) (blocks its ++ begins it.0 it.1.config it.1.journal ∷ [])
           (map (comes_in it.0) it.1.inputs))
-          ∙ ap (λ (hs : List Happening). hs ++ map (comes_in it.0) it.1.inputs)
+          ∙ ap (λ hs. hs ++ map (comes_in it.0) it.1.inputs)
           (sym (append_assoc (map (comes_in x.0) x.1.inputs) (blocks its) (begins it.0 it.1.config it.1.journal
           ∷ [])))),
     )
@@ -454,4 +437,4 @@ module _ (left_out : Premise) (bytes : List ℕ) (sci : Sci) (an : ℕ) where
   pub met : (done more : List EndRun) → AreMet done more →
       AtEach (IsOrderlyBut left_out B bytes sci an) (blocks done) (blocks more)
   met done [] are = tt
-  met done (it ∷ more) are = one_met done it.0 it.1 (blocks more) are.0 (met (done ++ it ∷ []) more are.1)
+  met done (it ∷ more) are = one_met done it.0 it.1 _ are.0 (met _ more are.1)

@@ -17,7 +17,7 @@ use Rattle.macsec_restarts.proofs.{
   Names.{polynomial_product, pre_counter_block, raised_alone, refl, remainder, replicate, Reservation, rot_word},
   Names.{round_key, row_at, Run, rx_from, RxOn, RxRow, RxSa, RxSc, s_box, salt, SavedIn, Sci, sci_a, sci_b, Sealed},
   Names.{sealed, sealed_in_all, sending_name, sent_sound, SentIn, shift_rows, slice_get, small, Some, sound_end},
-  Names.{sound_next, start, State, state_after_receiving, StaysSound, sub_bytes, sub_word, subst, suc, sum_below},
+  Names.{sound_next, start, State, state_after_receiving, StaysSound, sub_bytes, sub_word, subst, sum_below},
   Names.{sum_of_words, sum_with_stream, sym, tables_fit, tag_of, tag_sent, take, true, tx_from, tx_options, TxOn},
   Names.{TxOptions, TxRow, TxSa, use_opened, use_sent, with_tag, Xpn128, zero, ℕ},
   Examples.{
@@ -89,8 +89,7 @@ front = take 22 (frame_of [])
 pub octets : (s : Salt) → AreOctets (frame_of (icv s))
 octets s =
     All-append (λ x. x < 256) front (items 16 (icv s)) (small front refl)
-    (rw (sealed bytes (iv s) aad) at (tag_is bytes (iv s) aad (small_at (aes bytes (pre_counter_block (iv s)))
-    (block s))))
+    (rw (sealed bytes (iv s) aad) at (tag_is bytes _ aad (small_at _ (block s))))
 
 -- ---- the run that sends it, at either end
 
@@ -159,7 +158,7 @@ module _ (sci : Sci) where
   reserves s = rw (raised_alone tx_name 2)
 
   pub goes : (s : Salt) → may_go (k_reserved s) (client_frame (client 1)) ≡ true
-  goes s = may_send (k_reserved s) (client 1) 1 refl (is_within (reads []) tx_name 1 2 name_free (omega arith))
+  goes s = may_send (k_reserved s) (client 1) 1 refl (is_within _ tx_name 1 2 name_free (omega arith))
 
   pub lists : (s : Salt) → newly_sent (k_reserved s) frame_in ≡ sent_1 s ∷ []
   lists s = rw (goes s, seals s)
@@ -172,7 +171,7 @@ module _ (sci : Sci) where
 
   module _ (well : begins_well (config_of sci) ≡ true) where
     pub first_sound : IsSound (start (config_of sci))
-    first_sound = begins_sound (config_of sci) well
+    first_sound = begins_sound _ well
 
     pub on_sound : IsSound (tx_state Zeros sci 1 (row_at 1 true ∷ []) 0)
     on_sound = commands_sound (tx_set_up Zeros) refl refl first_sound
@@ -182,9 +181,9 @@ module _ (sci : Sci) where
 
     sender_sound : StaysSound k_begun (sends Zeros)
     sender_sound =
-        commands_stay (tx_set_up Zeros) k_begun (report_in ∷ frame_in ∷ []) (tx_new Zeros) refl refl first_sound
-        (sound_next (k_on Zeros) report_in (frame_in ∷ []) on_sound (reserves Zeros)
-        (sound_next (k_reserved Zeros) frame_in [] on_sound (frame_step (k_reserved Zeros) (client 1) (goes Zeros))
+        commands_stay (tx_set_up Zeros) k_begun _ (tx_new Zeros) refl refl first_sound
+        (sound_next (k_on Zeros) report_in _ on_sound (reserves Zeros)
+        (sound_next _ frame_in [] on_sound (frame_step (k_reserved Zeros) (client 1) (goes Zeros))
         (sound_end (k_sent Zeros) last_sound_a)))
 
 abbrev run_s : Salt → Sci → Run
@@ -201,10 +200,8 @@ pub data Receiver : Type 0 where
 
 -- the salt at the sender
 abbrev sender_salt : Receiver → Salt
-sender_salt Same = Zeros
-sender_salt Salted = Zeros
 sender_salt Unsalted = Empty
-sender_salt Turned = Zeros
+sender_salt _ = Zeros
 
 abbrev salt_of_key : Receiver → List ℕ
 salt_of_key Same = no_salt
@@ -213,16 +210,14 @@ salt_of_key Unsalted = []
 salt_of_key Turned = 0 ∷ 0 ∷ 0 ∷ 3 ∷ replicate 8 0
 
 abbrev lowest_of : Receiver → ℕ
-lowest_of Same = 1
 lowest_of Salted = 2 ^ 32
 lowest_of Unsalted = 2 ^ 32
-lowest_of Turned = 1
+lowest_of _ = 1
 
 abbrev number_of : Receiver → ℕ
-number_of Same = 1
 number_of Salted = 2 ^ 32 + 1
 number_of Unsalted = 2 ^ 32 + 1
-number_of Turned = 1
+number_of _ = 1
 
 -- B's own SSCI, and A's at B
 abbrev own_ssci : Receiver → ℕ
@@ -265,7 +260,7 @@ iv_is it = refl
 
 opens_as : (r : Receiver) → open_of bytes (iv_of Xpn128 sci_a (peer_ssci r) (salt_of_key r) (number_of r)) aad []
     (items 16 (icv (sender_salt r))) ≡ Some []
-opens_as r = rw (iv_is r, opens_it (sender_salt r))
+opens_as r = rw (iv_is r, opens_it _)
 
 pub judged : (r : Receiver) → judgement_of (ready r) (f r) ≡ accepts r
 judged Same = rw (opens_as Same)
@@ -296,11 +291,11 @@ module _ (before : List Reservation) (free : highest (reads before) (name_of (sa
   none it = refl
 
   pub hears : (r : Receiver) → (keeping_step (at (ready r)) (link r)).1 ≡ at (heard r)
-  hears r = link_step_by (at (ready r)) (f r) (accepts r) (whole r) (judged r)
+  hears r = link_step_by (at (ready r)) (f r) _ (whole r) (judged r)
 
   pub gives : (r : Receiver) → newly_delivered (at (ready r)) (link r) ≡ delivery r ∷ []
-  gives Same = gives_by (at (ready Same)) (f Same) (accepts Same) refl (judged Same)
-  gives it = gives_by (at (ready it)) (f it) (accepts it) refl (judged it)
+  gives Same = gives_by (at (ready Same)) (f Same) _ refl (judged Same)
+  gives it = gives_by (at (ready it)) (f it) _ refl (judged it)
 
   receiver_does : (r : Receiver) → Does (at (start (config_of sci_b))) (commands r ++ link r ∷ []) [] (delivery r ∷ [])
       (at (heard r))
@@ -315,16 +310,16 @@ module _ (before : List Reservation) (free : highest (reads before) (name_of (sa
       genuine_at (ready it) (f it) (accepts it) uses (judged it)
       (rw (iv_is it) there)
 
-  strict : (left_out : Premise) (r : Receiver) → HasStrictOrderBut left_out (ready r)
-  strict left_out Same = is_strict refl refl refl
-  strict left_out it = is_strict refl refl refl
+  strict : {left_out : Premise} (r : Receiver) → HasStrictOrderBut left_out (ready r)
+  strict Same = is_strict refl refl refl
+  strict it = is_strict refl refl refl
 
   receiver_steps : (left_out : Premise) (r : Receiver) (b : Run) → opening b ≡ at (start (config_of sci_b)) →
       (uses : List CipherUse) → Contains uses (use_of (sender_salt r)) →
       AreSteps left_out bytes sci_a 0 (opening b) [] uses (commands r ++ link r ∷ [])
   receiver_steps left_out r b opened uses there =
       rw opened (commands_steps left_out bytes sci_a 0 (set_up r) (are_new r) (none r)
-      (step_next (first_link (λ d. genuine r uses there) (octets (sender_salt r)) (strict left_out r)) (hears r)
+      (step_next (first_link (λ d. genuine r uses there) (octets (sender_salt r)) (strict r)) (hears r)
       (gives r) no_step))
 
   -- ---- it is sound, with a salt of 12 octets
@@ -334,7 +329,7 @@ module _ (before : List Reservation) (free : highest (reads before) (name_of (sa
   has_salt r = true
 
   pub rx_start : IsSound (start (config_of sci_b))
-  rx_start = begins_sound (config_of sci_b) refl
+  rx_start = begins_sound _ refl
 
   all_are_fit : (r : Receiver) → has_salt r ≡ true → all_fit (start (config_of sci_b)) (set_up r) ≡ true
   all_are_fit Unsalted is = cc
@@ -344,10 +339,8 @@ module _ (before : List Reservation) (free : highest (reads before) (name_of (sa
   ready_sound r is = commands_sound (set_up r) (none r) (all_are_fit r is) rx_start
 
   heard_fits : (r : Receiver) → has_salt r ≡ true → tables_fit (heard r) ≡ true
-  heard_fits Same is = refl
-  heard_fits Salted is = refl
   heard_fits Unsalted is = cc
-  heard_fits Turned is = refl
+  heard_fits r is = refl
 
   pub heard_is_sound : (r : Receiver) → has_salt r ≡ true → IsSound (heard r)
   heard_is_sound r is = heard_by (f r) (whole r) (judged r) (heard_fits r is) (ready_sound r is)
@@ -355,8 +348,7 @@ module _ (before : List Reservation) (free : highest (reads before) (name_of (sa
   receiver_sound : (r : Receiver) → has_salt r ≡ true →
       StaysSound (at (start (config_of sci_b))) (commands r ++ link r ∷ [])
   receiver_sound r is =
-      commands_stay (set_up r) (at (start (config_of sci_b))) (link r ∷ []) (are_new r) (none r)
-      (all_are_fit r is) rx_start
+      commands_stay (set_up r) (at (start (config_of sci_b))) _ (are_new r) (none r) (all_are_fit r is) rx_start
       (sound_next (at (ready r)) (link r) [] (ready_sound r is) (hears r)
       (sound_end (at (heard r)) (heard_is_sound r is)))
 
@@ -430,7 +422,7 @@ module _ (left_out : Premise) (r : Receiver) (salted : has_salt (reserved_2 ∷ 
         ),
         (
           (
-            (λ d. subst (λ (xs : List Delivery). SavedIn (run_r r).journal bytes sci_a 0
+            (λ d. subst (λ xs. SavedIn (run_r r).journal bytes sci_a 0
                 (delivered_at bytes sci_a 0 xs)) (sym none_yet) (nothing_saved (run_r r).journal)),
             receiver_steps (reserved_2 ∷ []) free_r left_out r (run_r r) refl
                 (sealed_in_all [] ++ sealed_in_all (first_run ∷ []))
@@ -445,12 +437,12 @@ module _ (left_out : Premise) (r : Receiver) (salted : has_salt (reserved_2 ∷ 
 
 pub same_ssci_needed : LawWithout KeepsSsci (blocks (reflected Same)) → ⊥
 same_ssci_needed =
-    reflects KeepsSsci Same refl (rw ((does_r Same).ends)) refl
+    reflects _ Same refl (rw ((does_r Same).ends)) refl
     (record { suite = λ d. refl; salt = λ d xpn. refl }) (λ d. absurd (d refl))
 
 pub kept_salt_needed : LawWithout KeepsSalt (blocks (reflected Turned)) → ⊥
 kept_salt_needed =
-    reflects KeepsSalt Turned refl (rw ((does_r Turned).ends)) refl
+    reflects _ Turned refl (rw ((does_r Turned).ends)) refl
     (record { suite = λ d. refl; salt = λ d. absurd (d refl) }) (λ d. refl)
 
 -- ---- the key has another salt at B, or none at both: B delivers A's frame with another packet number
@@ -462,11 +454,11 @@ abbrev pub run_a : Receiver → Run
 run_a r = run_s (sender_salt r) sci_a
 
 pub free_b : highest (reads []) (name_of (salt false)) < 1
-free_b = is_free [] (name_of (salt false)) 1 none_is (omega arith)
+free_b = is_free [] _ 1 none_is (omega arith)
 
 pub does_a : (r : Receiver) → Does (opening (run_a r)) (sends (sender_salt r)) (sent_1 (sender_salt r) ∷ []) []
     (k_sent sci_a (sender_salt r))
-does_a r = sender_does sci_a (sender_salt r)
+does_a r = sender_does sci_a _
 
 does_b : (r : Receiver) → Does (opening (run_b r)) (commands r ++ link r ∷ []) [] (delivery r ∷ [])
     (at [] free_b (heard r))
@@ -489,7 +481,7 @@ ends_agree left_out r agree =
     (rw ((does_a r).ends)) (keys_at_end r) (λ same. agree)
   where
     keys_at_end : (r' : Receiver) → (closing (run_b r')).secy.keys ≡ rx_key r' ∷ []
-    keys_at_end Same = ap (λ (k : Keeping). k.secy.keys) (does_b Same).ends
+    keys_at_end Same = ap (λ k. k.secy.keys) (does_b Same).ends
     keys_at_end it = rw ((does_b it).ends)
 
 -- what is delivered has another packet number than what was sent
@@ -497,9 +489,8 @@ not_of_other : (m n : ℕ) (x y : List ℕ) → (m ≡ n → ⊥) → IsSubseque
 not_of_other m n x y differ it = by_places it.0 it.2
   where
     by_places : (places : List ℕ) → map (slice_get ((n ∷ y) ∷ [])) places ≡ Some (m ∷ x) ∷ [] → ⊥
-    by_places [] same = cc
     by_places (zero ∷ ps) same = let one : n ≡ m = cc in differ (sym one)
-    by_places (suc p ∷ ps) same = cc
+    by_places places same = cc
 
 receives_it : (left_out : Premise) (r : Receiver) → IsMetBy left_out bytes sci_a 0 ((A, run_a r) ∷ []) B (run_b r)
 receives_it left_out r = (

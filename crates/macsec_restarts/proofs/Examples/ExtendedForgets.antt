@@ -14,7 +14,7 @@ use Rattle.macsec_restarts.proofs.{
   Names.{delivered_at, delivered_from_forgetting, delivered_of_all, Delivery, digest_bytes, effect, End, ended_after},
   Names.{Ends, false, fingerprint, first_carried, first_words, forgetting, forgetting_step, frame_step, Happening},
   Names.{hash_after, HasStrictOrder, highest, IfSome, if◌then◌else◌, inner, inside_of, installs_retired, is_new},
-  Names.{IsFair, IsFairHere, IsReady, IsSameEnd, IsSound, IsSoundWith, journal, Keeping, keeping_step, KeepingInput},
+  Names.{IsFair, IsFairHere, IsSameEnd, IsSound, IsSoundWith, journal, Keeping, keeping_step, KeepingInput},
   Names.{KeepsDelivered, KeepsSent, Key, keys_replacing, length, lets_through, link_frame, List, map, max_frame_len},
   Names.{member, new_key, newly_delivered, newly_delivered_with, newly_sent, no_ends, no_salt, None, none_refused},
   Names.{numbered_delivery, numbered_sent, one_alone, opening_with, operator_command, Option, others_with},
@@ -65,7 +65,7 @@ with_next {a} {input} {inputs} {now} {new} sound is_now is_new is_after rest = r
   where
     at_each : (n : ℕ) → IsSound (ahead_forgetting_after a (take n (input ∷ inputs))).k.secy
     at_each zero = sound
-    at_each (suc n) = subst (λ (x : Ahead). IsSound (ahead_forgetting_after x (take n inputs)).k.secy) (sym is_after)
+    at_each (suc n) = subst (λ x. IsSound (ahead_forgetting_after x (take n inputs)).k.secy) (sym is_after)
         (rest.sound n)
 
 -- all inputs come to the endpoint that forgets none, and to the keeping endpoint inside
@@ -132,7 +132,7 @@ commands_with (c ∷ cs) {k} new none fit plain sound rest =
     let now = sound_first k.secy c cs it.0 fit sound in
     let p = plain.0 in
     with_next sound refl (newly_none (a_of k) c)
-    (command_goes k (record k { secy = effect k.secy c }) no_ends c p.again p.same (carried_step k c new.0 it.0) p.ends)
+    (command_goes k _ _ c p.again p.same (carried_step k c new.0 it.0) p.ends)
     (commands_with cs new.1 it.1 now.1 plain.1 now.0 rest)
 
 commands_whole : (cs : List Command) {k : Keeping} {inputs : List KeepingInput} → AreNew k cs →
@@ -145,7 +145,7 @@ commands_whole (c ∷ cs) {k} new none plain rest =
     let k' = record k { secy = effect k.secy c } in
     let p = plain.0 in
     let step = carried_step k c new.0 it.0 in
-    whole_next p.new p.lets (command_goes k k' no_ends c p.again p.same step p.ends)
+    whole_next p.new p.lets (command_goes k _ _ c p.again p.same step p.ends)
     (command_goes_on k k' c p.again step p.ends)
     (commands_whole cs new.1 it.1 plain.1 rest)
 
@@ -182,8 +182,7 @@ a_does =
 a_whole : IsWhole (a_of (k_begun sci_a)) a_sends
 a_whole =
     commands_whole (tx_set_up Zeros) (tx_new sci_a Zeros) refl plain_a
-    (whole_next refl refl reserves_a reserves_a (whole_next refl refl sends_a sends_a
-    (whole_end (a_of (k_sent sci_a Zeros)))))
+    (whole_next refl refl reserves_a reserves_a (whole_next refl refl sends_a sends_a (whole_end _)))
 
 -- B's run: the commands, the frame, then the SA is deleted and the key retired, and another key is installed and used
 
@@ -225,7 +224,7 @@ lets_b : lets_through (a_of (b_at (ready Same))) (link Same) ≡ true
 lets_b = rw (judged Same)
 
 hears_b : (ahead_step (a_of (b_at (ready Same))) (link Same)).1 ≡ a_of (b_at (heard Same))
-hears_b = goes_on (a_of (b_at (ready Same))) (link_frame (f Same)) (b_at (heard Same)) lets_b (hears [] free_b Same)
+hears_b = goes_on (a_of (b_at (ready Same))) (link_frame (f Same)) _ lets_b (hears [] free_b Same)
 
 gives_b : newly_delivered_with (a_of (b_at (ready Same))) (link Same) ≡ delivery Same ∷ []
 gives_b = rw (lets_b, gives [] free_b Same)
@@ -241,7 +240,7 @@ ends_b = record no_ends { entries = record { key = 0; sci = sci_a; an = 0; last 
 
 deletes_b : (ahead_forgetting_step (a_of (b_at (heard Same))) deletes).1 ≡ record (a_of (b_at deleted))
     { ended = ends_b }
-deletes_b = command_goes (b_at (heard Same)) (b_at deleted) ends_b (RxDel sci_a 0) refl refl
+deletes_b = command_goes (b_at (heard Same)) _ _ (RxDel sci_a 0) refl refl
     (command_step (b_at (heard Same)) (RxDel sci_a 0) refl) refl
 
 -- in the end the key has its fingerprint
@@ -267,11 +266,11 @@ retired_sound : IsSound retired
 retired_sound = commands_sound (Retire 0 ∷ []) refl refl deleted_sound
 
 forgotten_is : AreKeyRows forgotten.keys
-forgotten_is = (is_row _ (omega arith) long_b refl (omega arith) (omega arith) (omega arith), refl, tt)
+forgotten_is = (is_row (omega arith) long_b refl (omega arith) (omega arith) (omega arith), refl, tt)
 
 forgotten_sound : IsSound forgotten
 forgotten_sound =
-    let it : IsReady forgotten max_frame_len =
+    let it =
     ready_by_keys retired 0 print (keys_replacing retired.keys 0 print) true max_frame_len
     (sym can_b) refl tt forgotten_is (record { sound = retired_sound; room = refl }) in
     it.sound
@@ -302,11 +301,11 @@ installs_2 : (keeping_step k_forgot (command key_2)).1 ≡ k_two
 installs_2 = rw (command_step k_forgot key_2 refl, is_fit)
 
 keys_2 : (ahead_forgetting_step (a_of k_forgot) (command key_2)).1 ≡ a_of k_two
-keys_2 = command_goes k_forgot k_two no_ends key_2 refl not_known installs_2 refl
+keys_2 = command_goes k_forgot _ _ key_2 refl not_known installs_2 refl
 
 two_are : AreKeyRows with_two.keys
 two_are =
-    (forgotten_is.0, refl, (is_row _ (omega arith) refl refl (omega arith) (omega arith) (omega arith), refl, tt))
+    (forgotten_is.0, refl, (is_row (omega arith) refl refl (omega arith) (omega arith) (omega arith), refl, tt))
 
 two_sound : IsSound with_two
 two_sound = after_effect forgotten key_2 is_fit
@@ -330,7 +329,7 @@ creates_2 : (keeping_step k_two (command sa_2)).1 ≡ k_last
 creates_2 = command_step k_two sa_2 (is_new (reads []) name_2 1 free_2)
 
 sas_2 : (ahead_forgetting_step (a_of k_two) (command sa_2)).1 ≡ a_of k_last
-sas_2 = command_goes k_two k_last no_ends sa_2 refl refl creates_2 refl
+sas_2 = command_goes k_two _ _ sa_2 refl refl creates_2 refl
 
 last_sound : IsSound with_sa_2
 last_sound =
@@ -365,12 +364,11 @@ b_does =
 b_commands : DoesWith (a_of (b_at (start (config_of sci_b)))) (commands Same) [] [] (a_of (b_at (ready Same)))
 b_commands =
     commands_with (set_up Same) {inputs = []} (are_new [] free_b Same) refl refl plain_b (rx_start [] free_b)
-    (with_end (a_of (b_at (ready Same))) (ready_sound [] free_b Same refl))
+    (with_end _ (ready_sound [] free_b Same refl))
 
 b_whole : IsWhole (a_of (b_at (start (config_of sci_b)))) (commands Same)
 b_whole =
-    commands_whole (set_up Same) {inputs = []} (are_new [] free_b Same) refl plain_b
-    (whole_end (a_of (b_at (ready Same))))
+    commands_whole (set_up Same) {inputs = []} (are_new [] free_b Same) refl plain_b (whole_end _)
 
 -- ---- all premises of order and origin, of the endpoints that forget
 
@@ -384,10 +382,10 @@ abbrev so_far : Run
 so_far = record { journal = journal false []; config = config_of sci_b; inputs = commands Same }
 
 inside_a : inside_of (with_none (run_a Same)) ≡ run_a Same
-inside_a = inside_whole (run_a Same) a_whole
+inside_a = inside_whole _ a_whole
 
 inside_so_far : inside_of (with_none so_far) ≡ so_far
-inside_so_far = inside_whole so_far b_whole
+inside_so_far = inside_whole _ b_whole
 
 no_command : (l : Ahead) (c : Command) (d : Delivery) →
     Contains (delivered_at bytes sci_a 0 (newly_delivered_with l (command c))) d → ⊥
@@ -405,19 +403,17 @@ keys_so_far = rw (commands_end (set_up Same) (b_at (start (config_of sci_b))) []
 
 agree_so_far : AgreeOnKeys (run_a Same) so_far
 agree_so_far =
-    of_last (λ x y. x.bytes ≡ y.bytes → AgreeOnKey x y) (run_a Same) so_far (key_at no_salt 1 2)
-    (rx_key Same) keys_of_a keys_so_far (λ same. record { suite = refl; salt = λ xpn. refl })
+    of_last (λ x y. x.bytes ≡ y.bytes → AgreeOnKey x y) (run_a Same) so_far _
+    _ keys_of_a keys_so_far (λ same. record { suite = refl; salt = λ xpn. refl })
 
 peers_so_far : ArePeerRuns (with_none (run_a Same) ∷ []) (with_none so_far ∷ [])
 peers_so_far = record {
   agree_a = one_alone AgreeOnKeys (inside_of (with_none (run_a Same)));
   agree_b = one_alone AgreeOnKeys (inside_of (with_none so_far));
-  agree = All-cons (λ p. All (AgreeOnKeys p) (inside_of (with_none so_far) ∷ []))
-      (inside_of (with_none (run_a Same))) []
+  agree = All-cons (λ p. All (AgreeOnKeys p) (inside_of (with_none so_far) ∷ [])) _ []
       (All-cons (AgreeOnKeys (inside_of (with_none (run_a Same)))) (inside_of (with_none so_far)) []
-      (subst (λ (p : Run). AgreeOnKeys p (inside_of (with_none so_far))) (sym inside_a)
-      (subst (AgreeOnKeys (run_a Same)) (sym inside_so_far) agree_so_far))
-      (All-nil (AgreeOnKeys (inside_of (with_none (run_a Same))))))
+      (subst (λ p. AgreeOnKeys p (inside_of (with_none so_far))) (sym inside_a)
+      (subst (AgreeOnKeys (run_a Same)) (sym inside_so_far) agree_so_far)) (All-nil _))
       (All-nil (λ p. All (AgreeOnKeys p) (inside_of (with_none so_far) ∷ [])));
   one_a = one_alone IsSameEnd (inside_of (with_none (run_a Same)));
   one_b = one_alone IsSameEnd (inside_of (with_none so_far));
@@ -428,16 +424,16 @@ fair_frame : IsFair (with_none (run_a Same) ∷ []) (with_none so_far ∷ []) (c
 fair_frame =
     let sends : sent_of_all (with_none (run_a Same) ∷ []) ++ sent_of_all (with_none so_far ∷ []) ≡ sent_1 Zeros ∷ [] =
     rw (a_does.sends, b_commands.sends) in
-    let there : IfSome (use_opened (ready Same) (f Same)) (Contains (map seal_of (sent_1 Zeros ∷ []))) =
+    let there =
     genuine [] free_b Same (use_of Zeros ∷ []) (0, omega arith, refl) in
     let own : IfSome (use_opened (ready Same) (f Same))
     (Contains (map seal_of (sent_of_all (with_none (run_a Same) ∷ []) ++ sent_of_all (with_none so_far ∷ [])))) =
     rw sends there in
     record {
-      order = subst (λ (l : Ahead). HasStrictOrder l.k.secy) (sym b_commands.ends)
+      order = subst (λ l. HasStrictOrder l.k.secy) (sym b_commands.ends)
           (record { mode = refl; replay = refl; window = refl });
       octets = octets Zeros;
-      genuine = subst (λ (l : Ahead). IsGenuineFrom
+      genuine = subst (λ l. IsGenuineFrom
           (sent_of_all (with_none (run_a Same) ∷ []) ++ sent_of_all (with_none so_far ∷ [])) l (link Same))
           (sym b_commands.ends) own;
       peers = peers_so_far;
@@ -453,8 +449,7 @@ fair_a : (inputs : List KeepingInput) (before more : List Happening) →
 fair_a [] before more rest = rw (append-nil before) at rest
 fair_a (input ∷ inputs) before more rest = (
   (λ same. cc),
-  fair_a inputs (before ++ comes_in A input ∷ []) more
-      (rw (append_assoc before (comes_in A input ∷ []) (map (comes_in A) inputs)) rest),
+  fair_a inputs _ more (rw (append_assoc before (comes_in A input ∷ []) (map (comes_in A) inputs)) rest),
 )
 
 fair_b : (cs : List Command) (before more : List Happening) →

@@ -2,18 +2,17 @@
 -- sound at each moment. In the end the key has its fingerprint instead of its octets.
 use Rattle.macsec_suite.specs.{KeyRows.IsKeyRow, Suites.key_length}
 use Rattle.macsec_restarts.proofs.{
-  Names.{◌<◌, ◌^◌, ◌≤◌, InstalledKey},
-  Names.{[], ◌∷◌, ◌≡◌, AreKeyRows, arith, begins_sound, bytes, can_replace, closing_forgetting, command},
-  Names.{commands_sound, compress, digest_bytes, effect, false, fingerprint, first_words, gcm_b, hash_after, IsReady},
-  Names.{IsSound, IsSoundForgetting, journal, Keeping, KeepingInput, kept, Key, key_row, keys_replacing, length, List},
-  Names.{max_frame_len, new_key, no_salt, ready_by_keys, refl, replacing, Retire, rounds, Run, salt, schedule, sha256},
-  Names.{start, State, suc, sym, true, zero, ℕ},
+  Names.{◌<◌, ◌^◌, ◌≤◌, InstalledKey, [], ◌∷◌, ◌≡◌, AreKeyRows, arith, begins_sound, bytes, can_replace},
+  Names.{closing_forgetting, command, commands_sound, compress, digest_bytes, effect, false, fingerprint, first_words},
+  Names.{gcm_b, hash_after, IsSound, IsSoundForgetting, journal, Keeping, KeepingInput, kept, Key, key_row},
+  Names.{keys_replacing, length, List, max_frame_len, new_key, no_salt, ready_by_keys, refl, replacing, Retire, rounds},
+  Names.{Run, salt, schedule, sha256, start, State, suc, sym, true, zero, ℕ},
   Examples.TwoRunsEach.reads,
 }
 
-pub is_row : (row : InstalledKey) → row.number < 4096 → length row.bytes ≡ key_length row.suite →
+pub is_row : {row : InstalledKey} → row.number < 4096 → length row.bytes ≡ key_length row.suite →
     length row.salt ≡ 12 → row.ssci < 2 ^ 32 → 1 ≤ row.first_unused → row.first_unused ≤ 2 ^ 64 → IsKeyRow row
-is_row row number bytes salt ssci least most = record {
+is_row number bytes salt ssci least most = record {
   number = number;
   bytes = bytes;
   salt = salt;
@@ -61,11 +60,11 @@ unfolding first_words schedule rounds compress hash_after digest_bytes sha256
 long = refl
 
 forgotten_is : AreKeyRows forgotten.keys
-forgotten_is = (is_row _ (omega arith) long refl (omega arith) (omega arith) (omega arith), refl, tt)
+forgotten_is = (is_row (omega arith) long refl (omega arith) (omega arith) (omega arith), refl, tt)
 
 forgotten_sound : IsSound forgotten
 forgotten_sound =
-    let it : IsReady forgotten max_frame_len =
+    let it =
     ready_by_keys retired 0 octets (keys_replacing retired.keys 0 octets) true max_frame_len
     (sym can) refl tt forgotten_is (record { sound = retired_sound; room = refl }) in
     it.sound

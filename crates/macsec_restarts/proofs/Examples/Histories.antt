@@ -2,7 +2,7 @@
 use Rattle.macsec_restarts.proofs.{
   Names.{[], ◌∙◌, ◌∷◌, ◌≡◌, ◌≢◌, ◌≤◌, A, AgreeOnKey, AgreeOnKeys, All, All-cons, All-nil, All-weaker, AllPairs, ap},
   Names.{ArePeers, arith, AtEach, B, bytes, closing, Contains, delivered_at, delivered_in_all, delivered_so_far},
-  Names.{Delivery, get_or, highest, InstalledKey, is_xpn, IsHistory, IsOrderly, IsSameEnd, IsSubsequence, Keeping},
+  Names.{Delivery, highest, InstalledKey, is_xpn, IsHistory, IsOrderly, IsSameEnd, IsSubsequence, Keeping},
   Names.{KeepsDurable, key_row, List, map, numbered_delivery, numbered_sent, one_alone, only, opening, receiving_name},
   Names.{refl, reservations, Run, runs_of, salt_of, SameSalt, SavedIn, Sci, sci_a, sci_b, sealed_in_all, sending_name},
   Names.{sent_in_all, sent_under, SentIn, subst, sym, true, ℕ},
@@ -30,7 +30,7 @@ run_told ssci unused sci run sends ds last of_sci keys told = record {
   sound = told.sound;
   of_sci = of_sci;
   keys = λ x there.
-      (unused, sym (only (key_row ssci unused) x (rw (ap (λ (k : Keeping). k.secy.keys) told.ends ∙ keys) at there)));
+      (unused, sym (only _ x (rw (ap (λ k. k.secy.keys) told.ends ∙ keys) at there)));
 }
 
 pub of_keys : (R : InstalledKey → InstalledKey → Type 0) (ssci other : ℕ) (sci sci' : Sci) (p q : Run) → IsRunOf ssci sci p → IsRunOf other sci' q →
@@ -52,7 +52,7 @@ same_runs ssci sci p q a b = record {
 -- ---- all runs
 
 pairs_of_all : {X : Type 0} (P : X → Type 0) (R : X → X → Type 0) → ((x y : X) → P x → P y → R x y) → (xs : List X) → All P xs → AllPairs R xs
-pairs_of_all P R pair xs all i j d less within = pair (get_or xs i d) (get_or xs j d) (all i d (omega (arith, less, within))) (all j d within)
+pairs_of_all P R pair xs all i j d less within = pair _ _ (all i d (omega (arith, less, within))) (all j d within)
 
 pub history : (ssci : ℕ) (sci : Sci) (runs : List Run) → All (IsRunOf ssci sci) runs → AllPairs SameSalt runs → AllPairs KeepsDurable runs → IsHistory runs
 history ssci sci runs are salt durable = record {
@@ -83,13 +83,13 @@ peers_of left_out its ra past_a rb past_b =
 pub peers : (left_out : Premise) (its : List EndRun) → All (IsRunOf 1 sci_a) (of_end A its) → AllPairs SameSalt (of_end A its) → AllPairs KeepsDurable (of_end A its) →
     All (IsRunOf 2 sci_b) (of_end B its) → AllPairs SameSalt (of_end B its) → AllPairs KeepsDurable (of_end B its) → ArePeersBut left_out (blocks its)
 peers left_out its ra salt_a durable_a rb salt_b durable_b =
-    peers_of left_out its ra (history_but left_out (of_end A its) (history 1 sci_a (of_end A its) ra salt_a durable_a))
-    rb (history_but left_out (of_end B its) (history 2 sci_b (of_end B its) rb salt_b durable_b))
+    peers_of left_out its ra (history_but _ _ (history 1 sci_a _ ra salt_a durable_a))
+    rb (history_but _ _ (history 2 sci_b _ rb salt_b durable_b))
 
 -- one run of each end, with any keys
 one_history : (left_out : Premise) (run : Run) → (StaysSoundAlways ≢ left_out → IsSoundRun run) → IsHistoryBut left_out (run ∷ [])
 one_history left_out run sound = record {
-  sound = λ d. All-cons IsSoundRun run [] (sound d) (All-nil IsSoundRun);
+  sound = λ d. All-cons IsSoundRun run [] (sound d) (All-nil _);
   agree = one_alone (AgreeInRunsBut left_out) run;
   salt = λ d. one_alone SameSalt run;
   durable = λ d. one_alone KeepsDurable run;
@@ -100,11 +100,11 @@ pub one_run_each : (left_out : Premise) (a b : Run) → (StaysSoundAlways ≢ le
 one_run_each left_out a b sound sound' agree' =
     let its : List EndRun = (A, a) ∷ (B, b) ∷ [] in
     record {
-      a = rw (runs_of-blocks A its) (one_history left_out a sound);
-      b = rw (runs_of-blocks B its) (one_history left_out b sound');
-      agree = subst (λ (ra : List Run). All (λ run. All (AgreeAtBothBut left_out run) (runs_of B (blocks its))) ra) (sym (runs_of-blocks A its))
+      a = rw (runs_of-blocks A its) (one_history _ a sound);
+      b = rw (runs_of-blocks B its) (one_history _ b sound');
+      agree = subst (λ ra. All (λ run. All (AgreeAtBothBut left_out run) (runs_of B (blocks its))) ra) (sym (runs_of-blocks A its))
           (rw (runs_of-blocks B its) (All-cons (λ run. All (AgreeAtBothBut left_out run) (b ∷ [])) a []
-          (All-cons (AgreeAtBothBut left_out a) b [] agree' (All-nil (AgreeAtBothBut left_out a)))
+          (All-cons (AgreeAtBothBut left_out a) b [] agree' (All-nil _))
           (All-nil (λ run. All (AgreeAtBothBut left_out run) (b ∷ [])))));
       one_a = subst (AllPairs (IsSameEndBut left_out)) (sym (runs_of-blocks A its)) (one_alone (IsSameEndBut left_out) a);
       one_b = rw (runs_of-blocks B its) (one_alone (IsSameEndBut left_out) b);
@@ -115,7 +115,7 @@ pub seals_are : (runs : List Run) (sends : List SentIn) → sent_in_all runs ≡
 seals_are runs sends is = rw (← seals_of_runs runs, is)
 
 pub nothing_saved : (journal : List ℕ) → SavedIn journal bytes sci_a 0 []
-nothing_saved journal = All-nil (λ (d : Delivery). d.number ≤ highest (reservations journal) (receiving_name (sending_name (salt_of journal) bytes) sci_a 0))
+nothing_saved journal = All-nil (λ d. d.number ≤ highest (reservations journal) (receiving_name (sending_name (salt_of journal) bytes) sci_a 0))
 
 -- ---- what a history shows
 
@@ -130,8 +130,8 @@ pub meets_all : (its : List EndRun) (sends : List SentIn) (ds : List Delivery) �
     sent_in_all (of_end A its) ≡ sends → delivered_in_all (of_end B its) ≡ ds →
     MeetsAll its (map numbered_sent (sent_under bytes sends)) (map numbered_delivery (delivered_at bytes sci_a 0 ds))
 meets_all its sends ds are peers' sent delivered = record {
-  orderly = each_suffices B bytes sci_a 0 [] (blocks its) (met NoPremise bytes sci_a 0 [] its are);
-  are_peers = peers_suffice (blocks its) peers';
+  orderly = each_suffices B bytes sci_a 0 [] _ (met _ bytes sci_a 0 [] its are);
+  are_peers = peers_suffice _ peers';
   sends = rw (runs_of-blocks A its, sent);
   delivers = rw (runs_of-blocks B its, delivered);
 }

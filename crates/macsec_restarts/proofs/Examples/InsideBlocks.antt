@@ -2,11 +2,11 @@
 -- endpoints.
 use Rattle.macsec_restarts.proofs.{
   Names.{[], ◌++◌, ◌∙◌, ◌∷◌, ◌≡◌, A, accepted_from, after_commands, Ahead, ahead_after, ahead_by, ahead_step, ap},
-  Names.{append-nil, append_assoc, AreNew, B, before_this_run, begins, begins_again, Bool, carried_step, closing_with},
-  Names.{comes_in, Command, command, Delivery, effect, End, ended_after, endpoint_input, false, first_carried},
-  Names.{Happening, if◌then◌else◌, Input, is_inside, is_through, Keeping, keeping_step, KeepingInput, KeepingOutput},
-  Names.{last_run, lets_through, List, map, newly_accepted, none_refused, not_yet, opening_with, operator_command},
-  Names.{passes, passing_from, refl, Run, run_inside, runs_of, same_end, Some, Standing, standing, sym, through, true},
+  Names.{append-nil, append_assoc, AreNew, B, begins, Bool, carried_step, closing_with, comes_in, Command, command},
+  Names.{Delivery, effect, End, ended_after, endpoint_input, false, first_carried, Happening, if◌then◌else◌, Input},
+  Names.{is_inside, is_through, Keeping, keeping_step, KeepingInput, KeepingOutput, last_run, lets_through, List, map},
+  Names.{newly_accepted, none_refused, opening_with, operator_command, passes, passing_from, refl, Run, run_inside},
+  Names.{runs_of, same_end, Some, Standing, sym, through, true},
   AheadInside.stays,
   AheadOrder.closing_with-input,
   Examples.Blocks.{EndRun, blocks},
@@ -46,10 +46,8 @@ drops_next {a} {input} {inputs} lets none rest = record {
 by_standing : (again : Bool) (it : Standing) (a : Ahead) (input : Input) (answer : KeepingOutput × Keeping) →
     is_through again it ≡ true →
     (ahead_by again it a input answer).1 ≡ record a { k = answer.1; ended = ended_after a input answer }
-by_standing true it a input answer is = cc
 by_standing false passes a input answer is = refl
-by_standing false (not_yet at) a input answer is = cc
-by_standing false (before_this_run at) a input answer is = cc
+by_standing again it a input answer is = cc
 
 pub goes_on : (a : Ahead) (input : Input) (k : Keeping) → lets_through a (endpoint_input input) ≡ true →
     (keeping_step a.k (endpoint_input input)).1 ≡ k →
@@ -57,8 +55,8 @@ pub goes_on : (a : Ahead) (input : Input) (k : Keeping) → lets_through a (endp
     { k = k; ended = ended_after a input ((keeping_step a.k (endpoint_input input)).0, k) }
 goes_on a input k lets is =
     let answer = keeping_step a.k (endpoint_input input) in
-    by_standing (begins_again a input) (standing a input) a input answer lets
-    ∙ ap (λ (x : Keeping). record a { k = x; ended = ended_after a input (answer.0, x) }) is
+    by_standing _ _ _ input answer lets
+    ∙ ap (λ x. record a { k = x; ended = ended_after a input (answer.0, x) }) is
 
 -- commands that pass and end no SA
 abbrev pub ArePassed : Ahead → List Command → Type 0
@@ -117,7 +115,7 @@ module _ (ahead : End → Bool) where
           (if is_inside ahead before h then h ∷ next else next) ≡
           map (comes_in e) (if b then input ∷ through (ahead_step a input).1 inputs
           else through (ahead_step a input).1 inputs) ++ later
-      by_test true reaches rest = ap (λ (c : Bool). if c then h ∷ next else next) reaches ∙ ap (λ hs. h ∷ hs) rest
+      by_test true reaches rest = ap (λ c. if c then h ∷ next else next) reaches ∙ ap (λ hs. h ∷ hs) rest
       by_test false reaches rest = rw (reaches, rest)
 
   abbrev pub inside_of : EndRun → EndRun
@@ -132,7 +130,7 @@ module _ (ahead : End → Bool) where
       let last : last_run (runs_of it.0 (before ++ first ∷ [])) ≡ Some new =
       rw (
         (runs_of-begins it.0 it.0 it.1.config it.1.journal before
-            ∙ ap (λ (b : Bool). runs_of it.0 before ++ (if b then new ∷ [] else [])) (own_end it.0)),
+            ∙ ap (λ b. runs_of it.0 before ++ (if b then new ∷ [] else [])) (own_end it.0)),
         last_run-push (runs_of
             it.0 before) new,
       ) in

@@ -68,22 +68,21 @@ f1 = receiver.frame 1 t
 pub accepts_now : (left_out : Premise) (before : List Reservation) (uses : List CipherUse) → Contains uses use_1 →
     IsStep left_out bytes sci_a 0 (receiver.at (salt false) before (receiver.ready false)) [] uses (receiver.link 1 t)
 accepts_now left_out before uses there =
-    first_link (λ d. genuine_at (receiver.ready false) f1 receiver.accepts_1 uses (receiver.judged_1 t opens_1) there)
-    octets_1
+    first_link (λ d. genuine_at (receiver.ready false) f1 _ uses (receiver.judged_1 t opens_1) there) octets_1
     (is_strict refl refl refl)
 
 pub plain_told : Told (opening plain) plain.inputs [] (receiver.delivery 1 ∷ []) (at_b (receiver.heard_1 t))
 plain_told =
     receiver.told (salt false) (reads []) false free_b
-    (told_link receiver.accepts_1 refl (receiver.judged_1 t opens_1) (receiver.ready_sound false)
+    (told_link _ refl (receiver.judged_1 t opens_1) (receiver.ready_sound false)
     (told_end _ (receiver.heard_1_sound t opens_1)))
 
 -- a frame that nobody sealed is delivered
 pub not_forged_needed : LawWithout IsNotForged (blocks ((B, plain) ∷ [])) → ⊥
 not_forged_needed =
-    alone IsNotForged plain (at_b (receiver.heard_1 t)) plain_told refl refl
+    alone _ plain (at_b (receiver.heard_1 t)) plain_told refl refl
     (λ uses. receiver.steps (salt false) (reads []) IsNotForged false free_b
-    (step_link receiver.accepts_1 refl (receiver.judged_1 t opens_1)
+    (step_link _ refl (receiver.judged_1 t opens_1)
     (first_link (λ d. absurd (d refl)) octets_1 (is_strict refl refl refl)) no_step))
 
 -- ---- it does not validate
@@ -114,17 +113,14 @@ disabled_sound = commands_sound cs refl refl (begins_sound gcm_b refl)
 
 lax_told : Told (opening lax) lax.inputs [] (receiver.delivery 1 ∷ []) (at_b passed)
 lax_told =
-    commands_told cs are_new refl refl (begins_sound gcm_b refl)
-    (told_link unchecked refl judged disabled_sound
+    commands_told cs are_new refl refl (begins_sound gcm_b refl) (told_link _ refl judged disabled_sound
     (told_end _ (heard_by f1 refl judged refl disabled_sound)))
 
 -- what it does not validate is delivered
 pub strict_needed : LawWithout IsStrict (blocks ((B, lax) ∷ [])) → ⊥
 strict_needed =
-    alone IsStrict lax (at_b passed) lax_told refl refl
-    (λ uses. commands_steps IsStrict bytes sci_a 0 cs are_new refl
-    (step_link unchecked refl judged
-    (first_link (λ d. genuine_at disabled f1 unchecked uses judged tt) octets_1
+    alone IsStrict lax _ lax_told refl refl (λ uses. commands_steps IsStrict bytes sci_a 0 cs are_new refl
+    (step_link _ refl judged (first_link (λ d. genuine_at disabled f1 _ uses judged tt) octets_1
     (record { mode = λ n. absurd (n refl); replay = λ n. refl; window = λ n. refl })) no_step))
 
 -- ---- two runs of B, and none of A
@@ -136,7 +132,7 @@ two_runs_of_b left_out s r sound sound' agree' salts durable same =
     let its : List EndRun = (B, s) ∷ (B, r) ∷ [] in
     record {
       a = rw (runs_of-blocks A its) (record {
-        sound = λ d. All-nil IsSoundRun;
+        sound = λ d. All-nil _;
         agree = no_pairs (AgreeInRunsBut left_out);
         salt = λ d. no_pairs SameSalt;
         durable = λ d. no_pairs KeepsDurable;
@@ -213,7 +209,7 @@ free_later = is_free (reserved_2 ∷ []) (name_of (salt false)) 1 reserved_is
 later_told : Told (opening later) later.inputs [] (receiver.delivery 1 ∷ []) (at_later (receiver.heard_1 t))
 later_told =
     receiver.told (salt false) (reads (reserved_2 ∷ [])) false free_later
-    (told_link receiver.accepts_1 refl (receiver.judged_1 t opens_1) (receiver.ready_sound false)
+    (told_link _ refl (receiver.judged_1 t opens_1) (receiver.ready_sound false)
     (told_end _ (receiver.heard_1_sound t opens_1)))
 
 -- B delivers what it sent itself

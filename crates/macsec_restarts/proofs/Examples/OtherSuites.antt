@@ -82,8 +82,7 @@ own_front = take 22 (own_frame [])
 own_octets : AreOctets (own_frame own_icv)
 own_octets =
     All-append (λ x. x < 256) own_front (items 16 own_icv) (small own_front refl)
-    (rw (sealed bytes own_iv own_aad) at (tag_is bytes own_iv own_aad (small_at (aes bytes (pre_counter_block own_iv))
-    own_block)))
+    (rw (sealed bytes own_iv own_aad) at (tag_is bytes own_iv own_aad (small_at _ own_block)))
 
 -- ---- the run of B that sends it
 
@@ -107,7 +106,7 @@ abbrev sent_own : SentIn
 sent_own = record { seal = own_use; number = 1; frame = client 1 }
 
 own_start_sound : IsSound (start config_own)
-own_start_sound = begins_sound config_own refl
+own_start_sound = begins_sound _ refl
 
 own_on_sound : IsSound (own_state 1 (row_at 1 true ∷ []) 0)
 own_on_sound = commands_sound own_set_up refl refl own_start_sound
@@ -124,7 +123,7 @@ abbrev own_last : Keeping
 own_last = extended.tx_at (reserved_2 ∷ []) (own_state 2 (row_at 2 true ∷ []) 1)
 
 own_reserves : (keeping_step own_created extended.report_in).1 ≡ own_reserved
-own_reserves = rw (raised_alone extended.tx_name 2)
+own_reserves = rw (raised_alone _ 2)
 
 own_goes : may_go own_reserved (client_frame (client 1)) ≡ true
 own_goes = may_send own_reserved (client 1) 1 refl
@@ -253,9 +252,9 @@ at e s = kept (salt false) (reads (before e)) [] s
 
 free : (e : End) → highest (reads (before e)) (name_of (salt false)) < 2 ^ 32
 free A = let least : highest (reads []) (name_of (salt false)) < 1 =
-    is_free [] (name_of (salt false)) 1 none_is (omega arith) in omega (arith, least)
+    is_free [] _ 1 none_is (omega arith) in omega (arith, least)
 free B =
-    let least : highest (reads (reserved_2 ∷ [])) (name_of (salt false)) < 3 =
+    let least =
     is_free (reserved_2 ∷ []) (name_of (salt false)) 3 reserved_is
     (at_most (sending_name (salt false) bytes) (name_of (salt false)) 2 3 (omega arith)) in
     omega (arith, least)
@@ -264,16 +263,16 @@ are_new : (e : End) → AreNew (at e (start xpn_b)) (set_up e)
 are_new e = (refl, (refl, (is_new (reads (before e)) (name_of (salt false)) lowest (free e), (refl, tt))))
 
 hears : (e : End) → (keeping_step (at e (ready e)) (link e)).1 ≡ at e (heard e)
-hears e = link_step_by (at e (ready e)) (f e) accepts (works e).whole (judged e)
+hears e = link_step_by _ (f e) _ (works e).whole (judged e)
 
 gives : (e : End) → newly_delivered (at e (ready e)) (link e) ≡ delivery ∷ []
-gives A = gives_by (at A (ready A)) (f A) accepts refl (judged A)
-gives B = gives_by (at B (ready B)) (f B) accepts refl (judged B)
+gives A = gives_by (at A (ready A)) (f A) _ refl (judged A)
+gives B = gives_by (at B (ready B)) (f B) _ refl (judged B)
 
 told_link_of : (e : End) → Told (at e (start xpn_b)) (commands e ++ link e ∷ []) [] (delivery ∷ []) (at e (heard e))
 told_link_of e =
     commands_told (set_up e) (are_new e) (works e).none (works e).fit start_sound
-    (told_next (ready_sound e) refl (gives e) (hears e) (told_end (at e (heard e)) (heard_is_sound e)))
+    (told_next (ready_sound e) refl (gives e) (hears e) (told_end _ (heard_is_sound e)))
 
 abbrev run_b : End → Run
 run_b e = record { journal = journal false (before e); config = xpn_b; inputs = commands e ++ link e ∷ [] }
@@ -306,15 +305,14 @@ not_of_two : (m n k : ℕ) (x y z : List ℕ) → (m ≡ n → ⊥) → (m ≡ k
 not_of_two m n k x y z first second it = by_places it.0 it.2
   where
     by_places : (places : List ℕ) → map (slice_get ((n ∷ y) ∷ (k ∷ z) ∷ [])) places ≡ Some (m ∷ x) ∷ [] → ⊥
-    by_places [] same = cc
     by_places (zero ∷ ps) same = let one : n ≡ m = cc in first (sym one)
     by_places (suc zero ∷ ps) same = let one : k ≡ m = cc in second (sym one)
-    by_places (suc (suc p) ∷ ps) same = cc
+    by_places places same = cc
 
 module _ (a b : Run) (sends : Facts 1 sci_a a (sender.sent false) []) (last : Keeping)
     (told : Told (opening b) b.inputs [] (delivery ∷ []) last) (keys : last.secy.keys ≡ key_b A ∷ []) where
   keys_at_b : (y : InstalledKey) → Contains (closing b).secy.keys y → key_b A ≡ y
-  keys_at_b y there = only (key_b A) y (rw (ap (λ (k : Keeping). k.secy.keys) told.ends ∙ keys) at there)
+  keys_at_b y there = only _ y (rw (ap (λ k. k.secy.keys) told.ends ∙ keys) at there)
 
   -- A's key has 32-bit packet numbers, so nothing is asked of the salts
   agree_at_both : AgreeAtBothBut HasOneSuite a b
@@ -326,7 +324,7 @@ module _ (a b : Run) (sends : Facts 1 sci_a a (sender.sent false) []) (last : Ke
   sent_is = rw sends.told.sends
 
   sealed_a : Contains (sealed_in_all (a ∷ []) ++ []) use_1
-  sealed_a = rw (seals_are (a ∷ []) (sender.sent false) sent_is) (0, omega arith, refl)
+  sealed_a = rw (seals_are _ _ sent_is) (0, omega arith, refl)
 
   widened : AreOwn a.inputs → ((uses : List CipherUse) → Contains uses use_1 →
       AreSteps HasOneSuite bytes sci_a 0 (opening b) [] uses b.inputs) →
@@ -397,6 +395,5 @@ module _ (s r : Run) (first last : Keeping) (sends : Told (opening s) s.inputs (
 
 pub kept_suite_needed : LawWithout KeepsSuite (blocks ((B, first_run) ∷ (B, run_b B) ∷ [])) → ⊥
 kept_suite_needed =
-    reflected first_run (run_b B) own_last (at B (heard B)) told_own (told_b B) refl refl
-    (tt, (tt, (tt, (tt, (tt, tt))))) refl refl (is_durable reserved_2 reserved_is)
-    (steps_b KeepsSuite B refl)
+    reflected _ _ own_last (at B (heard B)) told_own (told_b B) refl refl
+    (tt, (tt, (tt, (tt, (tt, tt))))) refl refl (is_durable _ reserved_is) (steps_b _ B refl)

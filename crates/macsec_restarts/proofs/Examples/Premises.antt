@@ -1,5 +1,5 @@
 -- The premises of order and once, with names, and the promise without one of them.
-use Rattle.macsec_restarts.proofs.Names.{[], ◌++◌, ◌∷◌, ◌≡◌, ◌≢◌, A, AgreeOnKeys, All, All-weaker, AllPairs, ArePeers}
+use Rattle.macsec_restarts.proofs.Names.{[], ◌∷◌, ◌≡◌, ◌≢◌, A, AgreeOnKeys, All, All-weaker, AllPairs, ArePeers}
 use Rattle.macsec_restarts.proofs.Names.{AtEach, B, begins, closing, comes_in, ComesInOrder, Contains, CreatesAbove}
 use Rattle.macsec_restarts.proofs.Names.{delivered_at, delivered_in, delivered_so_far, Delivery, End, get_or, Happening}
 use Rattle.macsec_restarts.proofs.Names.{HasOctets, IfSome, InstalledKey, is_xpn, IsGenuineAt, IsHistory, IsOrderedAt}
@@ -91,7 +91,7 @@ LawWithout left_out events =
 ordered_suffices : (e : End) (bytes : List ℕ) (sci : Sci) (an : ℕ) (before : List Happening) (h : Happening) → IsOrderedAtBut NoPremise e bytes sci an before h →
     IsOrderedAt e bytes sci an before h
 ordered_suffices e bytes sci an before (begins f config journal) is = λ same. is same (λ none. cc)
-ordered_suffices e bytes sci an before (comes_in f input) is = λ same. by_run (last_run (runs_of e before)) (is same)
+ordered_suffices e bytes sci an before (comes_in f input) is = λ same. by_run _ (is same)
   where
     by_run : (o : Option Run) → IfSome o (λ run. IsOrderedInputBut NoPremise run bytes sci an input) → IfSome o (λ run. IsOrderedInput run bytes sci an input)
     by_run None it = tt
@@ -105,7 +105,7 @@ pub each_suffices : (e : End) (bytes : List ℕ) (sci : Sci) (an : ℕ) (before 
 each_suffices e bytes sci an before [] each = tt
 each_suffices e bytes sci an before (h ∷ more) each = (
   record { genuine = each.0.genuine (λ none. cc); octets = each.0.octets; ordered = ordered_suffices e bytes sci an before h each.0.ordered },
-  each_suffices e bytes sci an (before ++ h ∷ []) more each.1,
+  each_suffices e bytes sci an _ more each.1,
 )
 
 same_end_suffices : (run later : Run) → IsSameEndBut NoPremise run later → IsSameEnd run later
@@ -119,7 +119,7 @@ keys_suffice of_suite of_salt has_suite has_salt run later are x y here there by
 history_suffices : (runs : List Run) → IsHistoryBut NoPremise runs → IsHistory runs
 history_suffices runs is = record {
   sound = is.sound (λ none. cc);
-  agree = λ i j d less within. keys_suffice KeepsSuite KeepsSalt (λ none. cc) (λ none. cc) (get_or runs i d) (get_or runs j d) (is.agree i j d less within);
+  agree = λ i j d less within. keys_suffice _ _ (λ none. cc) (λ none. cc) (get_or runs i d) (get_or runs j d) (is.agree i j d less within);
   salt = is.salt (λ none. cc);
   durable = is.durable (λ none. cc);
 }
@@ -144,7 +144,7 @@ keys_but of_suite of_salt left_out run later are x y here there bytes =
 pub history_but : (left_out : Premise) (runs : List Run) → IsHistory runs → IsHistoryBut left_out runs
 history_but left_out runs is = record {
   sound = λ d. is.sound;
-  agree = λ i j d less within. keys_but KeepsSuite KeepsSalt left_out (get_or runs i d) (get_or runs j d) (is.agree i j d less within);
+  agree = λ i j d less within. keys_but _ _ left_out (get_or runs i d) (get_or runs j d) (is.agree i j d less within);
   salt = λ d. is.salt;
   durable = λ d. is.durable;
 }

@@ -4,12 +4,11 @@ use Rattle.macsec_reserve.specs.Keeping.{begins_at}
 use Rattle.macsec_restarts.proofs.{
   Names.{[], ◌++◌, ◌<◌, ◌∙◌, ◌∷◌, ◌≡◌, A, after_commands, All-cons, All-nil, all_fit, ap, AreNew, arith, at_row, B},
   Names.{begins_sound, bytes, carried_step, CipherUse, client, Command, command, commands_sound, Contains, Delayed},
-  Names.{delivered_in_all, Delivery, effect, false, gcm_b, genuine_at, highest, IfSome, is_new, IsSound},
-  Names.{IsStrictlyIncreasing, IsSubsequence, IsUnder, journal, Judgement, judgement_of, Keeping, keeping_step},
-  Names.{KeepingInput, KeepsDurable, key_row, List, map, member, name_of, newly_delivered, None, none_refused},
-  Names.{one_alone, opening, Passed, refl, Replay, Run, rx_from, rx_row, RxDel, RxOn, RxRow, RxSa, salt, SameSalt},
-  Names.{sci_a, sci_b, sealed_in_all, sent_in_all, slice_get, Some, start, State, state_after_receiving, suc},
-  Names.{tables_fit, true, use_opened, zero, ℕ},
+  Names.{delivered_in_all, Delivery, effect, false, gcm_b, genuine_at, highest, IfSome, is_new, IsStrictlyIncreasing},
+  Names.{IsSubsequence, IsUnder, journal, Judgement, judgement_of, Keeping, keeping_step, KeepingInput, KeepsDurable},
+  Names.{key_row, List, map, member, name_of, newly_delivered, None, none_refused, one_alone, opening, Passed, refl},
+  Names.{Replay, Run, rx_from, rx_row, RxDel, RxOn, RxRow, RxSa, salt, SameSalt, sci_a, sci_b, sealed_in_all},
+  Names.{sent_in_all, slice_get, Some, start, State, state_after_receiving, suc, tables_fit, true, use_opened, zero, ℕ},
   Examples.{
     Blocks.{AreOwn, AreSteps, IsStep, Told, blocks, commands_steps, commands_told, first_link, gives_by, is_strict},
     Blocks.{link_step_by, no_step, heard_by, step_link, step_next, told_end, told_link, told_next},
@@ -41,12 +40,11 @@ not_twice it = by_places it.0 it.1 it.2
   where
     by_places : (places : List ℕ) → IsStrictlyIncreasing places →
         map (slice_get sent) places ≡ Some (1 ∷ client 1) ∷ Some (1 ∷ client 1) ∷ [] → ⊥
-    by_places [] rise same = cc
-    by_places (p ∷ []) rise same = cc
     by_places (p ∷ q ∷ more) rise same =
         let second : slice_get sent q ≡ Some (1 ∷ client 1) = cc in
-        let less : p < q = rise 0 (omega arith) in
+        let less = rise 0 (omega arith) in
         omega (arith, less, only_first q second)
+    by_places places rise same = cc
 
 -- ---- one run of each end
 
@@ -59,7 +57,7 @@ module _ (left_out : Premise) (a b : Run) (sends : Facts 1 sci_a a (sender.sent 
   sent_is = rw sends.told.sends
 
   sealed : Contains (sealed_in_all (a ∷ []) ++ sealed_in_all []) use_1
-  sealed = rw (seals_are (a ∷ []) (sender.sent false) sent_is) (0, omega arith, refl)
+  sealed = rw (seals_are _ _ sent_is) (0, omega arith, refl)
 
   twice : AreOwn a.inputs → ((uses : List CipherUse) → Contains uses use_1 →
       AreSteps left_out bytes sci_a 0 (opening b) [] uses b.inputs) →
@@ -80,7 +78,7 @@ abbrev at_b : State → Keeping
 at_b s = receiver.at (salt false) (reads []) s
 
 free_b : highest (reads []) (name_of (salt false)) < 1
-free_b = is_free [] (name_of (salt false)) 1 none_is (omega arith)
+free_b = is_free [] _ 1 none_is (omega arith)
 
 abbrev run_with : List KeepingInput → Run
 run_with inputs = record { journal = journal false []; config = gcm_b; inputs = receiver.commands false ++ inputs }
@@ -168,11 +166,11 @@ works Wide = record {
   fit = refl;
   once_fit = refl;
   again_fit = refl;
-  gives = gives_by (at_b (set Wide)) f receiver.accepts_1 refl (first_judged Wide);
-  gives_again = gives_by (at_b (once Wide)) f (judged_as Wide) refl (second_judged Wide);
+  gives = gives_by (at_b (set Wide)) f _ refl (first_judged Wide);
+  gives_again = gives_by (at_b (once Wide)) f _ refl (second_judged Wide);
   order = record { mode = λ n. refl; replay = λ n. refl; window = λ n. absurd (n refl) };
-  genuine = λ uses there. genuine_at (set Wide) f receiver.accepts_1 uses (first_judged Wide) there;
-  genuine_again = λ uses there. genuine_at (once Wide) f (judged_as Wide) uses (second_judged Wide) there;
+  genuine = λ uses there. genuine_at (set Wide) f _ uses (first_judged Wide) there;
+  genuine_again = λ uses there. genuine_at (once Wide) f _ uses (second_judged Wide) there;
   still = λ fresh. fresh (row_of Wide) refl refl;
   keys = refl;
 }
@@ -182,11 +180,11 @@ works Off = record {
   fit = refl;
   once_fit = refl;
   again_fit = refl;
-  gives = gives_by (at_b (set Off)) f receiver.accepts_1 refl (first_judged Off);
-  gives_again = gives_by (at_b (once Off)) f (judged_as Off) refl (second_judged Off);
+  gives = gives_by (at_b (set Off)) f _ refl (first_judged Off);
+  gives_again = gives_by (at_b (once Off)) f _ refl (second_judged Off);
   order = record { mode = λ n. refl; replay = λ n. absurd (n refl); window = λ n. refl };
-  genuine = λ uses there. genuine_at (set Off) f receiver.accepts_1 uses (first_judged Off) there;
-  genuine_again = λ uses there. genuine_at (once Off) f (judged_as Off) uses (second_judged Off) there;
+  genuine = λ uses there. genuine_at (set Off) f _ uses (first_judged Off) there;
+  genuine_again = λ uses there. genuine_at (once Off) f _ uses (second_judged Off) there;
   still = λ fresh. fresh (row_of Off) refl refl;
   keys = refl;
 }
@@ -195,16 +193,16 @@ abbrev run_of : Kind → Run
 run_of k = run_with (command (setting k) ∷ link ∷ link ∷ [])
 
 first_step : (k : Kind) → (keeping_step (at_b (set k)) link).1 ≡ at_b (once k)
-first_step k = link_step_by (at_b (set k)) f receiver.accepts_1 refl (first_judged k)
+first_step k = link_step_by _ f _ refl (first_judged k)
 
 second_step : (k : Kind) → (keeping_step (at_b (once k)) link).1 ≡ at_b (again k)
-second_step k = link_step_by (at_b (once k)) f (judged_as k) refl (second_judged k)
+second_step k = link_step_by _ f _ refl (second_judged k)
 
 kind_told : (k : Kind) → Told (opening (run_of k)) (run_of k).inputs [] twice_1 (at_b (again k))
 kind_told k =
     let w = works k in
-    let first : IsSound (set k) = commands_sound (set_up k) w.none w.fit (begins_sound gcm_b refl) in
-    let second : IsSound (once k) = heard_by f refl (first_judged k) w.once_fit first in
+    let first = commands_sound (set_up k) w.none w.fit (begins_sound gcm_b refl) in
+    let second = heard_by f refl (first_judged k) w.once_fit first in
     commands_told (set_up k) w.new w.none w.fit (begins_sound gcm_b refl)
     (told_next first refl w.gives (first_step k)
     (told_next second refl w.gives_again (second_step k)
@@ -217,7 +215,7 @@ kind_steps : (k : Kind) (uses : List CipherUse) → Contains uses use_1 →
     AreSteps (premise_of k) bytes sci_a 0 (opening (run_of k)) [] uses (run_of k).inputs
 kind_steps k uses there =
     let w = works k in
-    commands_steps (premise_of k) bytes sci_a 0 (set_up k) w.new w.none
+    commands_steps _ bytes sci_a 0 (set_up k) w.new w.none
     (step_next (first_link (λ d. w.genuine uses there) octets_1 w.order) (first_step k) w.gives
     (step_next (record {
       genuine = λ d. w.genuine_again uses there;
@@ -227,11 +225,10 @@ kind_steps k uses there =
     }) (second_step k) w.gives_again no_step))
 
 pub window_of_0_needed : LawWithout HasWindowOf0 (blocks ((A, run_a false) ∷ (B, run_of Wide) ∷ [])) → ⊥
-window_of_0_needed = twice HasWindowOf0 (run_a false) (run_of Wide) (facts_a false) (kind_facts Wide) own_a
-    (kind_steps Wide)
+window_of_0_needed = twice _ (run_a false) (run_of Wide) (facts_a false) (kind_facts Wide) own_a (kind_steps Wide)
 
 pub protection_needed : LawWithout DropsLate (blocks ((A, run_a false) ∷ (B, run_of Off) ∷ [])) → ⊥
-protection_needed = twice DropsLate (run_a false) (run_of Off) (facts_a false) (kind_facts Off) own_a (kind_steps Off)
+protection_needed = twice _ (run_a false) (run_of Off) (facts_a false) (kind_facts Off) own_a (kind_steps Off)
 
 -- ---- the SA is deleted after the frame, and created again at its packet number
 
@@ -264,12 +261,12 @@ are_new = (refl, (is_new (reads []) (name_of (salt false)) 1 free_b, (refl, tt))
 
 begun_told : Told (opening begun) begun.inputs [] twice_1 (at_b (state_after_receiving enabled f receiver.accepts_1))
 begun_told =
-    let first : IsSound (receiver.heard_1 t) = receiver.heard_1_sound t opens_1 in
-    let last : IsSound enabled = commands_sound cs refl refl first in
+    let first = receiver.heard_1_sound t opens_1 in
+    let last = commands_sound cs refl refl first in
     receiver.told (salt false) (reads []) false free_b
-    (told_link receiver.accepts_1 refl (receiver.judged_1 t opens_1) (receiver.ready_sound false)
+    (told_link _ refl (receiver.judged_1 t opens_1) (receiver.ready_sound false)
     (commands_told cs are_new refl refl first
-    (told_link receiver.accepts_1 refl enabled_judged last (told_end _ (heard_by f refl enabled_judged refl last)))))
+    (told_link _ refl enabled_judged last (told_end _ (heard_by f refl enabled_judged refl last)))))
 
 -- a command after the delivery, where the premise on creation is left out
 command_now : {uses : List CipherUse} {s : State} {c : Command} →
@@ -286,21 +283,20 @@ begun_steps : (uses : List CipherUse) → Contains uses use_1 →
     AreSteps IsCreatedAbove bytes sci_a 0 (opening begun) [] uses begun.inputs
 begun_steps uses there =
     receiver.steps (salt false) (reads []) IsCreatedAbove false free_b
-    (step_link receiver.accepts_1 refl (receiver.judged_1 t opens_1) (accepts_now IsCreatedAbove (reads []) uses there)
+    (step_link _ refl (receiver.judged_1 t opens_1) (accepts_now _ _ uses there)
     (step_next command_now (carried_step (at_b (receiver.heard_1 t)) (RxDel sci_a 0) refl refl) refl
     (step_next command_now (carried_step (at_b deleted) (RxSa sci_a 0 0 1 1)
     (is_new (reads []) (name_of (salt false)) 1 free_b) refl) refl
     (step_next command_now (carried_step (at_b created) (RxOn sci_a 0) refl refl) refl
-    (step_link receiver.accepts_1 refl enabled_judged (record {
-      genuine = λ d. genuine_at enabled f receiver.accepts_1 uses enabled_judged there;
+    (step_link _ refl enabled_judged (record {
+      genuine = λ d. genuine_at enabled f _ uses enabled_judged there;
       octets = octets_1;
       order = λ d among. is_strict refl refl refl;
       creates = λ d. absurd (d refl);
     }) no_step)))))
 
 pub creation_above_needed : LawWithout IsCreatedAbove (blocks ((A, run_a false) ∷ (B, begun) ∷ [])) → ⊥
-creation_above_needed = twice IsCreatedAbove (run_a false) begun (facts_a false)
-    (facts_of 1 refl refl begun_told) own_a begun_steps
+creation_above_needed = twice _ (run_a false) begun (facts_a false) (facts_of 1 refl refl begun_told) own_a begun_steps
 
 -- ---- a crash of B before it saves: its second run begins with an empty journal, and receives the frame again
 
@@ -309,7 +305,7 @@ module _ (a b : Run) (sends : Facts 1 sci_a a (sender.sent false) []) (receives 
   sent_so = rw sends.told.sends
 
   among : (us : List CipherUse) → Contains (sealed_in_all (a ∷ []) ++ us) use_1
-  among us = rw (seals_are (a ∷ []) (sender.sent false) sent_so) (0, omega arith, refl)
+  among us = rw (seals_are _ _ sent_so) (0, omega arith, refl)
 
   crashed : AreOwn a.inputs → KeepsDurable b b →
       ((uses : List CipherUse) → Contains uses use_1 → AreSteps IsSaved bytes sci_a 0 (opening b) [] uses b.inputs) →
@@ -326,14 +322,11 @@ module _ (a b : Run) (sends : Facts 1 sci_a a (sender.sent false) []) (receives 
       (All-cons (IsRunOf 1 sci_a) a [] sends.of (All-nil (IsRunOf 1 sci_a))) (one_alone SameSalt a)
       (one_alone KeepsDurable a)
       (both (IsRunOf 2 sci_b) b b receives.of receives.of) (pair SameSalt b b refl) (pair KeepsDurable b b durable))
-      sent_so
-      (ap (λ (xs : List Delivery). xs ++ delivered_in_all (b ∷ [])) receives.told.delivers
-      ∙ ap (λ (xs : List Delivery). receiver.delivery 1 ∷ (xs ++ [])) receives.told.delivers)
-      not_twice
+      sent_so (ap (λ xs. xs ++ delivered_in_all (b ∷ [])) receives.told.delivers
+      ∙ ap (λ xs. receiver.delivery 1 ∷ (xs ++ [])) receives.told.delivers) not_twice
 
 pub saving_needed : LawWithout IsSaved (blocks ((A, run_a false) ∷ (B, plain) ∷ (B, plain) ∷ [])) → ⊥
 saving_needed =
     crashed (run_a false) plain (facts_a false) (facts_of 1 refl refl plain_told) own_a (λ name. omega arith)
     (λ uses there. receiver.steps (salt false) (reads []) IsSaved false free_b
-    (step_link receiver.accepts_1 refl (receiver.judged_1 t opens_1)
-    (accepts_now IsSaved (reads []) uses there) no_step))
+    (step_link _ refl (receiver.judged_1 t opens_1) (accepts_now _ _ uses there) no_step))

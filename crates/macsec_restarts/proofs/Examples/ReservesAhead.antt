@@ -27,7 +27,7 @@ use Rattle.macsec_restarts.proofs.{
     Premises.NoPremise,
     Tags.{octets_1, octets_3},
     TwoRunsEach.{Facts, facts_of, at_most, facts_a, is_durable, is_free, is_saved, meets, none_is, opens_1, opens_3},
-    TwoRunsEach.{pair, reads, reserved_2, reserved_is, run_a, saved_1, saved_is, t, u, use_1, use_3},
+    TwoRunsEach.{pair, reads, reserved_is, run_a, saved_1, saved_is, t, u, use_1, use_3},
   },
 }
 use Rattle.macsec_restarts.proofs.Examples.Receivers as receiver
@@ -112,19 +112,19 @@ abbrev k_3 : State → Keeping
 k_3 s = k_at true (granted_after saved_3) s
 
 hears_1 : (keeping_step (k_1 (receiver.ready false)) link_1).1 ≡ k_1 (receiver.heard_1 t)
-hears_1 = link_step_by (k_1 (receiver.ready false)) f1 receiver.accepts_1 refl (receiver.judged_1 t opens_1)
+hears_1 = link_step_by (k_1 (receiver.ready false)) f1 _ refl (receiver.judged_1 t opens_1)
 
 hears_2 : (keeping_step (k_1 (receiver.heard_1 t)) link_1).1 ≡ k_1 (receiver.dropped_1 t)
-hears_2 = link_step_by (k_1 (receiver.heard_1 t)) f1 receiver.is_late refl (receiver.late_then t)
+hears_2 = link_step_by (k_1 (receiver.heard_1 t)) f1 _ refl (receiver.late_then t)
 
 does_delete : (keeping_step (k_1 (receiver.dropped_1 t)) deletes).1 ≡ k_1 deleted
 does_delete = carried_step (k_1 (receiver.dropped_1 t)) (RxDel sci_a 0) refl refl
 
 hears_again : (keeping_step (k_at true [] (receiver.ready true)) link_1).1 ≡ k_at true [] (receiver.dropped_2 t)
-hears_again = link_step_by (k_at true [] (receiver.ready true)) f1 receiver.is_late refl (receiver.late_again t)
+hears_again = link_step_by (k_at true [] (receiver.ready true)) f1 _ refl (receiver.late_again t)
 
 hears_3 : (keeping_step (k_3 (receiver.dropped_2 t)) link_3).1 ≡ k_3 (receiver.heard_3 t u)
-hears_3 = link_step_by (k_3 (receiver.dropped_2 t)) f3 receiver.accepts_3 refl (receiver.judged_3 t u opens_3)
+hears_3 = link_step_by (k_3 (receiver.dropped_2 t)) f3 _ refl (receiver.judged_3 t u opens_3)
 
 -- ---- its lists
 
@@ -140,13 +140,13 @@ frames_told : (again : Bool) → Told (k_at again [] (receiver.ready again)) (re
     (last_b again)
 frames_told false =
     told_next (receiver.ready_sound false) refl refl refl
-    (told_link receiver.accepts_1 refl (receiver.judged_1 t opens_1) (receiver.ready_sound false)
-    (told_link receiver.is_late refl (receiver.late_then t) (receiver.heard_1_sound t opens_1)
+    (told_link _ refl (receiver.judged_1 t opens_1) (receiver.ready_sound false)
+    (told_link _ refl (receiver.late_then t) (receiver.heard_1_sound t opens_1)
     (told_next (receiver.dropped_1_sound t opens_1) refl refl does_delete (told_end _ deleted_sound))))
 frames_told true =
-    told_link receiver.is_late refl (receiver.late_again t) (receiver.ready_sound true)
+    told_link _ refl (receiver.late_again t) (receiver.ready_sound true)
     (told_next (receiver.dropped_2_sound t) refl refl refl
-    (told_link receiver.accepts_3 refl (receiver.judged_3 t u opens_3) (receiver.dropped_2_sound t)
+    (told_link _ refl (receiver.judged_3 t u opens_3) (receiver.dropped_2_sound t)
     (told_end _ (receiver.heard_3_sound t u opens_3))))
 
 told_b : (again : Bool) → Told (opening (inner_b again)) (inner_b again).inputs [] (delivered_b again) (last_b again)
@@ -163,13 +163,10 @@ steps_1 : (uses : List CipherUse) → Contains uses use_1 →
     AreSteps NoPremise bytes sci_a 0 (opening (inner_b false)) [] uses (inner_b false).inputs
 steps_1 uses there =
     receiver.steps (salt false) (reads []) NoPremise false (free false)
-    (step_next (own_step NoPremise bytes sci_a 0 (k_at false [] (receiver.ready false)) uses (now_durable saved_1) tt)
-    refl refl
-    (step_link receiver.accepts_1 refl (receiver.judged_1 t opens_1)
-    (first_link (λ d. genuine_at (receiver.ready false) f1 receiver.accepts_1 uses (receiver.judged_1 t opens_1) there)
-    octets_1 (is_strict refl refl refl))
-    (step_link receiver.is_late refl (receiver.late_then t) (record {
-      genuine = λ d. genuine_at (receiver.heard_1 t) f1 receiver.is_late uses (receiver.late_then t) tt;
+    (step_next (own_step _ bytes sci_a 0 _ uses _ tt) refl refl (step_link _ refl (receiver.judged_1 t opens_1)
+    (first_link (λ d. genuine_at (receiver.ready false) f1 _ uses (receiver.judged_1 t opens_1) there)
+    octets_1 (is_strict refl refl refl)) (step_link _ refl (receiver.late_then t) (record {
+      genuine = λ d. genuine_at (receiver.heard_1 t) f1 _ uses (receiver.late_then t) tt;
       octets = octets_1;
       order = λ d among. is_strict refl refl refl;
       creates = λ d row at under fresh. absurd (fresh (rx_from 2) refl refl);
@@ -185,13 +182,10 @@ steps_2 : (uses : List CipherUse) → Contains uses use_3 →
     AreSteps NoPremise bytes sci_a 0 (opening (inner_b true)) [] uses (inner_b true).inputs
 steps_2 uses there =
     receiver.steps (salt false) (reads (saved_1 ∷ [])) NoPremise true (free true)
-    (step_link receiver.is_late refl (receiver.late_again t)
-    (first_link (λ d. genuine_at (receiver.ready true) f1 receiver.is_late uses (receiver.late_again t) tt) octets_1
-    (is_strict refl refl refl))
-    (step_next (own_step NoPremise bytes sci_a 0 (k_at true [] (receiver.dropped_2 t)) uses (now_durable saved_3) tt)
-    refl refl
-    (step_link receiver.accepts_3 refl (receiver.judged_3 t u opens_3)
-    (first_link (λ d. genuine_at (receiver.dropped_2 t) f3 receiver.accepts_3 uses
+    (step_link _ refl (receiver.late_again t)
+    (first_link (λ d. genuine_at (receiver.ready true) f1 _ uses (receiver.late_again t) tt) octets_1
+    (is_strict refl refl refl)) (step_next (own_step _ bytes sci_a 0 _ uses _ tt) refl refl
+    (step_link _ refl (receiver.judged_3 t u opens_3) (first_link (λ d. genuine_at (receiver.dropped_2 t) f3 _ uses
     (receiver.judged_3 t u opens_3) there) octets_3 (is_strict refl refl refl)) no_step)))
 
 abbrev inner_runs : List EndRun
@@ -205,10 +199,9 @@ all_delivered = (1 ∷ client 1) ∷ (3 ∷ client 3) ∷ []
 
 inner_meets : MeetsAll inner_runs all_sent all_delivered
 inner_meets =
-    meets (run_a false) (run_a true) (inner_b false) (inner_b true) (facts_a false) (facts_a true) (facts_b false)
-    (facts_b true)
+    meets _ _ _ _ (facts_a false) (facts_a true) (facts_b false) (facts_b true)
     (tt, (tt, (tt, (tt, (tt, (tt, tt)))))) (tt, (tt, (tt, (tt, (tt, tt))))) refl
-    (is_durable reserved_2 reserved_is) refl (is_durable saved_1 saved_is) is_saved steps_1 steps_2
+    (is_durable _ reserved_is) refl (is_durable saved_1 saved_is) is_saved steps_1 steps_2
 
 -- ---- what the endpoint lets through
 
@@ -290,24 +283,20 @@ frames_through false =
     let a4 = a_at false (granted_after saved_1) (saved_1 ∷ []) [] (receiver.dropped_1 t) in
     let valid = ap number_13 (receiver.judged_1 t opens_1) in
     drops_next drops_1 (valid_drops a1 link_1 valid drops_1)
-    (passes_next {new = []} refl refl reports_at_1
-    (passes_next passes_1 (valid_passes a2 link_1 (receiver.delivery 1 ∷ []) valid passes_1
-    (gives_by a2.k f1 receiver.accepts_1 refl (receiver.judged_1 t opens_1)))
-    (goes_on a2 (link_frame f1) (k_1 (receiver.heard_1 t)) passes_1 hears_1)
+    (passes_next {new = []} refl refl reports_at_1 (passes_next passes_1 (valid_passes a2 link_1 _ valid passes_1
+    (gives_by a2.k f1 _ refl (receiver.judged_1 t opens_1))) (goes_on a2 (link_frame f1) _ passes_1 hears_1)
     (passes_next refl (not_valid a3 link_1 (ap number_13 (receiver.late_then t)))
-    (goes_on a3 (link_frame f1) (k_1 (receiver.dropped_1 t)) refl hears_2)
-    (passes_next {new = []} refl refl (goes_on a4 (operator_command (RxDel sci_a 0)) (k_1 deleted) refl does_delete)
-    (drops_next refl refl (through_end (last_a false)))))))
+    (goes_on a3 (link_frame f1) _ refl hears_2)
+    (passes_next {new = []} refl refl (goes_on a4 (operator_command (RxDel sci_a 0)) _ refl does_delete)
+    (drops_next refl refl (through_end _))))))
 frames_through true =
     let a1 = a_at true [] [] [] (receiver.ready true) in
     let a3 = a_at true (granted_after saved_3) (saved_3 ∷ []) [] (receiver.dropped_2 t) in
     passes_next refl (not_valid a1 link_1 (ap number_13 (receiver.late_again t)))
-    (goes_on a1 (link_frame f1) (k_at true [] (receiver.dropped_2 t)) refl hears_again)
-    (passes_next {new = []} refl refl reports_at_3
-    (passes_next passes_3 (valid_passes a3 link_3 (receiver.delivery 3 ∷ [])
-    (rw (receiver.judged_3 t u opens_3)) passes_3
-    (gives_by a3.k f3 receiver.accepts_3 refl (receiver.judged_3 t u opens_3)))
-    (goes_on a3 (link_frame f3) (k_3 (receiver.heard_3 t u)) passes_3 hears_3) (through_end (last_a true))))
+    (goes_on a1 (link_frame f1) _ refl hears_again) (passes_next {new = []} refl refl reports_at_3
+    (passes_next passes_3 (valid_passes a3 link_3 _ (rw (receiver.judged_3 t u opens_3)) passes_3
+    (gives_by a3.k f3 _ refl (receiver.judged_3 t u opens_3)))
+    (goes_on a3 (link_frame f3) _ passes_3 hears_3) (through_end _)))
 
 all_through : (again : Bool) →
     Through (a_at again [] [] [] (start gcm_b)) (receiver.commands again ++ comes again)
@@ -340,9 +329,9 @@ runs = (A, run_a false) ∷ (B, run_b false) ∷ (A, run_a true) ∷ (B, run_b t
 these_inside : inside both_ahead (blocks runs) ≡ blocks inner_runs
 these_inside =
     inside_blocks both_ahead [] runs
-    ∙ ap (λ (b : Run). blocks ((A, run_a false) ∷ (B, b) ∷ (A, run_a true) ∷ (B, run_inside true (run_b true)) ∷ []))
+    ∙ ap (λ b. blocks ((A, run_a false) ∷ (B, b) ∷ (A, run_a true) ∷ (B, run_inside true (run_b true)) ∷ []))
     (inside_b false)
-    ∙ ap (λ (b : Run). blocks ((A, run_a false) ∷ (B, inner_b false) ∷ (A, run_a true) ∷ (B, b) ∷ [])) (inside_b true)
+    ∙ ap (λ b. blocks ((A, run_a false) ∷ (B, inner_b false) ∷ (A, run_a true) ∷ (B, b) ∷ [])) (inside_b true)
 
 -- the premises of order hold for the keeping endpoints inside
 orderly_inside : (before h : List Happening) → AtEach (IsOrderly B bytes sci_a 0) before h →
@@ -418,7 +407,7 @@ pub record AcceptsTwo : Type 0 where
 
 pub accepts_two : AcceptsTwo
 accepts_two =
-    let durable : KeepsDurable (run_b false) (run_b true) = is_durable saved_1 saved_is in
+    let durable = is_durable saved_1 saved_is in
     let one_sa : AreOfOneSa (receiver.delivery 1) (receiver.delivery 3) =
     record { bytes = refl; sci = refl; an = refl } in
     record {
@@ -426,7 +415,7 @@ accepts_two =
       later = all_accepted true;
       salt_is = refl;
       durable = durable;
-      other_frames = λ same. let no = ap (λ (xs : List ℕ). get_or xs 12 0) same in cc;
+      other_frames = λ same. let no = ap (λ xs. get_or xs 12 0) same in cc;
       one_sa = one_sa;
       above = accepts_above_in_all (run_b false ∷ run_b true ∷ []) (pair SameSalt (run_b false) (run_b true) refl)
           (pair KeepsDurable (run_b false) (run_b true) durable) 0 1 (run_b false) (omega arith) (omega arith)

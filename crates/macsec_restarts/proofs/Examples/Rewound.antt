@@ -43,12 +43,11 @@ not_in_order it = by_places it.0 it.1 it.2
   where
     by_places : (places : List ℕ) → IsStrictlyIncreasing places →
         map (slice_get sent) places ≡ Some (1 ∷ client 1) ∷ Some (3 ∷ client 3) ∷ [] → ⊥
-    by_places [] rise same = cc
-    by_places (p ∷ []) rise same = cc
     by_places (p ∷ q ∷ more) rise same =
         let second : slice_get sent q ≡ Some (3 ∷ client 3) = cc in
-        let less : p < q = rise 0 (omega arith) in
+        let less = rise 0 (omega arith) in
         omega (arith, less, only_first q second)
+    by_places places rise same = cc
 
 -- ---- two runs of A and one of B
 
@@ -59,10 +58,10 @@ module _ (left_out : Premise) (a a' b : Run) (first : Facts 1 sci_a a (sender.se
   sent_both = rw (first.told.sends, second.told.sends)
 
   sealed_1 : Contains (sealed_in_all (a ∷ a' ∷ []) ++ []) use_1
-  sealed_1 = rw (seals_are (a ∷ a' ∷ []) (sender.sent true ++ sender.sent false) sent_both) (1, omega arith, refl)
+  sealed_1 = rw (seals_are _ _ sent_both) (1, omega arith, refl)
 
   sealed_3 : Contains (sealed_in_all (a ∷ a' ∷ []) ++ []) use_3
-  sealed_3 = rw (seals_are (a ∷ a' ∷ []) (sender.sent true ++ sender.sent false) sent_both) (0, omega arith, refl)
+  sealed_3 = rw (seals_are _ _ sent_both) (0, omega arith, refl)
 
   reordered : AreOwn a.inputs → AreOwn a'.inputs → (ReadsSalt ≢ left_out → SameSalt a a') →
       (ReadsDurable ≢ left_out → KeepsDurable a a') →
@@ -94,7 +93,7 @@ abbrev reserved_3 : Reservation
 reserved_3 = sender.reserves true (salt false)
 
 three_is : All IsReservation (reserved_3 ∷ [])
-three_is = one_is reserved_3 (record { name = length-sha256 _; last = omega arith })
+three_is = one_is _ (record { name = length-sha256 _; last = omega arith })
 
 abbrev first_run : Run
 first_run = record { journal = journal false []; config = gcm_a; inputs = sender.inputs true (salt false) }
@@ -103,8 +102,7 @@ abbrev first_last : Keeping
 first_last = kept (salt false) (reads []) (reserved_3 ∷ []) (sender.at_end true)
 
 first_told : Told (opening first_run) first_run.inputs (sender.sent true) [] first_last
-first_told = sender.told (salt false) (reads []) true
-    (is_free [] (sending_name (salt false) bytes) 3 none_is (omega arith))
+first_told = sender.told (salt false) (reads []) true (is_free [] _ 3 none_is (omega arith))
 
 first_facts : Facts 1 sci_a first_run (sender.sent true) []
 first_facts = facts_of 4 refl refl first_told
@@ -151,7 +149,7 @@ abbrev at_b : State → Keeping
 at_b s = receiver.at (salt false) (reads []) s
 
 free_b : highest (reads []) (name_of (salt false)) < 1
-free_b = is_free [] (name_of (salt false)) 1 none_is (omega arith)
+free_b = is_free [] _ 1 none_is (omega arith)
 
 judged_3 : judgement_of (receiver.heard_1 t) (receiver.frame 3 u) ≡ receiver.accepts_3
 judged_3 = rw opens_3
@@ -165,8 +163,8 @@ both_sound = heard_by (receiver.frame 3 u) refl judged_3 refl (receiver.heard_1_
 told_b : Told (opening run_b) run_b.inputs [] (receiver.delivery 1 ∷ receiver.delivery 3 ∷ []) (at_b heard_both)
 told_b =
     receiver.told (salt false) (reads []) false free_b
-    (told_link receiver.accepts_1 refl (receiver.judged_1 t opens_1) (receiver.ready_sound false)
-    (told_link receiver.accepts_3 refl judged_3 (receiver.heard_1_sound t opens_1) (told_end _ both_sound)))
+    (told_link _ refl (receiver.judged_1 t opens_1) (receiver.ready_sound false)
+    (told_link _ refl judged_3 (receiver.heard_1_sound t opens_1) (told_end _ both_sound)))
 
 facts_b : Facts 2 sci_b run_b [] (receiver.delivery 1 ∷ receiver.delivery 3 ∷ [])
 facts_b = facts_of 1 refl refl told_b
@@ -175,9 +173,8 @@ steps_b : (left_out : Premise) (uses : List CipherUse) → Contains uses use_1 �
     AreSteps left_out bytes sci_a 0 (opening run_b) [] uses run_b.inputs
 steps_b left_out uses there there' =
     receiver.steps (salt false) (reads []) left_out false free_b
-    (step_link receiver.accepts_1 refl (receiver.judged_1 t opens_1) (accepts_now left_out (reads []) uses there)
-    (step_link receiver.accepts_3 refl judged_3 (record {
-      genuine = λ d. genuine_at (receiver.heard_1 t) (receiver.frame 3 u) receiver.accepts_3 uses judged_3 there';
+    (step_link _ refl (receiver.judged_1 t opens_1) (accepts_now _ _ uses there) (step_link _ refl judged_3 (record {
+      genuine = λ d. genuine_at (receiver.heard_1 t) (receiver.frame 3 u) _ uses judged_3 there';
       octets = octets_3;
       order = λ d among. is_strict refl refl refl;
       creates = λ d row at under fresh. absurd (fresh (rx_from 2) refl refl);

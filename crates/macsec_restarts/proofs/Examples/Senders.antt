@@ -109,7 +109,7 @@ module _ (salt : List ℕ) (before : List Reservation) where
 
   reports : (again : Bool) → (keeping_step (with_none (created again true)) (now_durable (reserves again salt))).1 ≡
       reserved_at again (created again true)
-  reports again = rw (raised_alone name (last_of again))
+  reports again = rw (raised_alone name _)
 
   first_goes : highest before name < 1 → may_go (reserved_at false (created false true)) (client_frame (client 1)) ≡
       true

@@ -34,8 +34,7 @@ hash_of key aad = ghash (hash_subkey key) (pad aad ++ (pad [] ++ pad (length_blo
 
 sum_at : (hash : ℕ) (block : List ℕ) → ((k : ℕ) → slice_index block k < 256) → (k : ℕ) →
     bit_xor (slice_index (to_be_bytes w128 hash) k) (slice_index block k) < 256
-sum_at hash block are k = xor_of_8 (slice_index (to_be_bytes w128 hash) k) (slice_index block k) (of_number 16 hash k)
-    (are k)
+sum_at hash block are k = xor_of_8 _ _ (of_number 16 hash k) (are k)
 
 pub tag_is : (key iv aad : List ℕ) → ((k : ℕ) → slice_index (aes key (pre_counter_block iv)) k < 256) →
     AreOctets (seal_of key iv aad []).1

@@ -6,8 +6,8 @@ use Rattle.macsec_restarts.proofs.{
   Names.{CipherUse, client, Contains, delivered_in_all, Delivery, false, gcm_a, gcm_b, genuine_at, highest},
   Names.{if◌then◌else◌, IsReservation, iv, journal, Keeping, keeping_step, KeepingInput, KeepsDurable, kept, key_row},
   Names.{length-sha256, List, max, name_of, now_durable, one_alone, opening, Opens, opens, reduced, reduced_reserves},
-  Names.{refl, Reservation, reservations, Run, rx_from, salt, same_octets, same_octets-refl, SameSalt, SavedIn, says},
-  Names.{Sci, sci_a, sci_b, sealed_in_all, sending_name, sent_in_all, SentIn, State, tag, true, use_of, ℕ},
+  Names.{refl, Reservation, reservations, Run, rx_from, salt, same_octets-refl, SameSalt, SavedIn, says, Sci, sci_a},
+  Names.{sci_b, sealed_in_all, sending_name, sent_in_all, SentIn, State, tag, true, use_of, ℕ},
   Examples.{
     Blocks.{AreOwn, AreSteps, Told, first_link, is_strict, no_step, step_link, step_next, told_end, told_link},
     Blocks.told_next,
@@ -65,10 +65,10 @@ module _ (a a' b b' : Run) (first : Facts 1 sci_a a (sender.sent false) [])
   delivered_both = rw (heard.told.delivers, heard'.told.delivers)
 
   has_sealed_1 : Contains (sealed_in_all (a ∷ []) ++ []) use_1
-  has_sealed_1 = rw (seals_are (a ∷ []) (sender.sent false) sent_1) (0, omega arith, refl)
+  has_sealed_1 = rw (seals_are _ _ sent_1) (0, omega arith, refl)
 
   has_sealed_3 : Contains (sealed_in_all (a ∷ a' ∷ []) ++ sealed_in_all (b ∷ [])) use_3
-  has_sealed_3 = rw (seals_are (a ∷ a' ∷ []) (sender.sent false ++ sender.sent true) sent_both) (2, omega arith, refl)
+  has_sealed_3 = rw (seals_are _ _ sent_both) (2, omega arith, refl)
 
   pub meets : AreOwn a.inputs → AreOwn a'.inputs → SameSalt a a' → KeepsDurable a a' → SameSalt b b' →
       KeepsDurable b b' → SavedIn b'.journal bytes sci_a 0 (receiver.delivery 1 ∷ []) →
@@ -78,11 +78,10 @@ module _ (a a' b b' : Run) (first : Facts 1 sci_a a (sender.sent false) [])
       MeetsAll ((A, a) ∷ (B, b) ∷ (A, a') ∷ (B, b') ∷ []) ((1 ∷ client 1) ∷ (2 ∷ client 1) ∷ (3 ∷ client 3) ∷ [])
       ((1 ∷ client 1) ∷ (3 ∷ client 3) ∷ [])
   meets own own' salt_a durable_a salt_b durable_b saved steps steps' =
-      meets_all ((A, a) ∷ (B, b) ∷ (A, a') ∷ (B, b') ∷ []) (sender.sent false ++ sender.sent true)
-      (receiver.delivery 1 ∷ receiver.delivery 3 ∷ []) (
+      meets_all _ _ _ (
         own,
         (
-          ((λ d. nothing_saved b.journal), steps (sealed_in_all (a ∷ []) ++ []) has_sealed_1),
+          ((λ d. nothing_saved b.journal), steps _ has_sealed_1),
           (
             own',
             (
@@ -94,8 +93,7 @@ module _ (a a' b b' : Run) (first : Facts 1 sci_a a (sender.sent false) [])
             ),
           ),
         ),
-      )
-      (peers NoPremise ((A, a) ∷ (B, b) ∷ (A, a') ∷ (B, b') ∷ []) (both (IsRunOf 1 sci_a) a a' first.of second.of)
+      ) (peers _ ((A, a) ∷ (B, b) ∷ (A, a') ∷ (B, b') ∷ []) (both (IsRunOf 1 sci_a) a a' first.of second.of)
       (pair SameSalt a a' salt_a) (pair KeepsDurable a a' durable_a)
       (both (IsRunOf 2 sci_b) b b' heard.of heard'.of) (pair SameSalt b b' salt_b) (pair KeepsDurable b b' durable_b))
       sent_both delivered_both
@@ -117,20 +115,20 @@ abbrev pub reserved_2 : Reservation
 reserved_2 = sender.reserves false (salt false)
 
 pub one_is : (r : Reservation) → IsReservation r → All IsReservation (r ∷ [])
-one_is r is = All-cons IsReservation r [] is (All-nil IsReservation)
+one_is r is = All-cons IsReservation r [] is (All-nil _)
 
 pub none_is : All IsReservation []
-none_is = All-nil IsReservation
+none_is = All-nil _
 
 pub saved_is : All IsReservation (saved_1 ∷ [])
-saved_is = one_is saved_1 (record { name = length-sha256 _; last = omega arith })
+saved_is = one_is _ (record { name = length-sha256 _; last = omega arith })
 
 pub reserved_is : All IsReservation (reserved_2 ∷ [])
-reserved_is = one_is reserved_2 (record { name = length-sha256 _; last = omega arith })
+reserved_is = one_is _ (record { name = length-sha256 _; last = omega arith })
 
 pub at_most : (name other : List ℕ) (last n : ℕ) → last < n →
     highest (record { name = name; last = last } ∷ []) other < n
-at_most name other last n less = by_name (same_octets name other)
+at_most name other last n less = by_name _
   where
     by_name : (b : Bool) → (if b then max last 0 else 0) < n
     by_name true = omega (arith, less)
@@ -219,12 +217,12 @@ f3 = receiver.frame 3 u
 frames_told : (again : Bool) → Told (at_b again (receiver.ready again)) (heard_in again) [] (delivered_b again)
     (last_b again)
 frames_told false =
-    told_link receiver.accepts_1 refl (receiver.judged_1 t opens_1) (receiver.ready_sound false)
-    (told_link receiver.is_late refl (receiver.late_then t) (receiver.heard_1_sound t opens_1)
+    told_link _ refl (receiver.judged_1 t opens_1) (receiver.ready_sound false)
+    (told_link _ refl (receiver.late_then t) (receiver.heard_1_sound t opens_1)
     (told_next (receiver.dropped_1_sound t opens_1) refl refl refl (told_end _ (receiver.dropped_1_sound t opens_1))))
 frames_told true =
-    told_link receiver.is_late refl (receiver.late_again t) (receiver.ready_sound true)
-    (told_link receiver.accepts_3 refl (receiver.judged_3 t u opens_3) (receiver.dropped_2_sound t)
+    told_link _ refl (receiver.late_again t) (receiver.ready_sound true)
+    (told_link _ refl (receiver.judged_3 t u opens_3) (receiver.dropped_2_sound t)
     (told_end _ (receiver.heard_3_sound t u opens_3)))
 
 told_b : (again : Bool) → Told (opening (run_b again)) (run_b again).inputs [] (delivered_b again) (last_b again)
@@ -241,12 +239,10 @@ steps_1 : (uses : List CipherUse) → Contains uses use_1 →
     AreSteps NoPremise bytes sci_a 0 (opening (run_b false)) [] uses (run_b false).inputs
 steps_1 uses there =
     receiver.steps (salt false) (reads []) NoPremise false (free_b false)
-    (step_link receiver.accepts_1 refl (receiver.judged_1 t opens_1)
-    (first_link (λ d. genuine_at (receiver.ready false) f1 receiver.accepts_1 uses (receiver.judged_1 t opens_1) there)
-    octets_1
-    (is_strict refl refl refl))
-    (step_link receiver.is_late refl (receiver.late_then t) (record {
-      genuine = λ d. genuine_at (receiver.heard_1 t) f1 receiver.is_late uses (receiver.late_then t) tt;
+    (step_link _ refl (receiver.judged_1 t opens_1)
+    (first_link (λ d. genuine_at (receiver.ready false) f1 _ uses (receiver.judged_1 t opens_1) there) octets_1
+    (is_strict refl refl refl)) (step_link _ refl (receiver.late_then t) (record {
+      genuine = λ d. genuine_at (receiver.heard_1 t) f1 _ uses (receiver.late_then t) tt;
       octets = octets_1;
       order = λ d among. is_strict refl refl refl;
       creates = λ d row at under fresh. absurd (fresh (rx_from 2) refl refl);
@@ -262,12 +258,10 @@ steps_2 : (uses : List CipherUse) → Contains uses use_3 →
     AreSteps NoPremise bytes sci_a 0 (opening (run_b true)) [] uses (run_b true).inputs
 steps_2 uses there =
     receiver.steps (salt false) (reads (saved_1 ∷ [])) NoPremise true (free_b true)
-    (step_link receiver.is_late refl (receiver.late_again t)
-    (first_link (λ d. genuine_at (receiver.ready true) f1 receiver.is_late uses (receiver.late_again t) tt) octets_1
-    (is_strict refl refl refl))
-    (step_link receiver.accepts_3 refl (receiver.judged_3 t u opens_3)
-    (first_link (λ d. genuine_at (receiver.dropped_2 t) f3 receiver.accepts_3 uses
-    (receiver.judged_3 t u opens_3) there) octets_3
+    (step_link _ refl (receiver.late_again t)
+    (first_link (λ d. genuine_at (receiver.ready true) f1 _ uses (receiver.late_again t) tt) octets_1
+    (is_strict refl refl refl)) (step_link _ refl (receiver.judged_3 t u opens_3)
+    (first_link (λ d. genuine_at (receiver.dropped_2 t) f3 _ uses (receiver.judged_3 t u opens_3) there) octets_3
     (is_strict refl refl refl)) no_step))
 
 -- ---- all of it
@@ -289,7 +283,6 @@ pub two_runs_each :
     MeetsAll ((A, run_a false) ∷ (B, run_b false) ∷ (A, run_a true) ∷ (B, run_b true) ∷ [])
     ((1 ∷ client 1) ∷ (2 ∷ client 1) ∷ (3 ∷ client 3) ∷ []) ((1 ∷ client 1) ∷ (3 ∷ client 3) ∷ [])
 two_runs_each =
-    meets (run_a false) (run_a true) (run_b false) (run_b true) (facts_a false) (facts_a true) (facts_b false)
-    (facts_b true)
+    meets _ _ _ _ (facts_a false) (facts_a true) (facts_b false) (facts_b true)
     (tt, (tt, (tt, (tt, (tt, (tt, tt)))))) (tt, (tt, (tt, (tt, (tt, tt))))) refl
-    (is_durable reserved_2 reserved_is) refl (is_durable saved_1 saved_is) is_saved steps_1 steps_2
+    (is_durable _ reserved_is) refl (is_durable saved_1 saved_is) is_saved steps_1 steps_2
