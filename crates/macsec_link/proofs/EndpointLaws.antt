@@ -7,8 +7,8 @@ use Rattle.{
     Protects.Protects,
     Sound.IsSound,
   },
-  macsec_link.proofs.Names.{◌≡◌, ◌≢◌, All-contains, Bool, Contains, false, Input, InstalledKey, is_xpn, IvParts},
-  macsec_link.proofs.Names.{KeysStay, List, refl, RxRow, Sci, State, step, Suite, true, TxRow, ℕ},
+  macsec_link.proofs.Names.{◌≡◌, ◌≢◌, All-contains, cases_Bool, Contains, inl, Input, inr, InstalledKey, is_xpn},
+  macsec_link.proofs.Names.{IvParts, KeysStay, List, RxRow, Sci, State, step, Suite, true, TxRow, ℕ},
 }
 
 pub record EndpointLaws : Type 0 where
@@ -25,8 +25,4 @@ key_row_facts laws s key sound there = All-contains IsKeyRow s.keys key (laws.ke
 
 -- two different senders do not have the same IV
 pub differ : (suite : Suite) (p q : IvParts) → HaveSameSender suite p q → (is_xpn suite ≡ true → p.ssci ≢ q.ssci) → p.sci ≢ q.sci → ⊥
-differ suite p q same sscis scis = by_test (is_xpn suite) refl
-  where
-    by_test : (b : Bool) → is_xpn suite ≡ b → ⊥
-    by_test true xpn = sscis xpn (same.ssci xpn)
-    by_test false plain = scis (same.sci plain)
+differ suite p q same sscis scis = elim (cases_Bool (is_xpn suite)) [ inl xpn ↦ sscis xpn (same.ssci xpn) | inr short ↦ scis (same.sci short) ]

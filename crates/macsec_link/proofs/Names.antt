@@ -4,14 +4,18 @@ pub use Rattle.std.proofs.{
   Common.{Bool, cond, Contains, eq-eqb, eqb-true, Err, false, filter, get_or, IfSome, if◌then◌else◌, inl, inr, length},
   Common.{length-append, List, ltb-false, ltb-true, map, nat_le, nat_lt, None, not, Ok, Option, option_copied},
   Common.{option_map, position, refl, replicate, Result, rules, slice_get, slice_set, Some, subst, suc, sym, take},
-  Common.{take_all, true, unwrap_or, zero, ℕ},
-  lemmas.Bool.{and_parts, eqb-false},
+  Common.{MatchOption, ne_eqb, take_all, true, unwrap_or, zero, ℕ},
+  lemmas.Bool.{and_parts, cases_Bool, cases_eq, cases_lt, cases_order, eqb-false, lt-leb},
   lemmas.Grind.common_steps,
   lemmas.List.{
+    get_or-map,
+    get_or_default,
+    get_or_past,
     length-map,
     map-append,
     Elements.{All-cons, All-contains, All-head, All-nil, All-push, All-tail, All-weaker, filter-append, filter_passes},
     Kept.{AllPairs-cons, AllPairs-filter},
+    Quantifiers.{all_pairs_push, position-Some},
   },
   lemmas.Option.{slice_get-get_or, slice_get-map, slice_get_within, unwrap_or-slice_get},
 }
@@ -24,7 +28,7 @@ pub use Rattle.macsec_tag.specs.{
 }
 pub use Rattle.macsec_suite.specs.{
   CipherUses.CipherUse,
-  IvLaws.{iv_of_parts, IvParts},
+  IvLaws.{AreIvParts, iv_of_parts, IvParts},
   KeyRows.{InstalledKey, key_row, no_key, row_noting, the_key},
   Suites.{is_xpn, iv_of, last_of},
   declared.suite.Suite.Suite,
@@ -44,7 +48,7 @@ pub use Rattle.macsec_tx.specs.{
 pub use Rattle.macsec_rx.specs.{Channels.{rx_row, same_sci}, Judge.{Judgement, place_of}, declared.RxRow.RxRow}
 pub use Rattle.macsec_secy.specs.{
   Delivers.IsOfOtherSender,
-  Kept.{IsAbove, KeysStay, KeyStaysIn},
+  Kept.{IsAbove, IsLaterKey, KeysStay, KeyStaysIn},
   Reception.{judgement_of, state_after_receiving},
   State.{State, tx_options},
   Step.{client_frame, done, dropped_no_sa, dropped_too_long, fault, frame_fault, Input, leaves, link_frame},

@@ -2,13 +2,11 @@
 -- link, and the key in the end's table.
 use Rattle.macsec_secy.specs.Kept.{IsLaterKey}
 use Rattle.macsec_link.proofs.{
-  Names.{[], ◌∙◌, ◌∷◌, ◌≡◌, ◌≤◌, AreSound, arith, Contains, End, end_of, EndConfig, Event, fault_of, in_a_row},
-  Names.{InstalledKey, IsSound, IsUseFor, KeyStaysIn, length, List, new_world, None, refl, row_noting, Send},
-  Names.{sending_of, slice_get, Some, State, StaysSound, subst, suc, sym, take, the_key, TxRow, world_after, world_at},
-  Names.{world_step, WorldState, zero, ℕ},
+  Names.{[], ◌∙◌, ◌∷◌, ◌≡◌, ◌≤◌, AreSound, arith, End, end_of, EndConfig, Event, fault_of, in_a_row, InstalledKey},
+  Names.{IsSound, IsUseFor, KeyStaysIn, length, List, new_world, None, refl, row_noting, Send, sending_of, slice_get},
+  Names.{Some, StaysSound, suc, take, the_key, TxRow, world_after, world_at, world_step, WorldState, zero, ℕ},
   EndpointLaws.EndpointLaws,
-  FreshIvs.ends_stay,
-  Seals.{fits, sound_end, state_after},
+  Seals.{ends_stay, fits, itself, sound_end, state_after},
   Sends.sent_at,
   SentStands.{makes_frame, stands_on_link, stays_on_link},
 }
@@ -17,23 +15,19 @@ use Rattle.macsec_link.specs.UniqueIvs.{parts_made}
 -- ---- what holds after event k, and is kept by each step, holds at the end
 
 module _ (P : WorldState → Type 0) (keeps : (w : WorldState) (event : Event) → IsSound w → P w → P (world_step w event).1) where
-  kept_by_all : (w : WorldState) (events : List Event) → StaysSound w events → P w → P (world_after w events)
+  pub kept_by_all : (w : WorldState) (events : List Event) → StaysSound w events → P w → P (world_after w events)
   kept_by_all w [] sounds it = it
   kept_by_all w (event ∷ events) sounds it = kept_by_all (world_step w event).1 events (λ n. sounds (suc n)) (keeps w event (sounds 0) it)
 
   kept_after : (w : WorldState) (events : List Event) (k : ℕ) (event : Event) → StaysSound w events → slice_get events k ≡ Some event →
       P (world_step (world_after w (take k events)) event).1 → P (world_after w events)
-  kept_after w [] zero event sounds there it = cc
-  kept_after w [] (suc k) event sounds there it = cc
   kept_after w (x ∷ events) zero event sounds there it =
       let same : event ≡ x = cc in
-      kept_by_all (world_step w x).1 events (λ n. sounds (suc n)) (subst (λ (y : Event). P (world_step w y).1) same it)
+      kept_by_all (world_step w x).1 events (λ n. sounds (suc n)) (rw same at it)
   kept_after w (x ∷ events) (suc k) event sounds there it = kept_after (world_step w x).1 events k event (λ n. sounds (suc n)) there it
+  kept_after w events k event sounds there it = cc
 
 -- ---- keys
-
-itself : (key : InstalledKey) → IsLaterKey key key
-itself key = record { number = refl; suite = refl; bytes = refl; salt = refl; ssci = refl; offset = refl; first_unused = omega arith }
 
 later_still : (x y z : InstalledKey) → IsLaterKey x y → IsLaterKey y z → IsLaterKey x z
 later_still x y z first second = record {
@@ -70,11 +64,11 @@ is_use_for laws a b events sounds k e frame row there none by =
     let octets = in_a_row (parts_made s row frame) in
     let keys_now : KeyStaysIn (end_of (world_step w (Send e frame)).1 e).state.keys noted = record {
       later = noted;
-      there = subst (λ (t : State). Contains t.keys noted) (sym (state_after w e frame none)) it.noted;
+      there = rw (state_after w e frame none) it.noted;
       is_later = itself noted;
     } in
     let stays = kept_after (λ v. KeyStaysIn (end_of v e).state.keys noted) (key_kept laws e noted) (new_world a b) events k (Send e frame) sounds there keys_now in
-    let is_later = later_still key noted stays.later (noted_later s row it.unused) stays.is_later in
+    let is_later = later_still key noted stays.later (noted_later key row.next it.unused) stays.is_later in
     record {
       event = there;
       row = row;
@@ -93,5 +87,5 @@ is_use_for laws a b events sounds k e frame row there none by =
       used = omega (arith, stays.is_later.first_unused);
     }
   where
-    noted_later : (s : State) (row : TxRow) → (the_key s.keys row.key).first_unused ≤ row.next → IsLaterKey (the_key s.keys row.key) (row_noting row.next (the_key s.keys row.key))
-    noted_later s row unused = record { number = refl; suite = refl; bytes = refl; salt = refl; ssci = refl; offset = refl; first_unused = omega (arith, unused) }
+    noted_later : (key : InstalledKey) (n : ℕ) → key.first_unused ≤ n → IsLaterKey key (row_noting n key)
+    noted_later key n unused = record { number = refl; suite = refl; bytes = refl; salt = refl; ssci = refl; offset = refl; first_unused = omega (arith, unused) }
