@@ -46,15 +46,9 @@ above n m less = grind (arith, nat_tests)
 input_unread : (config : List ℕ) (fault : ScriptFault) → IsInputFault config fault → IsUnknown config fault
 input_unread config script.Memory h = tt
 input_unread config script.Read h = tt
-input_unread config script.Write h = absurd h
 input_unread config script.ScriptLong h =
     too_long (nat_lt 1048576 (length config)) (nat_lt 65536 (length (lines_of config))) (lines_of config) (above 1048576 (length config) h)
-input_unread config (script.Word n) h = absurd h
-input_unread config (script.Count n) h = absurd h
-input_unread config (script.Hex n) h = absurd h
-input_unread config (script.Number n) h = absurd h
-input_unread config (script.Ends n) h = absurd h
-input_unread config (script.LineLong n) h = absurd h
+input_unread config fault h = absurd h
 
 parsed_unread : (config : List ℕ) (fault : ScriptFault) → Parses (config_of config) (Err fault) → IsUnknown config fault
 parsed_unread config script.Read h = absurd h
@@ -71,13 +65,7 @@ unread_over : (direction : Direction) (config : List ℕ) (file : Result Capture
 unread_over direction config file w script.Memory h = Stays-same w
 unread_over direction config file w script.Read h = Stays-same w
 unread_over direction config file w script.Write h = absurd h
-unread_over direction config file w script.ScriptLong h = at_fault direction config file w script.ScriptLong h
-unread_over direction config file w (script.Word n) h = at_fault direction config file w (script.Word n) h
-unread_over direction config file w (script.Count n) h = at_fault direction config file w (script.Count n) h
-unread_over direction config file w (script.Hex n) h = at_fault direction config file w (script.Hex n) h
-unread_over direction config file w (script.Number n) h = at_fault direction config file w (script.Number n) h
-unread_over direction config file w (script.Ends n) h = at_fault direction config file w (script.Ends n) h
-unread_over direction config file w (script.LineLong n) h = at_fault direction config file w (script.LineLong n) h
+unread_over direction config file w fault h = at_fault direction config file w fault h
 
 -- the same, whether or not the readers' octets are known
 unread_known : (direction : Direction) (config : List ℕ) (input : Option (List ℕ)) (w : Written) (fault : ScriptFault) → IsUnknown config fault →
@@ -141,7 +129,7 @@ pub unmade : (direction : Direction) (config : ConfigParts) (w : Written) (fault
     (file : Result CaptureFile PcapFault) × CaptureGives (captured_at direction config file) w w (as_read (Err (Script fault)))
 unmade direction config w fault is = (
   Err Read,
-  subst (λ f. CaptureGives (captured_at direction config (Err Read)) w w (as_read (Err (Script f)))) (sym is) (Stays-same w),
+  rw is (Stays-same w),
 )
 
 -- ---- the configuration was read
@@ -159,7 +147,7 @@ parsed_over : (direction : Direction) (config : List ℕ) (file : Result Capture
     (answer : Result (Unit {0}) CaptureFault) → IsParsed config end commands →
     CaptureGives (captured_at direction (record { end = end; commands = commands }) file) old new answer → CaptureGives (captured_over direction config file) old new answer
 parsed_over direction config file end commands old new answer read gives =
-    subst (λ captures. CaptureGives captures old new answer) (sym (ap (λ r. captured_by direction r file) read)) gives
+    subst (λ r. CaptureGives (captured_by direction r file) old new answer) (sym read) gives
 
 pub parsed_known : (direction : Direction) (config : List ℕ) (input : Option (List ℕ)) (end : EndConfig) (commands : List NumberedCommand) (old new : Written)
     (answer : Result (Unit {0}) CaptureFault) → IsParsed config end commands →

@@ -11,13 +11,9 @@ use Rattle.{
   macsec_pcap.specs.{
     Answers.UnlessRead,
     Captures.Capture,
-    Reading.{Ahead, over, failed, holds, untold, Answers, IsAhead, ahead_after, first_of},
+    Reading.{Ahead, holds, Answers, IsAhead, ahead_after, first_of},
     Records.CaptureRecord,
-    declared.fault.PcapFault.{
-      PcapFault,
-      TheVariants.{Magic, Version, LinkType, CutHeader, CutRecord, RecordLength, Read, Write, Memory, RecordCount},
-      TheVariants.{BlockLength, NoInterface, InterfaceCount, Time},
-    },
+    declared.fault.PcapFault.{PcapFault, TheVariants.{Read, Write}},
   },
   macsec_capture.proofs.{Cuts.up_to_front, Grown.{Grows-more, Grows-nothing}},
   macsec_capture.specs.{
@@ -40,19 +36,15 @@ part_more : (direction : Direction) (s : State) (k j : ℕ) (xs : List CaptureRe
     records_part direction s k (xs ++ r ∷ []) ≡ and_after (records_part direction s k xs) (λ after. record_part direction after j r)
 part_more direction s k j [] r same =
     let here : k ≡ j = omega (arith, same) in
-    same_part (records_part direction s k (r ∷ [])) (and_after (nothing s) (λ after. record_part direction after j r))
-    (append-nil (record_part direction s k r).output ∙ ap (λ n. (record_part direction s n r).output) here)
-    (append-nil (record_part direction s k r).text ∙ ap (λ n. (record_part direction s n r).text) here)
-    (ap (λ n. (record_part direction s n r).state) here)
+    let last = record_part direction s k r in
+    rw (← here) (same_part (records_part direction s k (r ∷ [])) last (append-nil last.output) (append-nil last.text) refl)
 part_more direction s k j (x ∷ xs) r same =
     let first = record_part direction s k x in
     let front = records_part direction first.state (k + 1) xs in
     let last = record_part direction front.state j r in
-    let more = part_more direction first.state (k + 1) j xs r (omega (arith, same)) in
-    same_part (records_part direction s k ((x ∷ xs) ++ r ∷ [])) (and_after (records_part direction s k (x ∷ xs)) (λ after. record_part direction after j r))
-    (ap (λ (p : Part). first.output ++ p.output) more ∙ sym (append_assoc first.output front.output last.output))
-    (ap (λ (p : Part). first.text ++ p.text) more ∙ sym (append_assoc first.text front.text last.text))
-    (ap (λ (p : Part). p.state) more)
+    ap (λ (p : Part). and_after first (λ after. p)) (part_more direction first.state (k + 1) j xs r (omega (arith, same)))
+    ∙ same_part (and_after first (λ after. and_after front (λ after. last))) (and_after (and_after first (λ after. front)) (λ after. last))
+    (sym (append_assoc first.output front.output last.output)) (sym (append_assoc first.text front.text last.text)) refl
 
 -- ---- the records that were taken
 
@@ -60,9 +52,7 @@ part_more direction s k j (x ∷ xs) r same =
 abbrev pub HoldsRest : Ahead → Ahead → List CaptureRecord → Type 0
 HoldsRest (holds capture) left front =
     (rest : List CaptureRecord) × (capture.records ≡ front ++ rest) × (left ≡ holds (record { records = rest; fault = capture.fault }))
-HoldsRest untold left front = Unit {0}
-HoldsRest over left front = Unit {0}
-HoldsRest (failed fault) left front = Unit {0}
+HoldsRest other left front = Unit {0}
 
 -- what the first k records write was written, and the reader holds the rest
 pub record AreTaken (direction : Direction) (first : State) (begins left : Ahead) (old now : Written) (s : State) (k : ℕ) : Type 0 where
@@ -73,9 +63,7 @@ pub record AreTaken (direction : Direction) (first : State) (begins left : Ahead
 
 holds_all : (ahead : Ahead) → HoldsRest ahead ahead []
 holds_all (holds capture) = (capture.records, refl, refl)
-holds_all untold = tt
-holds_all over = tt
-holds_all (failed fault) = tt
+holds_all other = tt
 
 -- before the first record
 pub none_taken : (direction : Direction) (s : State) (ahead : Ahead) (w : Written) → AreTaken direction s ahead ahead w w s 0
@@ -99,9 +87,7 @@ rest_more (holds capture) ahead next front r (rest, all, is) answer left =
       all ∙ ap (λ rs. front ++ rs) found.1 ∙ sym (append_assoc front (r ∷ []) found.0),
       subst (λ a. IsAhead (ahead_after a (Ok (Some r))) next) (is ∙ ap (λ rs. holds (record { records = rs; fault = capture.fault })) found.1) left,
     )
-rest_more untold ahead next front r held answer left = tt
-rest_more over ahead next front r held answer left = tt
-rest_more (failed fault) ahead next front r held answer left = tt
+rest_more other ahead next front r held answer left = tt
 
 -- the record's number is the number of records before it
 with_next : (direction : Direction) (first : State) (front : List CaptureRecord) (k : ℕ) (r : CaptureRecord) → length front ≡ k →
@@ -154,11 +140,7 @@ taken_end direction first (holds capture) ahead old now s k count same taken ans
     let held = taken.held in
     let ended = over_at_none held.0 capture.fault (subst (λ a. Answers a (Ok None)) held.2 answer) in
     (capture, refl, (ended.1, whole_at_end direction first capture.records taken.front held.0 old now s held.1 ended.0 taken.adds))
-taken_end direction first untold ahead old now s k count same taken answer =
-    (record { records = taken.front; fault = None }, taken.count ∙ sym same, (refl, taken.adds))
-taken_end direction first over ahead old now s k count same taken answer =
-    (record { records = taken.front; fault = None }, taken.count ∙ sym same, (refl, taken.adds))
-taken_end direction first (failed fault) ahead old now s k count same taken answer =
+taken_end direction first other ahead old now s k count same taken answer =
     (record { records = taken.front; fault = None }, taken.count ∙ sym same, (refl, taken.adds))
 
 -- ---- a stop
@@ -189,35 +171,12 @@ at_fault direction first capture front rest old now s taken all count adds Read 
     let long : length capture.records ≡ length front + length rest = ap length all ∙ length-append front rest in
     (omega (arith, long, count), at_front direction first capture.records front rest taken (λ part. Grows old now part.output part.text) all count adds.grows)
 at_fault direction first capture front rest old now s taken all count adds Write answer = inr (ended_by direction first capture front rest old now s all adds Write answer)
-at_fault direction first capture front rest old now s taken all count adds Magic answer = ended_by direction first capture front rest old now s all adds Magic answer
-at_fault direction first capture front rest old now s taken all count adds Version answer = ended_by direction first capture front rest old now s all adds Version answer
-at_fault direction first capture front rest old now s taken all count adds LinkType answer = ended_by direction first capture front rest old now s all adds LinkType answer
-at_fault direction first capture front rest old now s taken all count adds CutHeader answer = ended_by direction first capture front rest old now s all adds CutHeader answer
-at_fault direction first capture front rest old now s taken all count adds CutRecord answer = ended_by direction first capture front rest old now s all adds CutRecord answer
-at_fault direction first capture front rest old now s taken all count adds RecordLength answer = ended_by direction first capture front rest old now s all adds RecordLength answer
-at_fault direction first capture front rest old now s taken all count adds Memory answer = ended_by direction first capture front rest old now s all adds Memory answer
-at_fault direction first capture front rest old now s taken all count adds RecordCount answer = ended_by direction first capture front rest old now s all adds RecordCount answer
-at_fault direction first capture front rest old now s taken all count adds BlockLength answer = ended_by direction first capture front rest old now s all adds BlockLength answer
-at_fault direction first capture front rest old now s taken all count adds NoInterface answer = ended_by direction first capture front rest old now s all adds NoInterface answer
-at_fault direction first capture front rest old now s taken all count adds InterfaceCount answer = ended_by direction first capture front rest old now s all adds InterfaceCount answer
-at_fault direction first capture front rest old now s taken all count adds Time answer = ended_by direction first capture front rest old now s all adds Time answer
+at_fault direction first capture front rest old now s taken all count adds fault answer = ended_by direction first capture front rest old now s all adds fault answer
 
 -- the answer of a reader that holds no more records, and has this fault after them
 as_answer : (fault : PcapFault) → UnlessRead (first_of (record { records = []; fault = Some fault })) (Err fault)
 as_answer Read = tt
-as_answer Write = refl
-as_answer Magic = refl
-as_answer Version = refl
-as_answer LinkType = refl
-as_answer CutHeader = refl
-as_answer CutRecord = refl
-as_answer RecordLength = refl
-as_answer Memory = refl
-as_answer RecordCount = refl
-as_answer BlockLength = refl
-as_answer NoInterface = refl
-as_answer InterfaceCount = refl
-as_answer Time = refl
+as_answer fault = refl
 
 -- the same if it is not known what the reader holds
 at_some_fault : (direction : Direction) (first : State) (front : List CaptureRecord) (old now : Written) (s : State) (taken : ℕ) → length front ≡ taken →
@@ -235,17 +194,7 @@ taken_fault direction first (holds capture) ahead old now s k count fault same t
       at_fault direction first capture taken.front held.0 old now s count held.1 (taken.count ∙ sym same) taken.adds fault
           (subst (λ a. Answers a (Err fault)) held.2 answer),
     )
-taken_fault direction first untold ahead old now s k count fault same taken answer = (
-  record { records = taken.front; fault = Some fault },
-  taken.count ∙ sym same,
-  at_some_fault direction first taken.front old now s count (taken.count ∙ sym same) taken.adds fault,
-)
-taken_fault direction first over ahead old now s k count fault same taken answer = (
-  record { records = taken.front; fault = Some fault },
-  taken.count ∙ sym same,
-  at_some_fault direction first taken.front old now s count (taken.count ∙ sym same) taken.adds fault,
-)
-taken_fault direction first (failed other) ahead old now s k count fault same taken answer = (
+taken_fault direction first other ahead old now s k count fault same taken answer = (
   record { records = taken.front; fault = Some fault },
   taken.count ∙ sym same,
   at_some_fault direction first taken.front old now s count (taken.count ∙ sym same) taken.adds fault,
@@ -262,9 +211,7 @@ record Beginning (begins : Ahead) (front : List CaptureRecord) (n : ℕ) : Type 
 
 begin : (begins left : Ahead) (front : List CaptureRecord) (n : ℕ) → length front ≡ n → HoldsRest begins left front → Beginning begins front n
 begin (holds capture) left front n count held = record { capture = capture; rest = held.0; all = held.1; held = refl }
-begin untold left front n count held = record { capture = record { records = front; fault = None }; rest = []; all = sym (append-nil front); held = count }
-begin over left front n count held = record { capture = record { records = front; fault = None }; rest = []; all = sym (append-nil front); held = count }
-begin (failed fault) left front n count held = record { capture = record { records = front; fault = None }; rest = []; all = sym (append-nil front); held = count }
+begin other left front n count held = record { capture = record { records = front; fault = None }; rest = []; all = sym (append-nil front); held = count }
 
 -- the output's writer failed in a part
 abbrev Fails : Part → Written → Written → Type 0
@@ -299,7 +246,7 @@ write_fails direction first capture front rest old now new s after k taken r (Pc
       Appends-trans old.text now.text new.text part.text last.text adds.grows.text piece.0,
       up_to_front old.output now.output new.output part.output last.output adds.grows.output piece.1,
     ) in
-    subst (λ f. RunsHeld direction first capture taken old new after (Err (Pcap f))) (sym fails.0) (inl (
+    rw fails.0 (inl (
       k,
       same,
       within_all capture.records front rest r k all count,

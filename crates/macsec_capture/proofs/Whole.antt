@@ -14,11 +14,7 @@ use Rattle.{
     Captures.CaptureFile,
     Reading.{Ahead, holds, Opens, Reading, opened},
     Written.header_octets,
-    declared.fault.PcapFault.{
-      PcapFault,
-      TheVariants.{Magic, Version, LinkType, CutHeader, CutRecord, RecordLength, Read, Write, Memory, RecordCount},
-      TheVariants.{BlockLength, NoInterface, InterfaceCount, Time},
-    },
+    declared.fault.PcapFault.{PcapFault, TheVariants.{Memory, Read, Write}},
     declared.form.Resolution.{Resolution, TheVariants.Micro},
   },
   macsec_pcapng.specs.{Captures.captures_of, Laws.{FileIsOfFormat, IsOfFormat}},
@@ -37,95 +33,72 @@ use Rattle.{
 }
 use Rattle.macsec_script_parser.specs.declared.faults.ScriptFault.TheVariants as script
 
--- a run over a file, without commands before it
-abbrev pub of_file : Direction → State → CaptureFile → Captured
-of_file direction s file = captured_after direction (nothing s) (Ok file)
+module _ (direction : Direction) (s : State) (file : CaptureFile) where
+  -- a run over a file, without commands before it
+  abbrev pub of_file : Captured
+  of_file = captured_after direction (nothing s) (Ok file)
 
--- ---- the records of a file, after its header
+  abbrev records_of_file : Part
+  records_of_file = records_part direction s 0 file.capture.records
 
-abbrev records_of_file : Direction → State → CaptureFile → Part
-records_of_file direction s file = records_part direction s 0 file.capture.records
+  abbrev header : List ℕ
+  header = header_octets file.resolution
 
-all_but_fault : (direction : Direction) (s : State) (file : CaptureFile) (old mid new : Written) (after : State) (fault : PcapFault) →
-    Grows old mid (header_octets file.resolution) [] → (file.capture.fault ≡ Some fault) × Adds (records_of_file direction s file) mid new after →
-    ((of_file direction s file).fault ≡ Some (Pcap fault)) × Grows old new (of_file direction s file).output (of_file direction s file).text
-all_but_fault direction s file old mid new after fault first ended =
-    let part = records_of_file direction s file in
-    let header = header_octets file.resolution in
-    let grown : Grows old new (header ++ part.output) part.text = Grows-more old mid new header part.output [] part.text first ended.1.grows in
-    let lines : part.text ≡ part.text ++ last_lines file.capture.fault part.state =
-    sym (ap (λ e. part.text ++ last_lines e part.state) ended.0 ∙ append-nil part.text) in
-    (ap (option_map Pcap) ended.0, subst (Grows old new (header ++ part.output)) lines grown)
+  -- ---- the records of a file, after its header
 
--- the input or the output ends the run
-file_fault : (direction : Direction) (s : State) (file : CaptureFile) (taken : ℕ) (old mid new : Written) (after : State) →
-    Grows old mid (header_octets file.resolution) [] → (fault : PcapFault) → RunsHeld direction s file.capture taken mid new after (Err (Pcap fault)) →
-    CaptureGives (of_file direction s file) old new (Err (as_read_fault (Pcap fault)))
-file_fault direction s file taken old mid new after first Read runs =
-    some_behind direction (nothing s) file taken _ runs.0 (Grows-more old mid new (header_octets file.resolution) _ [] _ first runs.1)
-file_fault direction s file taken old mid new after first Memory runs =
-    at_last direction (nothing s) file (λ stop. Grows old new stop.output stop.text)
-    (Grows-more old mid new (header_octets file.resolution) _ [] _ first runs.1.grows)
-file_fault direction s file taken old mid new after first Write (inl at) =
-    at_record direction (nothing s) file at.0 (CutsOutput old new) at.2 (
-      Appends-trans old.text mid.text new.text [] _ first.text at.3.0,
-      up_to_behind old.output mid.output new.output (header_octets file.resolution) _ _ first.output at.3.1,
-    )
-file_fault direction s file taken old mid new after first Write (inr ended) =
-    let part = records_of_file direction s file in
-    let grown : Grows old new (header_octets file.resolution ++ part.output) part.text =
-    Grows-more old mid new (header_octets file.resolution) part.output [] part.text first ended.1.grows in
-    at_flush direction s file old new (length file.capture.records) refl grown.text grown.output
-file_fault direction s file taken old mid new after first Magic runs = all_but_fault direction s file old mid new after Magic first runs
-file_fault direction s file taken old mid new after first Version runs = all_but_fault direction s file old mid new after Version first runs
-file_fault direction s file taken old mid new after first LinkType runs = all_but_fault direction s file old mid new after LinkType first runs
-file_fault direction s file taken old mid new after first CutHeader runs = all_but_fault direction s file old mid new after CutHeader first runs
-file_fault direction s file taken old mid new after first CutRecord runs = all_but_fault direction s file old mid new after CutRecord first runs
-file_fault direction s file taken old mid new after first RecordLength runs = all_but_fault direction s file old mid new after RecordLength first runs
-file_fault direction s file taken old mid new after first RecordCount runs = all_but_fault direction s file old mid new after RecordCount first runs
-file_fault direction s file taken old mid new after first BlockLength runs = all_but_fault direction s file old mid new after BlockLength first runs
-file_fault direction s file taken old mid new after first NoInterface runs = all_but_fault direction s file old mid new after NoInterface first runs
-file_fault direction s file taken old mid new after first InterfaceCount runs = all_but_fault direction s file old mid new after InterfaceCount first runs
-file_fault direction s file taken old mid new after first Time runs = all_but_fault direction s file old mid new after Time first runs
+  module _ (old mid new : Written) (after : State) (first : Grows old mid header []) where
+    grown_by : (part : Part) → Grows mid new part.output part.text → Grows old new (header ++ part.output) part.text
+    grown_by part grows = Grows-more old mid new header part.output [] part.text first grows
 
-held_fault : (direction : Direction) (s : State) (file : CaptureFile) (taken : ℕ) (old mid new : Written) (after : State) →
-    Grows old mid (header_octets file.resolution) [] → IsOfFormat file.capture.fault → (fault : PcapFault) →
-    RunsHeld direction s file.capture taken mid new after (Err (Pcap fault)) → CaptureGives (of_file direction s file) old new (Err (Pcap fault))
-held_fault direction s file taken old mid new after first format Memory runs = absurd (subst IsOfFormat runs.0 format)
-held_fault direction s file taken old mid new after first format fault runs = file_fault direction s file taken old mid new after first fault runs
+    all_but_fault : (fault : PcapFault) → (file.capture.fault ≡ Some fault) × Adds records_of_file mid new after →
+        (of_file.fault ≡ Some (Pcap fault)) × Grows old new of_file.output of_file.text
+    all_but_fault fault ended =
+        let part = records_of_file in
+        let lines : part.text ≡ part.text ++ last_lines file.capture.fault part.state =
+        sym (ap (λ e. part.text ++ last_lines e part.state) ended.0 ∙ append-nil part.text) in
+        (ap (option_map Pcap) ended.0, subst (Grows old new (header ++ part.output)) lines (grown_by part ended.1.grows))
 
-held_script : (direction : Direction) (s : State) (file : CaptureFile) (taken : ℕ) (old mid new : Written) → Grows old mid (header_octets file.resolution) [] →
-    (fault : ScriptFault) → fault ≡ script.Write → InLast file.capture.records taken (λ n. Appends mid.output new.output (first_part direction s file.capture.records n).output) →
-    CaptureGives (of_file direction s file) old new (Err (Script fault))
-held_script direction s file taken old mid new first fault is at =
-    subst (λ f. CaptureGives (of_file direction s file) old new (Err (Script f))) (sym is)
-    (some_behind direction (nothing s) file at.0 (λ stop. Appends old.output new.output stop.output) (omega (arith, at.2))
-    (Appends-trans old.output mid.output new.output (header_octets file.resolution) _ first.output at.3))
+    -- the input or the output ends the run
+    file_fault : (taken : ℕ) (fault : PcapFault) → RunsHeld direction s file.capture taken mid new after (Err (Pcap fault)) →
+        CaptureGives of_file old new (Err (as_read_fault (Pcap fault)))
+    file_fault taken Read runs = some_behind direction (nothing s) file taken _ runs.0 (Grows-more old mid new header _ [] _ first runs.1)
+    file_fault taken Memory runs = at_last direction (nothing s) file (λ stop. Grows old new stop.output stop.text) (Grows-more old mid new header _ [] _ first runs.1.grows)
+    file_fault taken Write (inl at) =
+        at_record direction (nothing s) file at.0 (CutsOutput old new) at.2 (
+          Appends-trans old.text mid.text new.text [] _ first.text at.3.0,
+          up_to_behind old.output mid.output new.output header _ _ first.output at.3.1,
+        )
+    file_fault taken Write (inr ended) =
+        let grown = grown_by records_of_file ended.1.grows in at_flush direction s file old new (length file.capture.records) refl grown.text grown.output
+    file_fault taken fault runs = all_but_fault fault runs
 
-file_ended : (direction : Direction) (s : State) (file : CaptureFile) (old mid new : Written) (after : State) → Grows old mid (header_octets file.resolution) [] →
-    (file.capture.fault ≡ None) × Adds (records_of_file direction s file) mid new after → TakesFile direction s file old new after (Ok tt)
-file_ended direction s file old mid new after first runs =
-    let part = records_of_file direction s file in
-    (runs.0, record { grows = Grows-more old mid new (header_octets file.resolution) part.output [] part.text first runs.1.grows; state = runs.1.state })
+    held_fault : (taken : ℕ) → IsOfFormat file.capture.fault → (fault : PcapFault) → RunsHeld direction s file.capture taken mid new after (Err (Pcap fault)) →
+        CaptureGives of_file old new (Err (Pcap fault))
+    held_fault taken format Memory runs = absurd (subst IsOfFormat runs.0 format)
+    held_fault taken format fault runs = file_fault taken fault runs
 
-held_takes : (direction : Direction) (s : State) (file : CaptureFile) (taken : ℕ) (old mid new : Written) (after : State) (answer : Result (Unit {0}) CaptureFault) →
-    Grows old mid (header_octets file.resolution) [] → IsOfFormat file.capture.fault → RunsHeld direction s file.capture taken mid new after answer →
-    TakesFile direction s file old new after answer
-held_takes direction s file taken old mid new after (Ok done) first format runs = file_ended direction s file old mid new after first runs
-held_takes direction s file taken old mid new after (Err (Script fault)) first format runs =
-    held_script direction s file taken old mid new first fault runs.0 runs.1
-held_takes direction s file taken old mid new after (Err (Pcap fault)) first format runs =
-    held_fault direction s file taken old mid new after first format fault runs
+    held_script : (taken : ℕ) (fault : ScriptFault) → fault ≡ script.Write →
+        InLast file.capture.records taken (λ n. Appends mid.output new.output (first_part direction s file.capture.records n).output) →
+        CaptureGives of_file old new (Err (Script fault))
+    held_script taken fault is at =
+        rw is (some_behind direction (nothing s) file at.0 (λ stop. Appends old.output new.output stop.output) (omega (arith, at.2))
+        (Appends-trans old.output mid.output new.output header _ first.output at.3))
 
--- the same whatever the reader returned
-file_takes : (direction : Direction) (s : State) (file : CaptureFile) (taken : ℕ) (old mid new : Written) (after : State) (answer : Result (Unit {0}) CaptureFault) →
-    Grows old mid (header_octets file.resolution) [] → RunsHeld direction s file.capture taken mid new after answer →
-    TakesFile direction s file old new after (as_read answer)
-file_takes direction s file taken old mid new after (Ok done) first runs = file_ended direction s file old mid new after first runs
-file_takes direction s file taken old mid new after (Err (Script fault)) first runs =
-    held_script direction s file taken old mid new first fault runs.0 runs.1
-file_takes direction s file taken old mid new after (Err (Pcap fault)) first runs =
-    file_fault direction s file taken old mid new after first fault runs
+    file_ended : (file.capture.fault ≡ None) × Adds records_of_file mid new after → TakesFile direction s file old new after (Ok tt)
+    file_ended runs = (runs.0, record { grows = grown_by records_of_file runs.1.grows; state = runs.1.state })
+
+    held_takes : (taken : ℕ) (answer : Result (Unit {0}) CaptureFault) → IsOfFormat file.capture.fault →
+        RunsHeld direction s file.capture taken mid new after answer → TakesFile direction s file old new after answer
+    held_takes taken (Ok done) format runs = file_ended runs
+    held_takes taken (Err (Script fault)) format runs = held_script taken fault runs.0 runs.1
+    held_takes taken (Err (Pcap fault)) format runs = held_fault taken format fault runs
+
+    -- the same whatever the reader returned
+    file_takes : (taken : ℕ) (answer : Result (Unit {0}) CaptureFault) → RunsHeld direction s file.capture taken mid new after answer →
+        TakesFile direction s file old new after (as_read answer)
+    file_takes taken (Ok done) runs = file_ended runs
+    file_takes taken (Err (Script fault)) runs = held_script taken fault runs.0 runs.1
+    file_takes taken (Err (Pcap fault)) runs = file_fault taken fault runs
 
 -- the reader was opened on this file: it has the header's unit of time, and holds the records
 pub taken_of_file : ((file : List ℕ) → FileIsOfFormat (captures_of file)) → (direction : Direction) (s : State) (reader : Reading) (unit : Resolution)
@@ -135,9 +108,9 @@ pub taken_of_file : ((file : List ℕ) → FileIsOfFormat (captures_of file)) �
 taken_of_file law direction s reader unit taken o m n t u after answer same adds runs octets file read stands =
     let held : RunsRecords direction s (holds file.capture) taken (known m t) (known n u) after answer =
     subst (λ (r : Reading). RunsRecords direction s r.ahead taken (known m t) (known n u) after answer) stands runs in
-    held_takes direction s file taken (known o t) (known m t) (known n u) after answer
+    held_takes direction s file (known o t) (known m t) (known n u) after
     (record { output = subst (λ u. Appends o m (header_octets u)) (same ∙ ap (λ (r : Reading). r.resolution) stands) adds; text = Appends-nil t })
-    (subst FileIsOfFormat read (law octets))
+    taken answer (subst FileIsOfFormat read (law octets))
     (subst (λ c. RunsHeld direction s c taken (known m t) (known n u) after answer) held.1 held.2)
 
 -- any reader: it has some unit of time and some records
@@ -147,7 +120,7 @@ pub taken_of_some : (direction : Direction) (s : State) (ahead : Ahead) (unit : 
     (file : CaptureFile) × TakesFile direction s file (known o t) (known n u) after (as_read answer)
 taken_of_some direction s ahead unit taken o m n t u after answer adds runs =
     let file : CaptureFile = record { resolution = unit; capture = runs.0 } in
-    (file, file_takes direction s file taken (known o t) (known m t) (known n u) after answer (record { output = adds; text = Appends-nil t }) runs.2)
+    (file, file_takes direction s file (known o t) (known m t) (known n u) after (record { output = adds; text = Appends-nil t }) taken answer runs.2)
 
 -- the header can't be written
 headless_file : (direction : Direction) (s : State) (file : CaptureFile) (o m t : Option (List ℕ)) (after : State) → AppendsFront o m (header_octets file.resolution) →
@@ -163,8 +136,7 @@ pub headless : (direction : Direction) (s : State) (reader : Reading) (unit : Re
     (octets : List ℕ) (file : CaptureFile) → captures_of octets ≡ Ok file → reader ≡ opened file →
     TakesFile direction s file (known o t) (known m t) s (Err (Pcap fault))
 headless direction s reader unit o m t fault is same cut octets file read stands =
-    subst (λ f. TakesFile direction s file (known o t) (known m t) s (Err (Pcap f))) (sym is)
-    (headless_file direction s file o m t s
+    rw is (headless_file direction s file o m t s
     (subst (λ u. AppendsFront o m (header_octets u)) (same ∙ ap (λ (r : Reading). r.resolution) stands) cut))
 
 abbrev no_records : Resolution → CaptureFile
@@ -174,8 +146,7 @@ pub headless_some : (direction : Direction) (s : State) (unit : Resolution) (o m
     AppendsFront o m (header_octets unit) → (file : CaptureFile) × TakesFile direction s file (known o t) (known m t) s (as_read (Err (Pcap fault)))
 headless_some direction s unit o m t fault is cut = (
   no_records unit,
-  subst (λ f. TakesFile direction s (no_records unit) (known o t) (known m t) s (as_read (Err (Pcap f)))) (sym is)
-      (headless_file direction s (no_records unit) o m t s cut),
+  rw is (headless_file direction s (no_records unit) o m t s cut),
 )
 
 -- ---- the flush of the output, and the counters
@@ -225,8 +196,7 @@ flushed_some direction s o m n t u after keeps written ended (file, takes) = (
 pub uncounted : (direction : Direction) (s : State) (file : CaptureFile) (o n t u v : Option (List ℕ)) (after : State) (fault : ScriptFault) → fault ≡ script.Write →
     TakesFile direction s file (known o t) (known n u) after (Ok tt) → CaptureGives (of_file direction s file) (known o t) (known n v) (Err (Script fault))
 uncounted direction s file o n t u v after fault is takes =
-    subst (λ f. CaptureGives (of_file direction s file) (known o t) (known n v) (Err (Script f))) (sym is)
-    (at_last direction (nothing s) file (λ stop. Appends o n stop.output) takes.1.grows.output)
+    rw is (at_last direction (nothing s) file (λ stop. Appends o n stop.output) takes.1.grows.output)
 
 -- the counters are printed
 pub counted : (direction : Direction) (s : State) (file : CaptureFile) (o n t u v : Option (List ℕ)) (after : State) →
@@ -265,17 +235,7 @@ unopened_gives law direction s octets w Memory h =
     subst (λ stops. AtFirst stops (λ stop. Grows w w stop.output stop.text)) (same_stops direction (nothing s) (captures_of octets))
     (at_first direction (nothing s) (captures_of octets) (λ stop. Grows w w stop.output stop.text) (Grows-nothing w))
 unopened_gives law direction s octets w Write h = absurd (subst FileIsOfFormat (sym h) (law octets))
-unopened_gives law direction s octets w Magic h = header_fault direction s (captures_of octets) w Magic h
-unopened_gives law direction s octets w Version h = header_fault direction s (captures_of octets) w Version h
-unopened_gives law direction s octets w LinkType h = header_fault direction s (captures_of octets) w LinkType h
-unopened_gives law direction s octets w CutHeader h = header_fault direction s (captures_of octets) w CutHeader h
-unopened_gives law direction s octets w CutRecord h = header_fault direction s (captures_of octets) w CutRecord h
-unopened_gives law direction s octets w RecordLength h = header_fault direction s (captures_of octets) w RecordLength h
-unopened_gives law direction s octets w RecordCount h = header_fault direction s (captures_of octets) w RecordCount h
-unopened_gives law direction s octets w BlockLength h = header_fault direction s (captures_of octets) w BlockLength h
-unopened_gives law direction s octets w NoInterface h = header_fault direction s (captures_of octets) w NoInterface h
-unopened_gives law direction s octets w InterfaceCount h = header_fault direction s (captures_of octets) w InterfaceCount h
-unopened_gives law direction s octets w Time h = header_fault direction s (captures_of octets) w Time h
+unopened_gives law direction s octets w fault h = header_fault direction s (captures_of octets) w fault h
 
 pub unopened : ((file : List ℕ) → FileIsOfFormat (captures_of file)) → (direction : Direction) (s : State) (input : Option (List ℕ)) (w : Written) (fault : PcapFault) →
     IfSome input (λ file. Opens (captures_of file) (Err fault)) →
@@ -284,26 +244,12 @@ unopened law direction s None w fault h = tt
 unopened law direction s (Some octets) w fault h = unopened_gives law direction s octets w fault h
 
 -- any reader
-unopened_over : (direction : Direction) (s : State) (w : Written) (fault : PcapFault) →
-    (file : Result CaptureFile PcapFault) × CaptureGives (captured_after direction (nothing s) file) w w (Err (as_read_fault (Pcap fault)))
-unopened_over direction s w Read = (Err Read, some_at_first direction (nothing s) (Err Read) (λ stop. Grows w w stop.output stop.text) (Grows-nothing w))
-unopened_over direction s w Memory = (Err Read, some_at_first direction (nothing s) (Err Read) (λ stop. Grows w w stop.output stop.text) (Grows-nothing w))
-unopened_over direction s w Write = (Ok (no_records Micro), headless_file direction s (no_records Micro) w.output w.output w.text s ([], refl, Appends-nil w.output))
-unopened_over direction s w Magic = (Err Magic, header_fault direction s (Err Magic) w Magic refl)
-unopened_over direction s w Version = (Err Version, header_fault direction s (Err Version) w Version refl)
-unopened_over direction s w LinkType = (Err LinkType, header_fault direction s (Err LinkType) w LinkType refl)
-unopened_over direction s w CutHeader = (Err CutHeader, header_fault direction s (Err CutHeader) w CutHeader refl)
-unopened_over direction s w CutRecord = (Err CutRecord, header_fault direction s (Err CutRecord) w CutRecord refl)
-unopened_over direction s w RecordLength = (Err RecordLength, header_fault direction s (Err RecordLength) w RecordLength refl)
-unopened_over direction s w RecordCount = (Err RecordCount, header_fault direction s (Err RecordCount) w RecordCount refl)
-unopened_over direction s w BlockLength = (Err BlockLength, header_fault direction s (Err BlockLength) w BlockLength refl)
-unopened_over direction s w NoInterface = (Err NoInterface, header_fault direction s (Err NoInterface) w NoInterface refl)
-unopened_over direction s w InterfaceCount = (Err InterfaceCount, header_fault direction s (Err InterfaceCount) w InterfaceCount refl)
-unopened_over direction s w Time = (Err Time, header_fault direction s (Err Time) w Time refl)
-
 pub unopened_some : (direction : Direction) (s : State) (w : Written) (fault : PcapFault) →
     (file : Result CaptureFile PcapFault) × CaptureGives (captured_after direction (nothing s) file) w w (as_read (Err (Pcap fault)))
-unopened_some direction s w fault = unopened_over direction s w fault
+unopened_some direction s w Read = (Err Read, some_at_first direction (nothing s) (Err Read) (λ stop. Grows w w stop.output stop.text) (Grows-nothing w))
+unopened_some direction s w Memory = (Err Read, some_at_first direction (nothing s) (Err Read) (λ stop. Grows w w stop.output stop.text) (Grows-nothing w))
+unopened_some direction s w Write = (Ok (no_records Micro), headless_file direction s (no_records Micro) w.output w.output w.text s ([], refl, Appends-nil w.output))
+unopened_some direction s w fault = (Err fault, header_fault direction s (Err fault) w fault refl)
 
 -- ---- a file that was opened
 
@@ -336,24 +282,13 @@ behind_fault lines whole old mid new same prints Memory gives =
     first_put lines whole.stops _ _ (λ stop grown. behind_grown lines stop.output stop.text old mid new same prints grown) gives
 behind_fault lines whole old mid new same prints Write gives =
     next_put (put_before lines) whole.stops _ _ (λ before after cut. cut_put lines old mid new before after same prints cut) gives
-behind_fault lines whole old mid new same prints Magic gives = (gives.0, behind_grown lines whole.output whole.text old mid new same prints gives.1)
-behind_fault lines whole old mid new same prints Version gives = (gives.0, behind_grown lines whole.output whole.text old mid new same prints gives.1)
-behind_fault lines whole old mid new same prints LinkType gives = (gives.0, behind_grown lines whole.output whole.text old mid new same prints gives.1)
-behind_fault lines whole old mid new same prints CutHeader gives = (gives.0, behind_grown lines whole.output whole.text old mid new same prints gives.1)
-behind_fault lines whole old mid new same prints CutRecord gives = (gives.0, behind_grown lines whole.output whole.text old mid new same prints gives.1)
-behind_fault lines whole old mid new same prints RecordLength gives = (gives.0, behind_grown lines whole.output whole.text old mid new same prints gives.1)
-behind_fault lines whole old mid new same prints RecordCount gives = (gives.0, behind_grown lines whole.output whole.text old mid new same prints gives.1)
-behind_fault lines whole old mid new same prints BlockLength gives = (gives.0, behind_grown lines whole.output whole.text old mid new same prints gives.1)
-behind_fault lines whole old mid new same prints NoInterface gives = (gives.0, behind_grown lines whole.output whole.text old mid new same prints gives.1)
-behind_fault lines whole old mid new same prints InterfaceCount gives = (gives.0, behind_grown lines whole.output whole.text old mid new same prints gives.1)
-behind_fault lines whole old mid new same prints Time gives = (gives.0, behind_grown lines whole.output whole.text old mid new same prints gives.1)
+behind_fault lines whole old mid new same prints fault gives = (gives.0, behind_grown lines whole.output whole.text old mid new same prints gives.1)
 
 behind_script : (lines : List ℕ) (whole : Captured) (old mid new : Written) → mid.output ≡ old.output → (fault : ScriptFault) → fault ≡ script.Write →
     CaptureGives whole mid new (Err (Script fault)) → CaptureGives (behind lines whole) old new (Err (Script fault))
 behind_script lines whole old mid new same fault is gives =
-    subst (λ f. CaptureGives (behind lines whole) old new (Err (Script f))) (sym is)
-    (some_put lines whole.stops _ (λ stop. Appends old.output new.output stop.output) (λ stop adds. subst (λ o. Appends o new.output stop.output) same adds)
-    (subst (λ f. CaptureGives whole mid new (Err (Script f))) is gives))
+    rw is (some_put lines whole.stops _ (λ stop. Appends old.output new.output stop.output) (λ stop adds. subst (λ o. Appends o new.output stop.output) same adds)
+    (rw is at gives))
 
 behind_gives : (lines : List ℕ) (whole : Captured) (old mid new : Written) → mid.output ≡ old.output → Appends old.text mid.text lines →
     (answer : Result (Unit {0}) CaptureFault) → IfErr answer IsLateFault → CaptureGives whole mid new answer → CaptureGives (behind lines whole) old new answer
@@ -426,13 +361,11 @@ pub unprinted : (direction : Direction) (config : ConfigParts) (input o t u : Op
     IfSome input (λ file. CaptureGives (captured_at direction config (captures_of file)) (known o t) (known o u) (Err (Script fault)))
 unprinted direction config None o t u fault is = tt
 unprinted direction config (Some file) o t u fault is =
-    subst (λ f. CaptureGives (captured_at direction config (captures_of file)) (known o t) (known o u) (Err (Script f))) (sym is)
-    (unprinted_over direction config (captures_of file) o t u)
+    rw is (unprinted_over direction config (captures_of file) o t u)
 
 pub unprinted_some : (direction : Direction) (config : ConfigParts) (o t u : Option (List ℕ)) (fault : ScriptFault) → fault ≡ script.Write →
     (file : Result CaptureFile PcapFault) × CaptureGives (captured_at direction config file) (known o t) (known o u) (as_read (Err (Script fault)))
 unprinted_some direction config o t u fault is = (
   Err Read,
-  subst (λ f. CaptureGives (captured_at direction config (Err Read)) (known o t) (known o u) (as_read (Err (Script f)))) (sym is)
-      (unprinted_over direction config (Err Read) o t u),
+  rw is (unprinted_over direction config (Err Read) o t u),
 )
