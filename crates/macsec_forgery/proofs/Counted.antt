@@ -6,17 +6,15 @@ use Rattle.{
     lemmas.List.Elements.{All-cons, All-filter, All-nil, All-weaker},
   },
   macsec_gcm.{proofs.Opening.length-tag, specs.{Gcm.hash_subkey, Octets.same_octets}},
-  macsec_tag.specs.{Frame.{MpduParts, in_a_row}, Laws.{AreOctets, ReadsByGrammar}},
-  macsec_suite.specs.{CipherUses.CipherUse, KeyRows.{InstalledKey, the_key}},
+  macsec_tag.specs.{Laws.{AreOctets, ReadsByGrammar}},
+  macsec_suite.specs.{CipherUses.CipherUse, KeyRows.the_key},
   macsec_commands.specs.declared.{config.EndConfig.EndConfig, event.Event.Event},
-  macsec_tx.specs.Transmit.iv_sent,
-  macsec_secy.specs.State.{State, tx_options},
   macsec_link.proofs.Moments.world_of_trace,
   macsec_link.specs.{
     Beginnings.AreSound,
     Sound.IsSound,
     Step.{world_after, world_at},
-    Trace.{Sent, Trace, new_trace, trace_of},
+    Trace.{Sent, new_trace, trace_of},
     UniqueIvs.{HasOtherIv, IsUseFor, RepeatsNoIv, parts_made, state_at},
     World.{WorldState, end_of, frame_at, new_world},
   },
@@ -47,15 +45,13 @@ sealed_within : (a b : EndConfig) (events : List Event) (m moment : ℕ) (x : Se
     → All (λ frame. length frame ≤ 16 * m) (world_after (new_world a b) events).frames → IsUseFor a b events moment x → IsWithin (m + 1) x.seal
 sealed_within a b events m moment x sound fits it =
     let frames = (world_after (new_world a b) events).frames in
-    let s : State = state_at a b events moment x.at in
-    let key : InstalledKey = the_key s.keys it.row.key in
-    let p : MpduParts = parts_made s it.row x.frame in
-    subst (IsWithin (m + 1)) (sym it.seal)
-    (parts_within m key (iv_sent (tx_options s) key it.row) p
-    (on_the_link AreOctets frames it.link_frame (in_a_row p) sound.octets it.on_link)
-    (on_the_link (λ frame. length frame ≤ 9248) frames it.link_frame (in_a_row p) sound.frames it.on_link)
-    (on_the_link (λ frame. length frame ≤ 16 * m) frames it.link_frame (in_a_row p) fits it.on_link)
-    (length-tag _ _ _ _))
+    let s = state_at a b events moment x.at in
+    let key = the_key s.keys it.row.key in
+    let p = parts_made s it.row x.frame in
+    subst (IsWithin (m + 1)) (sym it.seal) (parts_within m key _ p
+    (on_the_link AreOctets frames _ _ sound.octets it.on_link)
+    (on_the_link (λ frame. length frame ≤ 9248) frames _ _ sound.frames it.on_link)
+    (on_the_link (λ frame. length frame ≤ 16 * m) frames _ _ fits it.on_link) (length-tag _ _ _ _))
 
 seals_within : Promises → (a b : EndConfig) (events : List Event) → AreSound a b events → (m moment : ℕ)
     → All (λ frame. length frame ≤ 16 * m) (world_at a b events moment).frames
@@ -67,7 +63,7 @@ seals_within promises a b events sound m moment fits =
 -- ---- the message that was forged
 
 frame_has : (P : List ℕ → Type 0) (w : WorldState) (n : ℕ) → P [] → All P w.frames → P (frame_at w n)
-frame_has P w n nothing all = by_place (slice_get w.frames n) refl
+frame_has P w n nothing all = by_place _ refl
   where
     by_place : (o : Option (List ℕ)) → slice_get w.frames n ≡ o → P (unwrap_or o [])
     by_place None is = nothing
@@ -76,26 +72,26 @@ frame_has P w n nothing all = by_place (slice_get w.frames n) refl
 forged_within : Grammar → (a b : EndConfig) (events : List Event) → AreSound a b events → (m moment : ℕ) (it : IsForgedAt a b events moment)
     → All (λ frame. length frame ≤ 16 * m) (world_at a b events moment).frames → IsWithin (m + 1) it.forged
 forged_within grammar a b events sound m moment it fits =
-    let t : Trace = trace_before a b events moment in
-    let same : t.world ≡ world_at a b events moment = world_of_trace (new_trace a b) (take moment events) in
-    let frame : List ℕ = frame_at t.world it.frame in
+    let t = trace_before a b events moment in
+    let same = world_of_trace (new_trace a b) (take moment events) in
+    let frame = frame_at t.world it.frame in
     let now : IsSound t.world = subst IsSound (sym same) (sound moment) in
-    let short : All (λ frame. length frame ≤ 16 * m) t.world.frames = subst (λ (w : WorldState). All (λ frame. length frame ≤ 16 * m) w.frames) (sym same) fits in
-    let parts = opened_parts (end_of t.world it.end).state frame it.forged it.opened in
-    let p : MpduParts = parts.2 in
-    let octets : AreOctets frame = frame_has AreOctets t.world it.frame (All-nil (λ x. x < 256)) now.octets in
-    let most : length frame ≤ 9248 = frame_has (λ f. length f ≤ 9248) t.world it.frame (omega arith) now.frames in
-    let few : length frame ≤ 16 * m = frame_has (λ f. length f ≤ 16 * m) t.world it.frame (omega arith) short in
+    let short : All (λ frame. length frame ≤ 16 * m) t.world.frames = subst (λ w. All (λ frame. length frame ≤ 16 * m) w.frames) (sym same) fits in
+    let parts = opened_parts (end_of t.world it.end).state frame _ it.opened in
+    let p = parts.2 in
+    let octets = frame_has AreOctets t.world it.frame (All-nil (λ x. x < 256)) now.octets in
+    let most = frame_has (λ f. length f ≤ 9248) t.world it.frame (omega arith) now.frames in
+    let few = frame_has (λ f. length f ≤ 16 * m) t.world it.frame (omega arith) short in
     let is = ((grammar frame octets).is_tagged p).0 parts.3 in
     subst (IsWithin (m + 1)) parts.4
-    (parts_within m parts.0 parts.1 p (subst AreOctets is.row octets) (subst (λ (f : List ℕ). length f ≤ 9248) is.row most)
-    (subst (λ (f : List ℕ). length f ≤ 16 * m) is.row few) is.lengths.icv)
+    (parts_within m parts.0 parts.1 p (subst AreOctets is.row octets) (subst (λ f. length f ≤ 9248) is.row most)
+    (subst (λ f. length f ≤ 16 * m) is.row few) is.lengths.icv)
 
 -- ---- counting
 
 pub few_keys_forge_in_runs : Promises → Grammar → FewKeysForgeInRuns
 few_keys_forge_in_runs promises grammar a b events sound m moment it hs fits keys each =
-    let u : CipherUse = it.forged in
+    let u = it.forged in
     let seals : List CipherUse = (trace_before a b events moment).seals in
     let few = few_keys_have_forgeries (m + 1) u.key (mask_of u.key) (under u.key seals) (u ∷ []) hs (under_key u.key seals)
     (All-filter (λ s. same_octets s.key u.key) (IsWithin (m + 1)) seals (seals_within promises a b events sound m moment fits))
@@ -118,7 +114,7 @@ tag_long u opens =
 pub every_key_is_possible_in_runs : Promises → EveryKeyIsPossibleInRuns
 every_key_is_possible_in_runs promises a b events sound scis agree sscis key given h =
     let seals : List CipherUse = (trace_of a b events).seals in
-    let apart : AllPairs HasOtherIv seals = promised_to_all a b events RepeatsNoIv (promises a b events sound).unique_ivs scis agree sscis in
+    let apart = promised_to_all a b events RepeatsNoIv (promises a b events sound).unique_ivs scis agree sscis in
     every_key_is_possible given (under key seals) h (ivs_apart key seals apart)
     (All-weaker Opens (λ u. length u.tag ≡ 16) tag_long (under key seals) (All-filter (λ u. same_octets u.key key) Opens seals (seals_open a b events)))
 
@@ -126,13 +122,13 @@ every_key_is_possible_in_runs promises a b events sound scis agree sscis key giv
 
 pub one_of_few_keys : Promises → Grammar → OneOfFewKeys
 one_of_few_keys promises grammar a b events sound moment scis agree sscis it octets =
-    let t : Trace = trace_before a b events moment in
-    let u : CipherUse = it.forged in
-    let seals : List CipherUse = t.seals in
+    let t = trace_before a b events moment in
+    let u = it.forged in
+    let seals = t.seals in
     let apart : AllPairs HasOtherIv seals = (promises a b events sound).unique_ivs moment scis agree sscis in
     let ivs = ivs_apart u.key seals apart in
-    let opens : All Opens (under u.key seals) = All-filter (λ s. same_octets s.key u.key) Opens seals (seals_open a b (take moment events)) in
-    let own : All (λ s. s.key ≡ u.key) (u ∷ []) = All-cons (λ s. s.key ≡ u.key) u [] refl (All-nil (λ s. s.key ≡ u.key)) in
+    let opens = All-filter (λ s. same_octets s.key u.key) Opens seals (seals_open a b (take moment events)) in
+    let own = All-cons (λ s. s.key ≡ u.key) u [] refl (All-nil (λ s. s.key ≡ u.key)) in
     let few = few_of_all_keys 579 u.key (mask_of u.key) (under u.key seals) (u ∷ []) ivs
     (All-weaker Opens (λ s. length s.tag ≡ 16) tag_long (under u.key seals) opens)
     (under_key u.key seals)

@@ -67,7 +67,7 @@ genuine_or_new_in t (event ∷ events) = elim (genuine_or_new t event) [
     within = omega arith;
     end = it.end;
     frame = it.frame;
-    event = ap (λ (e : Event). Some e) it.is_delivery;
+    event = ap (λ e. Some e) it.is_delivery;
     genuine_before = tt;
     forged = it.forged;
     opened = it.opened;
@@ -110,7 +110,7 @@ counted seals u all_open opens none =
 
 is_forged : (a b : EndConfig) (events : List Event) → IsNewIn (new_trace a b) events → IsForged a b events
 is_forged a b events it =
-    let t : Trace = trace_of a b (take it.moment events) in (
+    let t = trace_of a b (take _ events) in (
       it.moment,
       it.within,
       record {
@@ -121,8 +121,8 @@ is_forged a b events it =
         forged = it.forged;
         opened = it.opened;
         not_sealed = it.not_sealed;
-        counted = counted t.seals it.forged (seals_open a b (take it.moment events))
-            (opened_opens (end_of t.world it.end).state (frame_at t.world it.frame) it.forged it.opened) it.not_sealed;
+        counted = counted t.seals _ (seals_open a b (take it.moment events))
+            (opened_opens (end_of t.world it.end).state (frame_at t.world it.frame) _ it.opened) it.not_sealed;
       },
     )
 

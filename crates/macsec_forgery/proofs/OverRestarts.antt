@@ -15,7 +15,7 @@ use Rattle.{
   macsec_secrecy.proofs.UnderKey.under_key,
   macsec_restarts.specs.{
     AheadOrder.{ComesInOrderOnceWith, IsOrderlyInside, inside},
-    ForgettingOrder.{ComesInOrderOnceForgetting, given},
+    ForgettingOrder.ComesInOrderOnceForgetting,
     Happenings.{AtEach, Happening, comes_in, last_run, runs_of},
     Order.{ComesInOrderOnce, IsOrderly},
     Origin.ComesFromOther,
@@ -81,13 +81,13 @@ AtEach-append : (P : List Happening → Happening → Type 0) (before events : L
     → AtEach P before events → P (before ++ events) h → AtEach P before (events ++ h ∷ [])
 AtEach-append P before [] h all now = (rw append-nil at now, tt)
 AtEach-append P before (e ∷ events) h all now =
-    (all.0, AtEach-append P (before ++ e ∷ []) events h all.1 (rw (← append_assoc before (e ∷ []) events) at now))
+    (all.0, AtEach-append P _ events h all.1 (rw (← append_assoc before (e ∷ []) events) at now))
 
 from_here : (before events : List Happening) → AtEach IsGenuineAt [] before → AtEach IsGenuineAt before events ⊎ IsForgedIn (before ++ events)
 from_here before [] genuine = inl tt
 from_here before (h ∷ events) genuine = elim (genuine_or_forged_at before h) [
   | inr forged ↦ inr (record { before = before; now = h; later = events; in_order = refl; genuine_before = genuine; by = forged })
-  | inl now ↦ elim (from_here (before ++ h ∷ []) events (AtEach-append IsGenuineAt [] before h genuine now)) [
+  | inl now ↦ elim (from_here _ events (AtEach-append _ [] before h genuine now)) [
     | inl later ↦ inl (now, later)
     | inr forged ↦ inr (rw append_assoc at forged)
   ]
@@ -100,7 +100,7 @@ genuine_or_forged events = from_here [] events tt
 
 pub origin_or_forged : ((before : List Happening) → ComesFromOther before) → OriginOrForged
 origin_or_forged comes before peers e run frame row delivered octets in_run strict of_row delivers =
-    elim (genuine_or_forged_at before (comes_in e (endpoint_input (link_frame frame)))) [
+    elim (genuine_or_forged_at before _) [
       | inr forged ↦ inl forged
       | inl genuine ↦ inr (comes before peers e run frame row delivered octets genuine in_run strict of_row delivers)
     ]
@@ -109,7 +109,7 @@ orderly : (e : End) (bytes : List ℕ) (sci : Sci) (an : ℕ) (before events : L
     → AtEach IsGenuineAt before events → AtEach (IsOrderlyButForged e bytes sci an) before events → AtEach (IsOrderly e bytes sci an) before events
 orderly e bytes sci an before [] genuine order = tt
 orderly e bytes sci an before (h ∷ events) genuine order =
-    (record { genuine = genuine.0; octets = order.0.octets; ordered = order.0.ordered }, orderly e bytes sci an (before ++ h ∷ []) events genuine.1 order.1)
+    (record { genuine = genuine.0; octets = order.0.octets; ordered = order.0.ordered }, orderly e bytes sci an _ events genuine.1 order.1)
 
 pub order_or_forged : ((events : List Happening) → ComesInOrderOnce events) → OrderOrForged
 order_or_forged comes events e bytes sci an order peers = elim (genuine_or_forged events) [
@@ -123,27 +123,27 @@ orderly_inside : (ahead : Bool) (e : End) (bytes : List ℕ) (sci : Sci) (an : �
 orderly_inside ahead e bytes sci an before [] genuine order = tt
 orderly_inside ahead e bytes sci an before (h ∷ events) genuine order = (
   record { genuine = genuine.0; octets = order.0.octets; ordered = order.0.ordered },
-  orderly_inside ahead e bytes sci an (before ++ h ∷ []) events genuine.1 order.1,
+  orderly_inside ahead e bytes sci an _ events genuine.1 order.1,
 )
 
 pub order_ahead_or_forged : ((ahead : End → Bool) (events : List Happening) → ComesInOrderOnceWith ahead events) → OrderAheadOrForged
 order_ahead_or_forged comes ahead events e bytes sci an order peers = elim (genuine_or_forged (inside ahead events)) [
   | inr forged ↦ inl forged
-  | inl genuine ↦ inr (comes ahead events e bytes sci an (orderly_inside (ahead e) e bytes sci an [] (inside ahead events) genuine order) peers)
+  | inl genuine ↦ inr (comes ahead events e bytes sci an (orderly_inside _ e bytes sci an [] _ genuine order) peers)
 ]
 
 pub order_forgetting_or_forged : ((ahead : End → Bool) (events : List Happening) → ComesInOrderOnceForgetting ahead events) → OrderForgettingOrForged
-order_forgetting_or_forged comes ahead events e bytes sci an sound order peers = elim (genuine_or_forged (inside ahead (given ahead events))) [
+order_forgetting_or_forged comes ahead events e bytes sci an sound order peers = elim (genuine_or_forged (inside ahead _)) [
   | inr forged ↦ inl forged
-  | inl genuine ↦ inr (comes ahead events e bytes sci an sound (orderly_inside (ahead e) e bytes sci an [] (inside ahead (given ahead events)) genuine order) peers)
+  | inl genuine ↦ inr (comes ahead events e bytes sci an sound (orderly_inside _ e bytes sci an [] _ genuine order) peers)
 ]
 
 -- ---- counting
 
 pub few_keys_forge : FewKeysForge
 few_keys_forge n before now it hs within_seals within keys each =
-    let u : CipherUse = it.forged in
-    let seals : List CipherUse = sealed_so_far before in
+    let u = it.forged in
+    let seals = sealed_so_far before in
     let few = few_keys_have_forgeries n u.key (mask_of u.key) (under u.key seals) (u ∷ []) hs (under_key u.key seals)
     (All-filter (λ s. same_octets s.key u.key) (IsWithin n) seals within_seals)
     (All-cons (λ s. s.key ≡ u.key) u [] refl (All-nil (λ s. s.key ≡ u.key)))

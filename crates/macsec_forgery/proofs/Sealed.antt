@@ -4,7 +4,7 @@ use Rattle.{
   macsec_gcm.{proofs.Opening.{length-ciphertext, length-tag, open_undoes_seal}, specs.Laws.SealedLengths},
   macsec_suite.specs.KeyRows.{InstalledKey, prepared_key, the_key},
   macsec_commands.specs.declared.{config.EndConfig.EndConfig, event.Event.Event},
-  macsec_tx.specs.{Transmit.{iv_sent, tag_sent, use_sent}, declared.{TxOptions.TxOptions, TxRow.TxRow}},
+  macsec_tx.specs.{Transmit.use_sent, declared.{TxOptions.TxOptions, TxRow.TxRow}},
   macsec_secy.{proofs.SealedParts.sealed_opens, specs.State.tx_options},
   macsec_reserve.specs.Histories.{Run, sealed_in_all},
   macsec_link.specs.Trace.trace_of,
@@ -17,7 +17,7 @@ lengths = record { ciphertext = length-ciphertext; tag = length-tag }
 
 sent_opens : (options : TxOptions) (key : InstalledKey) (row : TxRow) (frame : List ℕ) → Opens (use_sent options key row frame)
 sent_opens options key row frame =
-    ap is_some (sealed_opens open_undoes_seal lengths (prepared_key key) (iv_sent options key row) (tag_sent options row frame) frame)
+    ap is_some (sealed_opens open_undoes_seal lengths (prepared_key key) _ _ frame)
 
 pub seals_open : (a b : EndConfig) (events : List Event) → All Opens (trace_of a b events).seals
 seals_open = seals_have Opens sent_opens

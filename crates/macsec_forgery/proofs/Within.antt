@@ -15,24 +15,24 @@ use Rattle.{
 pub parts_within : (m : ℕ) (key : InstalledKey) (iv : List ℕ) (p : MpduParts) → AreOctets (in_a_row p) → length (in_a_row p) ≤ 9248 → length (in_a_row p) ≤ 16 * m
     → length p.icv ≡ 16 → IsWithin (m + 1) (cipher_use key iv p)
 parts_within m key iv p octets most fits icv =
-    let clear : ℕ = clear_length key.offset p.tag.e p.secure_data in
-    let before : List ℕ = p.da ++ p.sa ++ encoding p.tag in
-    let aad : List ℕ = before ++ take clear p.secure_data in
-    let text : List ℕ = drop clear p.secure_data in
-    let with_icv : AreOctets (before ++ p.secure_data ++ p.icv) = all_left (before ++ p.secure_data ++ p.icv) p.padding octets in
-    let with_data : AreOctets (before ++ p.secure_data) = all_left (before ++ p.secure_data) p.icv with_icv in
-    let before_octets : AreOctets before = all_left before p.secure_data with_data in
+    let clear = clear_length key.offset p.tag.e p.secure_data in
+    let before = p.da ++ p.sa ++ encoding p.tag in
+    let aad = before ++ take clear p.secure_data in
+    let text = drop clear p.secure_data in
+    let with_icv = all_left (before ++ p.secure_data ++ p.icv) p.padding octets in
+    let with_data = all_left (before ++ p.secure_data) p.icv with_icv in
+    let before_octets = all_left before p.secure_data with_data in
     let whole : length (in_a_row p) ≡ length before + length p.secure_data + length p.icv + length p.padding =
     length-append (before ++ p.secure_data ++ p.icv) p.padding
-    ∙ ap (λ (n : ℕ). n + length p.padding) (length-append (before ++ p.secure_data) p.icv ∙ ap (λ (n : ℕ). n + length p.icv) (length-append before p.secure_data)) in
-    let aad_long : length aad ≡ length before + length (take clear p.secure_data) = length-append before (take clear p.secure_data) in
+    ∙ ap (λ n. n + length p.padding) (length-append (before ++ p.secure_data) p.icv ∙ ap (λ n. n + length p.icv) (length-append before p.secure_data)) in
+    let aad_long = length-append before (take clear p.secure_data) in
     let both : length aad + length text ≡ length before + length p.secure_data =
     omega (arith, aad_long, length-take clear p.secure_data, length-drop clear p.secure_data) in
     let some : 0 < length before = omega (arith, length-append (p.da ++ p.sa) (encoding p.tag)) in
     record {
       message = record {
-        aad_octets = All-append (λ x. x < 256) before (take clear p.secure_data) before_octets (All-take (λ x. x < 256) clear p.secure_data (data_octets p octets));
-        text_octets = All-drop (λ x. x < 256) clear p.secure_data (data_octets p octets);
+        aad_octets = All-append (λ x. x < 256) before _ before_octets (All-take (λ x. x < 256) clear _ (data_octets p octets));
+        text_octets = All-drop (λ x. x < 256) clear _ (data_octets p octets);
         aad_fits = omega (arith, both, whole, most);
         text_fits = omega (arith, both, whole, most);
       };
