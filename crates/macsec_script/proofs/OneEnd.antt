@@ -3,8 +3,8 @@ use Rattle.{
   std.proofs.Common.{◌≡◌, ℕ, refl, ap, Option, Some, None},
   macsec_suite.specs.declared.refusal.Refusal.Refusal,
   macsec_commands.specs.declared.event.End.TheVariants.A,
-  macsec_secy.specs.{Commands.refusal, Step.{operator_command, command_output, step}},
-  macsec_link_logs.specs.Ends.{EndState, end_after},
+  macsec_secy.specs.{Step.{operator_command, command_output}},
+  macsec_link_logs.specs.Ends.EndState,
   macsec_link.specs.{Step.reaction, World.{WorldState, with_end}},
   macsec_script_parser.specs.declared.lines.Action.Action,
   macsec_script_printer.specs.OneEnd.command_text,
@@ -22,7 +22,7 @@ told w n e (Some r) = refl
 pub needs_one_end : (w : WorldState) (n : ℕ) (said : Action) → NeedsOneEnd w n said
 needs_one_end w n (action.Event (event.Command A c)) =
     let input = operator_command c in
-    let is = told w n (end_after w.a input (step w.a.state input)) (refusal w.a.state c) in
+    let is = told w n _ _ in
     record { text = ap (λ it. it.0) is; state = ap (λ it. it.1.a.state) is; other_end = ap (λ it. it.1.b) is; link = ap (λ it. it.1.frames) is }
 needs_one_end w n (action.Counters A) = record { text = refl; state = refl; other_end = refl; link = refl }
 needs_one_end w n (action.Numbers A) = record { text = refl; state = refl; other_end = refl; link = refl }

@@ -1,8 +1,8 @@
 -- The promises hold of a script's run if its lines were all carried out, of the lines before the one at which memory
 -- runs out, and of the lines up to the one whose write fails.
 use Rattle.std.proofs.{
-  Common.{◌≡◌, ◌∙◌, ◌+◌, ℕ, List, [], length, take, ap, inl, inr, refl, sym, subst, ◌≤◌, IfErr, IfOk, IfSome, OnOk},
-  Common.{Option, Some, None, Result, Ok, Err},
+  Common.{◌≡◌, ◌∙◌, ℕ, List, [], length, take, ap, inl, inr, refl, sym, subst, ◌≤◌, IfErr, IfOk, IfSome, OnOk, Option},
+  Common.{Some, None, Result, Ok, Err},
   KnownBytes.Appends-nil,
 }
 use Rattle.std.specs.Io.{StartsWith}
@@ -34,24 +34,24 @@ SoundKeepPromises = (a b : EndConfig) (events : List Event) → AreSound a b eve
 
 -- the world of the checked ends
 pub ends_made : {w : WorldState} {a b c d : EndConfig} → w ≡ new_world a b → a ≡ c → b ≡ d → w ≡ new_world c d
-ends_made {b = b} {c = c} made first second = made ∙ ap (λ (e : EndConfig). new_world e b) first ∙ ap (λ (e : EndConfig). new_world c e) second
+ends_made {b = b} {c = c} made first second = made ∙ ap (λ e. new_world e b) first ∙ ap (λ e. new_world c e) second
 
 -- the lines after the two ends were carried out
 pub lines_promised : SoundKeepPromises → (script : ScriptParts) (w : WorldState) → w ≡ new_world script.a script.b → IsSound w →
     (answer : Result (Unit {0}) ScriptFault) → OnOk answer (IsSound w → StaysSound w (events_of script.lines)) → OnOk answer (ArePromised script)
 lines_promised law script w made sound (Ok done) stays =
-    law script.a script.b (events_of script.lines) (subst (λ (v : WorldState). StaysSound v (events_of script.lines)) made (stays sound))
+    law script.a script.b (events_of script.lines) (subst (λ v. StaysSound v (events_of script.lines)) made (stays sound))
 lines_promised law script w made sound (Err fault) stays = tt
 
 -- the promises hold of the first lines
 first_promised : SoundKeepPromises → (script : ScriptParts) (w : WorldState) → w ≡ new_world script.a script.b → (n : ℕ) →
     StaysSound w (events_of (take n script.lines)) → ArePromised (up_to n script)
 first_promised law script w made n stays =
-    law script.a script.b (events_of (take n script.lines)) (subst (λ (v : WorldState). StaysSound v (events_of (take n script.lines))) made stays)
+    law script.a script.b (events_of (take n script.lines)) (subst (λ v. StaysSound v (events_of (take n script.lines))) made stays)
 
 -- what the first lines print
 first_text : (script : ScriptParts) (w : WorldState) → w ≡ new_world script.a script.b → (n : ℕ) → text_of (up_to n script) ≡ text_from w (take n script.lines)
-first_text script w made n = ap (λ (v : WorldState). text_from v (take n script.lines)) (sym made)
+first_text script w made n = ap (λ v. text_from v (take n script.lines)) (sym made)
 
 lines_up_to : SoundKeepPromises → (script : ScriptParts) (w after : WorldState) → w ≡ new_world script.a script.b → IsSound w → (f : ScriptFault) (text : List ℕ) →
     IsSoundUpTo w after script.lines f text → ArePromisedUpTo script f text
@@ -61,8 +61,8 @@ lines_up_to law script w after made sound Write text it = (
   it.count,
   it.within,
   subst (λ whole. StartsWith text whole) (sym (first_text script w made it.count)) it.whole,
-  subst (λ whole. StartsWith whole text) (sym (first_text script w made (it.count + 1))) it.front,
-  first_promised law script w made (it.count + 1) (it.sounds sound),
+  subst (λ whole. StartsWith whole text) (sym (first_text script w made _)) it.front,
+  first_promised law script w made _ (it.sounds sound),
 )
 lines_up_to law script w after made sound other text it = tt
 
@@ -77,7 +77,7 @@ pub lines_before : SoundKeepPromises → (script : ScriptParts) (w after : World
     IfErr answer (λ f. IsPromisedBefore (ArePromisedUpTo script) old new f)
 lines_before law script w after made sound old new (Ok done) it = tt
 lines_before law script w after made sound old new (Err f) it =
-    before_one (IsSoundUpTo w after script.lines) (ArePromisedUpTo script) old new (lines_up_to law script w after made sound) f it
+    before_one _ _ old new (lines_up_to law script w after made sound) f it
 
 -- ---- the script
 
@@ -89,12 +89,12 @@ none_before (Err fault) = tt
 
 -- nothing is written before the script is parsed
 pub nothing_before : (script : List ℕ) (old : Option (List ℕ)) (f : ScriptFault) → Parses (script_of script) (Err f) → IsPromisedBefore (IsPromisedUpTo script) old old f
-nothing_before script old Memory parses = ([], none_before (script_of script), Appends-nil old)
+nothing_before script old Memory parses = ([], none_before _, Appends-nil old)
 nothing_before script old Write parses = absurd parses
 nothing_before script old other parses = tt
 
 nothing_of : (script : List ℕ) (old : Option (List ℕ)) (f : ScriptFault) → IsReadFault f → IsPromisedBefore (IsPromisedUpTo script) old old f
-nothing_of script old Memory read = ([], none_before (script_of script), Appends-nil old)
+nothing_of script old Memory read = ([], none_before _, Appends-nil old)
 nothing_of script old Write read = absurd read
 nothing_of script old other read = tt
 
@@ -108,8 +108,8 @@ pub text_before : (text : List ℕ) (script : ScriptParts) → script_of text �
     IfErr answer (λ f. IsPromisedBefore (IsPromisedUpTo text) old new f)
 text_before text script parsed old new (Ok done) it = tt
 text_before text script parsed old new (Err f) it =
-    before_one (ArePromisedUpTo script) (IsPromisedUpTo text) old new
-    (λ fault written held. subst (λ (r : Result (Option ScriptParts) ScriptFault). IfOk r (λ it. AnyPromisedUpTo it fault written)) (sym parsed) held) f it
+    before_one _ _ old new
+    (λ fault written held. subst (λ r. IfOk r (λ it. AnyPromisedUpTo it fault written)) (sym parsed) held) f it
 
 pub before_over : (known : Option (List ℕ)) (text lent : List ℕ) → IfSome known (λ all. (text ≡ all) × (length all ≤ 1048576)) → lent ≡ text →
     (old new : Option (List ℕ)) (answer : Result (Unit {0}) ScriptFault) → IfErr answer (λ f. IsPromisedBefore (IsPromisedUpTo lent) old new f) →
@@ -119,15 +119,15 @@ before_over known text lent read same old new (Err f) it = carried_over known te
 
 -- the promises of a text, once it is parsed
 promised_of : (text : List ℕ) (parsed : Option ScriptParts) → script_of text ≡ Ok parsed → IfSome parsed ArePromised → IsPromised text
-promised_of text parsed same hold = subst (λ (r : Result (Option ScriptParts) ScriptFault). IfOk r (λ it. IfSome it ArePromised)) (sym same) hold
+promised_of text parsed same hold = subst (λ r. IfOk r (λ it. IfSome it ArePromised)) (sym same) hold
 
 pub text_promised : (text : List ℕ) (script : ScriptParts) → script_of text ≡ Ok (Some script) →
     (answer : Result (Unit {0}) ScriptFault) → OnOk answer (ArePromised script) → OnOk answer (IsPromised text)
-text_promised text script parsed (Ok done) hold = promised_of text (Some script) parsed hold
+text_promised text script parsed (Ok done) hold = promised_of text _ parsed hold
 text_promised text script parsed (Err fault) hold = tt
 
 -- the script that was read, if what the reader had is known
 pub promised_over : (known : Option (List ℕ)) (text lent : List ℕ) → IfSome known (λ all. (text ≡ all) × (length all ≤ 1048576)) → lent ≡ text →
     (answer : Result (Unit {0}) ScriptFault) → OnOk answer (IsPromised lent) → OnOk answer (IfSome known IsPromised)
-promised_over known text lent read same (Ok done) hold = carried_over known text lent IsPromised read same hold
+promised_over known text lent read same (Ok done) hold = carried_over known text lent _ read same hold
 promised_over known text lent read same (Err fault) hold = tt

@@ -46,8 +46,7 @@ none_yet start old stays = record { written = Appends-nil old; world = refl; sou
 stays_with : StepIsSound → (start : WorldState) (events : List Event) (n : ℕ) (said : Action) → IsSound (line_step (world_after start events) n said).1 →
     StaysSound start events → StaysSound start (events ++ event_of said)
 stays_with law start events n (action.Event event) sound stays = law start events event stays sound
-stays_with law start events n (action.Counters e) sound stays = subst (StaysSound start) (sym (append-nil events)) stays
-stays_with law start events n (action.Numbers e) sound stays = subst (StaysSound start) (sym (append-nil events)) stays
+stays_with law start events n said sound stays = subst (StaysSound start) (sym (append-nil events)) stays
 
 with_line : StepIsSound → (start : WorldState) (before : List NumberedLine) (entry : NumberedLine) (old mid new : Option (List ℕ)) (w after : WorldState) →
     Appends mid new (line_step w entry.0 entry.1).0 → after ≡ (line_step w entry.0 entry.1).1 → (IsSound w → IsSound after) →
@@ -59,11 +58,11 @@ with_line law start before entry old mid new w after adds same keeps so_far =
     record {
       written =
           subst (Appends old new) (sym (text_with start before entry))
-          (Appends-trans old mid new (text_from start before) (text_after start before entry) so_far.written adds_here);
+          (Appends-trans old mid new _ _ so_far.written adds_here);
       world = after_is ∙ world_with start before entry;
       sound = λ sound. keeps (so_far.sound sound);
       stays = λ sound. subst (StaysSound start) (sym (events_with before entry))
-          (stays_with law start (events_of before) entry.0 entry.1 (subst IsSound after_is (keeps (so_far.sound sound))) (so_far.stays sound));
+          (stays_with law start _ entry.0 entry.1 (subst IsSound after_is (keeps (so_far.sound sound))) (so_far.stays sound));
     }
 
 -- the first i + 1 lines
@@ -76,7 +75,7 @@ pub one_more : StepIsSound → (start : WorldState) (lines : List NumberedLine) 
     (IsSound w → IsSound after) → CarriedOut start (take i lines) old mid w → CarriedOut start (take (i + 1) lines) old new after
 one_more law start lines i entry old mid new w after item within adds same keeps so_far =
     subst (λ before. CarriedOut start before old new after) (sym (take_next lines i entry item within))
-    (with_line law start (take i lines) entry old mid new w after adds same keeps so_far)
+    (with_line law start _ entry old mid new w after adds same keeps so_far)
 
 -- ---- printing a line fails
 
@@ -90,7 +89,7 @@ cut_piece : (start : WorldState) (before : List NumberedLine) (entry : NumberedL
     CarriedOut start before old mid w → StartsWith (line_step w entry.0 entry.1).0 front →
     text_after start before entry ≡ front ++ drop (length front) (line_step w entry.0 entry.1).0
 cut_piece start before entry old mid w front so_far begins =
-    ap (λ v. (line_step v entry.0 entry.1).0) (sym so_far.world) ∙ starts_with_rest (line_step w entry.0 entry.1).0 front begins
+    ap (λ v. (line_step v entry.0 entry.1).0) (sym so_far.world) ∙ starts_with_rest _ front begins
 
 -- the lines before it were printed, and a prefix of its text
 cut_at : (start : WorldState) (lines : List NumberedLine) (i : ℕ) (entry : NumberedLine) (old mid new : Option (List ℕ)) (w : WorldState) →
@@ -103,10 +102,10 @@ cut_at start lines i entry old mid new w item within so_far (front, begins, adds
     let whole_is : text_from start lines ≡ (before ++ front) ++ (rest ++ after) =
     ap (text_from start) (lines_at lines i entry item within)
     ∙ text_of_worlds start (take i lines) entry (drop (i + 1) lines)
-    ∙ ap (λ p. before ++ (p ++ after)) (cut_piece start (take i lines) entry old mid w front so_far begins)
+    ∙ ap (λ p. before ++ (p ++ after)) (cut_piece start _ entry old mid w front so_far begins)
     ∙ ap (λ more. before ++ more) (append_assoc front rest after) ∙ sym (append_assoc before front (rest ++ after)) in (
       before ++ front,
-      starts_with_of_append (text_from start lines) (before ++ front) (rest ++ after) whole_is,
+      starts_with_of_append _ _ _ whole_is,
       Appends-trans old mid new before front so_far.written adds,
     )
 
@@ -124,19 +123,19 @@ cut_into : StepIsSound → (start : WorldState) (lines : List NumberedLine) (i :
 cut_into law start lines i entry old mid new w after item within so_far (front, begins, adds) same keeps =
     let before = text_from start (take i lines) in
     let rest = drop (length front) (line_step w entry.0 entry.1).0 in
-    let whole_is : text_from start (take (i + 1) lines) ≡ (before ++ front) ++ rest =
+    let whole_is : text_from start (take _ lines) ≡ (before ++ front) ++ rest =
     ap (text_from start) (take_next lines i entry item within)
     ∙ text_with start (take i lines) entry
-    ∙ ap (λ p. before ++ p) (cut_piece start (take i lines) entry old mid w front so_far begins)
+    ∙ ap (λ p. before ++ p) (cut_piece start _ entry old mid w front so_far begins)
     ∙ sym (append_assoc before front rest) in
     let unseen : CarriedOut start (take i lines) None None w = record { written = tt; world = so_far.world; sound = so_far.sound; stays = so_far.stays } in
-    let next : CarriedOut start (take (i + 1) lines) None None after = one_more law start lines i entry None None None w after item within tt same keeps unseen in (
+    let next = one_more law start lines i entry None None None w after item within tt same keeps unseen in (
       before ++ front,
       record {
         count = i;
         within = within;
-        whole = starts_with_of_append (before ++ front) before front refl;
-        front = starts_with_of_append (text_from start (take (i + 1) lines)) (before ++ front) rest whole_is;
+        whole = starts_with_of_append _ before front refl;
+        front = starts_with_of_append _ _ rest whole_is;
         world = next.world;
         sounds = next.stays;
       },
@@ -160,9 +159,8 @@ sound_before law start lines i entry old mid new w after item within so_far othe
 -- a line whose text was composed was carried out, whatever its write returned
 pub carried_out : (composed answer : Result (Unit {0}) ScriptFault) (Holds : Type 0) → is_err composed ≡ false → OnOk composed Holds → UnlessMemory answer Holds
 carried_out (Err fault) answer Holds good holds = cc
-carried_out (Ok done) (Ok end) Holds good holds = holds
 carried_out (Ok done) (Err Memory) Holds good holds = tt
-carried_out (Ok done) (Err other) Holds good holds = holds
+carried_out composed answer Holds good holds = holds
 
 -- nothing was written
 pub none_written : (text : Option (List ℕ)) (whole : List ℕ) → AppendsFront text text whole

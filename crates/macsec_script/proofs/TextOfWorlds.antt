@@ -19,8 +19,7 @@ events_of-append ((n, said) ∷ xs) ys = ap (λ es. event_of said ++ es) (events
 -- the world after a line is the world after its event
 world_of_line : (w : WorldState) (n : ℕ) (said : Action) → (line_step w n said).1 ≡ world_after w (event_of said)
 world_of_line w n (action.Event event) = refl
-world_of_line w n (action.Counters e) = refl
-world_of_line w n (action.Numbers e) = refl
+world_of_line w n said = refl
 
 text_from-append : (w : WorldState) (xs ys : List NumberedLine) → text_from w (xs ++ ys) ≡ text_from w xs ++ text_from (world_after w (events_of xs)) ys
 text_from-append w [] ys = refl
@@ -36,18 +35,18 @@ text_from-append w ((n, said) ∷ xs) ys =
 -- ---- one more line
 
 pub events_with : (before : List NumberedLine) (entry : NumberedLine) → events_of (before ++ entry ∷ []) ≡ events_of before ++ event_of entry.1
-events_with before entry = events_of-append before (entry ∷ []) ∙ ap (λ es. events_of before ++ es) (append-nil (event_of entry.1))
+events_with before entry = events_of-append before _ ∙ ap (λ es. events_of before ++ es) (append-nil (event_of entry.1))
 
 pub world_with : (w : WorldState) (before : List NumberedLine) (entry : NumberedLine) →
     (line_step (world_after w (events_of before)) entry.0 entry.1).1 ≡ world_after w (events_of (before ++ entry ∷ []))
 world_with w before entry =
-    world_of_line (world_after w (events_of before)) entry.0 entry.1 ∙ sym (world_after-append w (events_of before) (event_of entry.1))
+    world_of_line _ entry.0 entry.1 ∙ sym (world_after-append w (events_of before) (event_of entry.1))
     ∙ ap (world_after w) (sym (events_with before entry))
 
 pub text_with : (w : WorldState) (before : List NumberedLine) (entry : NumberedLine) → text_from w (before ++ entry ∷ []) ≡ text_from w before ++ text_after w before entry
-text_with w before entry = text_from-append w before (entry ∷ []) ∙ ap (λ piece. text_from w before ++ piece) (append-nil (text_after w before entry))
+text_with w before entry = text_from-append w before _ ∙ ap (λ piece. text_from w before ++ piece) (append-nil (text_after w before entry))
 
 pub text_of_worlds : (w : WorldState) (before : List NumberedLine) (said : NumberedLine) (more : List NumberedLine) → IsTextOfWorlds w before said more
 text_of_worlds w before said more =
-    text_from-append w before (said ∷ more)
+    text_from-append w before _
     ∙ ap (λ v. text_from w before ++ (text_after w before said ++ text_from v more)) (world_with w before said)

@@ -13,10 +13,9 @@ use Rattle.macsec_script_parser.specs.{
   Parts.{NumberedLine, ScriptParts},
   Readings.{IsInputFault, Parses},
   Scripts.{script_of, script_of_lines},
-  Words.lines_of,
   declared.faults.ScriptFault.{
     ScriptFault,
-    TheVariants.{Word, Count, Hex, Number, Ends, LineLong, ScriptLong, Memory, Read, Write},
+    TheVariants.{ScriptLong, Memory, Read, Write},
   },
 }
 use Rattle.macsec_script.specs.{
@@ -30,7 +29,7 @@ begun_by_nothing (Ok whole) = (whole, refl)
 begun_by_nothing (Err fault) = refl
 
 pub out_of_memory : (script : List ℕ) (old new : Option (List ℕ)) → Keeps old new → RunGives script old new (Err Memory)
-out_of_memory script old new kept = ([], begun_by_nothing (printed_text script), Appends-kept old old new [] (Appends-nil old) kept)
+out_of_memory script old new kept = ([], begun_by_nothing _, Appends-kept old old new [] (Appends-nil old) kept)
 
 printed_fault : (script : List ℕ) (f : ScriptFault) → script_of script ≡ Err f → printed_text script ≡ Err f
 printed_fault script f h = ap (map_ok text_of_any) h
@@ -54,16 +53,10 @@ above n m less = grind (arith, nat_tests)
 unread_over : (text : List ℕ) (old : Option (List ℕ)) (f : ScriptFault) → IsInputFault text f → RunGives text old old (Err f)
 unread_over text old Memory h = out_of_memory text old old (Keeps-refl old)
 unread_over text old Read h = Keeps-refl old
-unread_over text old Write h = absurd h
 unread_over text old ScriptLong h =
-    let is = too_long (nat_lt 1048576 (length text)) (nat_lt 65536 (length (lines_of text))) (lines_of text) (above 1048576 (length text) h) in
-    (printed_fault text ScriptLong is, Keeps-refl old)
-unread_over text old (Word n) h = absurd h
-unread_over text old (Count n) h = absurd h
-unread_over text old (Hex n) h = absurd h
-unread_over text old (Number n) h = absurd h
-unread_over text old (Ends n) h = absurd h
-unread_over text old (LineLong n) h = absurd h
+    let is = too_long _ _ _ (above 1048576 _ h) in
+    (printed_fault text _ is, Keeps-refl old)
+unread_over text old f h = absurd h
 
 pub unread : (known old : Option (List ℕ)) (f : ScriptFault) → IfSome known (λ text. IsInputFault text f) → IfSome known (λ text. RunGives text old old (Err f))
 unread None old f h = tt
@@ -78,7 +71,7 @@ IsParsed text a b lines = script_of text ≡ Ok (Some (record { a = a; b = b; li
 pub is_parsed : (text : List ℕ) (script : ScriptParts) (a b : EndConfig) (items given : List NumberedLine) → script_of text ≡ Ok (Some script) →
     record { a = a; b = b; lines = items } ≡ script → given ≡ items → IsParsed text a b given
 is_parsed text script a b items given parsed view same =
-    parsed ∙ ap (λ (s : ScriptParts). Ok (Some s)) (sym view) ∙ ap (λ (l : List NumberedLine). Ok (Some (record { a = a; b = b; lines = l }))) (sym same)
+    parsed ∙ ap (λ s. Ok (Some s)) (sym view) ∙ ap (λ l. Ok (Some (record { a = a; b = b; lines = l }))) (sym same)
 
 -- a script that was parsed and printed
 pub after_parsing : (text : List ℕ) (script : ScriptParts) (old new : Option (List ℕ)) → script_of text ≡ Ok (Some script) →
@@ -119,6 +112,5 @@ parsed_after meant Read h = absurd h
 parsed_after meant other h = tt
 
 pub printed_after : (whole : List ℕ) (old new : Option (List ℕ)) (answer : Result (Unit {0}) ScriptFault) → WritesText whole old new answer → IfErr answer IsAfterRead
-printed_after whole old new (Ok done) h = tt
 printed_after whole old new (Err Read) h = absurd h
-printed_after whole old new (Err other) h = tt
+printed_after whole old new answer h = tt
