@@ -1,4 +1,4 @@
--- What this disk can do. Disks, kernels and file systems do each of these, so a model that leaves one out proves too much.
+-- What this disk can do. Disks, kernels and file systems do these, so a model that leaves one out proves too much.
 use Rattle.std.specs.Prelude.{◌≡◌, ℕ, List, [], ◌∷◌, ◌++◌, false, Contains}
 use Rattle.macsec_journal.specs.declared.step.Step.TheVariants.{Renaming}
 use Rattle.macsec_journal.specs.Disk.{File, Folder, IsLeft, Piece, candidates, empty_file, folder_given_up, folder_left, folder_synced}
