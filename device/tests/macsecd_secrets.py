@@ -148,6 +148,11 @@ def check_secrets(world: World, suite: str, changes: int) -> None:
     known.note(*first)
     report(ping(a) == 3, "no replies")
     known.judge("after frames", first)
+    last = secrets.token_hex(octets)
+    a.carry_out(key_line(a, 4094, last))
+    known.note(last)
+    known.judge("after a key", [*first, last])
+    a.carry_out("A retire 4094")
     for phase in range(1, changes + 1):
         living = change_keys(world, phase, octets)
         known.add(*living)
