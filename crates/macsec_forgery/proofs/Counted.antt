@@ -1,4 +1,4 @@
--- The forgeries of a run are those of few hash keys.
+-- The forgeries of a run belong to few hash keys.
 use Rattle.{
   std.proofs.{
     Common.{◌≡◌, ℕ, ◌+◌, ◌*◌, ◌<◌, ◌≤◌, List, [], ◌∷◌, length, take, slice_get, Option, Some, None, All, AllPairs},

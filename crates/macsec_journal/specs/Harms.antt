@@ -16,7 +16,7 @@ its_neighbour = record { at = 64; octets = 2 ∷ [] }
 abbrev pub file_of : Piece → File
 file_of p = record { firm = p ∷ []; fresh = [] }
 
--- a file of which nothing is certain
+-- a file that can be left with any octets
 abbrev pub IsLost : File → Type 0
 IsLost f = (octets : List ℕ) → IsLeft f octets
 

@@ -35,7 +35,7 @@ pub record EndsWell (salt : List ℕ) (events : List Event) (told : List Reserva
   pub can : Happen (created salt) events
   pub says : (after_all (created salt) events).told ≡ told
 
--- it can happen, and what was ordered is told in the end
+-- it can happen, and what was ordered is durable in the end
 abbrev pub CanHappenSo : Type 0
 CanHappenSo =
     (limit : ℕ) (config : EndConfig) (salt octets : List ℕ) (rs : List Reservation) → CanOrder limit salt octets rs →

@@ -69,7 +69,7 @@ as_good key uses ns octets apart are shown are' alike =
       possible = λ hash_key long small. all_texts_are_possible hash_key ns (map shown_of uses) long small (alike_are_apart ms ns apart alike) are' can;
     }
 
--- uses under one key with different IVs, each of which shows what AES shows of its message
+-- uses under one key with different IVs; each shows what AES shows of its message
 pub says_nothing : (key : List ℕ) (uses : List CipherUse) → All (λ o. o < 256) key → All (λ u. u.key ≡ key) uses → All IsOwn uses
     → AllPairs (λ s r. s.iv ≢ r.iv) uses → All IsMessage (map message_of uses) → SaysNothing key uses
 says_nothing key uses octets of_key own apart are =

@@ -51,7 +51,7 @@ seals_have P sent a b events = after_has P sent (new_trace a b) events (All-nil 
 
 -- ---- each use shows what AES shows of its message
 
--- the ciphertext and tag of a use are those of its message
+-- the ciphertext and tag of a use belong to its message
 abbrev pub IsOwn : CipherUse → Type 0
 IsOwn u = seal_by (aes u.key) (message_of u).iv (message_of u).aad (message_of u).text ≡ shown_of u
 

@@ -28,7 +28,7 @@ pub record AreHistoriesOfCrashes (runs others : List Run) : Type 0 where
   pub there : IsHistoryOfCrashes others
   pub ends : All (λ run. All (AreOfTwoEnds run) others) runs
 
--- no input of AES under a key is used twice, but for the block of zeros
+-- each input of AES under a key is used at most once, except the block of zeros
 abbrev pub NoInputTwice : (List Run → List Run → Type 0) → Type 0
 NoInputTwice Premises = (runs others : List Run) → Premises runs others → (key : List ℕ)
     → AllPairs (λ x y. x ≢ y) (inputs_of_uses (sealed_under key runs others))

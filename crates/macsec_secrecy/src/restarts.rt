@@ -5,8 +5,8 @@ ghost use Rattle.macsec_secrecy.specs.Restarts.{NoInputTwice, NoInputTwiceForget
 
 use macsec_reserve::laws::{repeats_no_iv_at_both, repeats_no_iv_forgetting};
 
-/// Over all runs of two ends, no input of AES under a key is used twice, but for the block of zeros; and over all runs of
-/// one end that forgets retired keys.
+/// Over all runs of two ends, each input of AES under a key is used at most once, except the block of zeros; and over
+/// all runs of one end that forgets retired keys.
 pub fn no_input_twice()
     ensures durable { NoInputTwice AreHistories }
     ensures crashes { NoInputTwice AreHistoriesOfCrashes }

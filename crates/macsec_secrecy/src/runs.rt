@@ -4,7 +4,7 @@ ghost use Rattle.macsec_secrecy.specs.Runs.{FramesAreAlike, LinkFramesShow, Link
 
 use macsec_link::laws::promises;
 
-/// In each run, no input of AES under a key is used twice, but for the block of zeros.
+/// In each run, each input of AES under a key is used at most once, except the block of zeros.
 pub fn no_input_twice()
     ensures once { NoInputTwice }
     ensures number { NumberOfInputs }
