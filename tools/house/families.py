@@ -124,15 +124,10 @@ def suites_of_specs() -> list[tuple[object, ...]]:
     words = re.findall(
         r'codes "(\w+)", (\w+)', part_of("crates/macsec_script_parser/specs/Fields.antt", r"^suites =.*?\[\]")
     )
-    numbers = dict(re.findall(r"nat_eq n (\d+) then Ok (\w+)", part_of(ARGUMENTS, r"^suite_of n =.*?Err")))
-    defined = text_of("crates/macsec_suite/specs/Suites.antt")
-    lengths = dict(re.findall(r"^key_length (\w+) = (\d+)$", defined, re.M))
-    extended = dict(re.findall(r"^is_xpn (\w+) = (\w+)$", defined, re.M))
-    by_number = {variant: int(number) for number, variant in numbers.items()}
-    return [(word, by_number.get(it), int(lengths.get(it, 0)), extended.get(it) == "true") for word, it in words]
-
-
-ARGUMENTS = "crates/macsec_c_calls/specs/Arguments.antt"
+    row = r"^facts_of (\w+) = record { key_length = (\d+); is_xpn = (\w+); number = (\d+) }$"
+    facts = re.findall(row, text_of("crates/macsec_suite/specs/Suites.antt"), re.M)
+    rows = {variant: (int(number), int(octets), xpn == "true") for variant, octets, xpn, number in facts}
+    return [(word, *rows[it]) for word, it in words]
 
 
 def counters_of_specs() -> dict[str, list[tuple[str, str]]]:

@@ -6,6 +6,7 @@ use Rattle.{
   macsec_aes.specs.declared.Key.{Key, TheVariants.{K128, K256}},
   macsec_suite.specs.{
     KeyNumbers.max_key_count,
+    Suites.number_of_suite,
     declared.{key_row.NewKey.NewKey, suite.Suite.{Suite, TheVariants.{Gcm128, Gcm256, Xpn128, Xpn256}}},
   },
   macsec_commands.specs.declared.{
@@ -19,7 +20,7 @@ use Rattle.{
     Configs.{config_of, config_with},
     Keys.{key_with, new_key_of},
     RowLaws.MeansCommand,
-    Rows.{HasLength, config_row, flag_of, key_octets, key_shown, number_of_flag, number_of_key_suite, number_of_suite},
+    Rows.{HasLength, config_row, flag_of, key_octets, key_shown, number_of_flag, number_of_key_suite},
     Rows.{sak_of, tx_sa_with},
     Shown.{number_of_form, number_of_mode},
   },

@@ -5,8 +5,8 @@ use Rattle.std.specs.Prelude.{Option, Some, None, Ok, Err}
 use Rattle.macsec_aes.specs.declared.Key.{Key}
 use Rattle.macsec_aes.specs.declared.Key.TheVariants.{K128, K256}
 use Rattle.macsec_suite.specs.KeyNumbers.{max_key_count}
+use Rattle.macsec_suite.specs.Suites.{number_of_suite}
 use Rattle.macsec_suite.specs.declared.suite.Suite.{Suite}
-use Rattle.macsec_suite.specs.declared.suite.Suite.TheVariants.{Gcm128, Gcm256, Xpn128, Xpn256}
 use Rattle.macsec_suite.specs.declared.key_row.NewKey.{NewKey}
 use Rattle.macsec_tag.specs.declared.identifiers.Sci.{Sci}
 use Rattle.macsec_commands.specs.declared.command.Command.{Command}
@@ -76,12 +76,6 @@ abbrev pub flag_of : ℕ → Named Bool
 flag_of n = if nat_eq n 0 then Ok false else if nat_eq n 1 then Ok true else Err argument.Command
 
 -- ---- the row of a command
-
-abbrev pub number_of_suite : Suite → ℕ
-number_of_suite Gcm128 = 1
-number_of_suite Gcm256 = 2
-number_of_suite Xpn128 = 3
-number_of_suite Xpn256 = 4
 
 -- the suite of a key; 0 for the endpoint's default
 abbrev pub number_of_key_suite : Option Suite → ℕ

@@ -5,7 +5,7 @@ ghost use Rattle.macsec_commands.specs.declared.command.Command.TheVariants as b
 ghost use Rattle.macsec_c_calls.specs.Arguments.{an_of, key_number_of};
 ghost use Rattle.macsec_c_calls.specs.Keys.{new_key_of};
 ghost use Rattle.macsec_c_calls.specs.Rows.{HasLength, IsCommand, flag_of, key_octets, kind_of, number_of_flag};
-ghost use Rattle.macsec_c_calls.specs.Rows.{number_of_key_suite, number_of_kind, number_of_suite, sak_of};
+ghost use Rattle.macsec_c_calls.specs.Rows.{number_of_key_suite, number_of_kind, sak_of};
 ghost use Rattle.macsec_c_calls.specs.Rows.{choice_row, command_row, config_row, flag_row, kind_row, no_config, no_row};
 ghost use Rattle.macsec_c_calls.specs.Rows.{row_of, rx_row, sc_row, tx_row};
 ghost use Rattle.macsec_c_calls.specs.Rows.{command_as, command_of_row, key_shown, tx_sa_with};
@@ -110,24 +110,13 @@ fn flag_of(number: u8) -> Result<bool, ArgumentFault>
     }
 }
 
-fn number_of_suite(suite: Suite) -> u32
-    ensures { result ≡ number_of_suite suite }
-{
-    match suite {
-        Suite::Gcm128 => 1,
-        Suite::Gcm256 => 2,
-        Suite::Xpn128 => 3,
-        Suite::Xpn256 => 4,
-    }
-}
-
 /// The number of a key's suite: 0 is the endpoint's default.
 fn number_of_key_suite(suite: Option<Suite>) -> u32
     ensures { result ≡ number_of_key_suite suite }
 {
     match suite {
         None => 0,
-        Some(suite) => number_of_suite(suite),
+        Some(suite) => suite.number() as u32,
     }
 }
 
@@ -370,7 +359,7 @@ pub fn config_row(end: EndConfig) -> Config
     let sci = end.sci.0;
     Config {
         sci,
-        suite: number_of_suite(end.suite),
+        suite: end.suite.number() as u32,
         form: number_of_form(end.form),
         max_frame: end.max_frame,
     }

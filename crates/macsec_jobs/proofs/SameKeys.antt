@@ -7,10 +7,11 @@ use Rattle.{
   macsec_suite.specs.{
     KeyRows.{InstalledKey, key_row},
     Keys.PreparedKey,
+    Suites.number_of_suite,
     declared.suite.Suite.{Suite, TheVariants.{Gcm128, Gcm256, Xpn128, Xpn256}},
   },
   macsec_jobs.specs.{
-    PlannedKeys.{key_of, number_of_suite, same_key, same_prepared},
+    PlannedKeys.{key_of, same_key, same_prepared},
     declared.planned_key.PlannedKey.PlannedKey,
   },
 }

@@ -4,11 +4,10 @@ use Rattle.macsec_gcm.specs.Octets.{same_octets}
 use Rattle.macsec_suite.specs.declared.key_row.KeyRow.{KeyRow}
 use Rattle.macsec_suite.specs.declared.refusal.Refusal.{Refusal}
 use Rattle.macsec_suite.specs.declared.refusal.Refusal.TheVariants.{NoKey, KeyRetired}
-use Rattle.macsec_suite.specs.declared.suite.Suite.{Suite}
-use Rattle.macsec_suite.specs.declared.suite.Suite.TheVariants.{Gcm128, Gcm256, Xpn128, Xpn256}
 use Rattle.macsec_suite.specs.KeyRows.{InstalledKey, key_row, prepared_key}
 use Rattle.macsec_suite.specs.Keys.{PreparedKey, prepared_from}
 use Rattle.macsec_suite.specs.Refusals.{holds_of}
+use Rattle.macsec_suite.specs.Suites.{number_of_suite}
 use Rattle.macsec_jobs.specs.declared.planned_key.PlannedKey.{PlannedKey}
 
 -- the key as it is prepared
@@ -18,12 +17,6 @@ key_of k = prepared_from k.suite k.bytes k.offset
 -- the key of a row
 abbrev pub planned_of : KeyRow → PlannedKey
 planned_of row = record { number = row.key.number; suite = row.suite_key.suite; offset = row.key.offset; bytes = row.key.bytes }
-
-abbrev pub number_of_suite : Suite → ℕ
-number_of_suite Gcm128 = 1
-number_of_suite Gcm256 = 2
-number_of_suite Xpn128 = 3
-number_of_suite Xpn256 = 4
 
 -- prepared, the two are the same key
 abbrev pub same_prepared : PreparedKey → PreparedKey → Bool

@@ -1,7 +1,7 @@
 //! The key of a job.
 
 ghost use Rattle.std.specs.Prelude.{◌≡◌};
-ghost use Rattle.macsec_jobs.specs.PlannedKeys.{key_of, number_of_suite, planned_of, same_key, same_prepared};
+ghost use Rattle.macsec_jobs.specs.PlannedKeys.{key_of, planned_of, same_key, same_prepared};
 
 use macsec_aes::Key;
 use macsec_suite::{KeyNumber, KeyRow, Suite};
@@ -47,7 +47,7 @@ impl PlannedKey {
         ensures { result ≡ same_prepared (key_of self.now) (key_of (planned_of row.now)) }
     {
         let same = row.has_bytes(&self.bytes);
-        number_of_suite(self.suite) == number_of_suite(row.suite_key.suite())
+        self.suite.number() == row.suite_key.suite().number()
             && (self.offset == row.key.offset && same)
     }
 
@@ -56,17 +56,5 @@ impl PlannedKey {
         ensures { result ≡ same_key self.now (planned_of row.now) }
     {
         self.number == row.key.number && self.is_prepared_as(row)
-    }
-}
-
-/// The number of a suite.
-fn number_of_suite(suite: Suite) -> u8
-    ensures { result ≡ number_of_suite suite }
-{
-    match suite {
-        Suite::Gcm128 => 1,
-        Suite::Gcm256 => 2,
-        Suite::Xpn128 => 3,
-        Suite::Xpn256 => 4,
     }
 }

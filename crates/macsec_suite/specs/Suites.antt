@@ -6,19 +6,28 @@ use Rattle.macsec_tag.specs.declared.identifiers.Sci.{Sci}
 use Rattle.macsec_suite.specs.declared.suite.Suite.{Suite}
 use Rattle.macsec_suite.specs.declared.suite.Suite.TheVariants.{Gcm128, Gcm256, Xpn128, Xpn256}
 
--- how many octets a key has (14.5 to 14.8)
+-- what a suite is: how many octets a key has, whether packet numbers are extended, and the suite's number in calls from C
+pub record SuiteFacts : Type 0 where
+  pub key_length : ℕ
+  pub is_xpn : Bool
+  pub number : ℕ
+
+-- 14.5 to 14.8
+abbrev pub facts_of : Suite → SuiteFacts
+facts_of Gcm128 = record { key_length = 16; is_xpn = false; number = 1 }
+facts_of Gcm256 = record { key_length = 32; is_xpn = false; number = 2 }
+facts_of Xpn128 = record { key_length = 16; is_xpn = true; number = 3 }
+facts_of Xpn256 = record { key_length = 32; is_xpn = true; number = 4 }
+
 abbrev pub key_length : Suite → ℕ
-key_length Gcm128 = 16
-key_length Gcm256 = 32
-key_length Xpn128 = 16
-key_length Xpn256 = 32
+key_length suite = (facts_of suite).key_length
 
 -- packet numbers are extended: they have 64 bits, and the SecTAG carries the lower 32
 abbrev pub is_xpn : Suite → Bool
-is_xpn Gcm128 = false
-is_xpn Gcm256 = false
-is_xpn Xpn128 = true
-is_xpn Xpn256 = true
+is_xpn suite = (facts_of suite).is_xpn
+
+abbrev pub number_of_suite : Suite → ℕ
+number_of_suite suite = (facts_of suite).number
 
 abbrev pub last_of : Suite → ℕ
 last_of suite = if is_xpn suite then 2 ^ 64 - 1 else 2 ^ 32 - 1

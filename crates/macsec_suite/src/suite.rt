@@ -1,7 +1,7 @@
 //! The cipher suites (IEEE 802.1AE, clause 14).
 
 ghost use Rattle.std.specs.Prelude.{◌≡◌, ◌<◌};
-ghost use Rattle.macsec_suite.specs.Suites.{is_xpn, key_length, last_of};
+ghost use Rattle.macsec_suite.specs.Suites.{is_xpn, key_length, last_of, number_of_suite};
 ghost use Rattle.macsec_suite.specs.Refusals.{is_too_wide};
 ghost use Rattle.macsec_suite.specs.Keys.{has_wrong_offset};
 
@@ -42,6 +42,18 @@ impl Suite {
         match self {
             Suite::Gcm128 | Suite::Gcm256 => false,
             Suite::Xpn128 | Suite::Xpn256 => true,
+        }
+    }
+
+    /// The suite's number in calls from C.
+    pub fn number(self) -> u8
+        ensures { result ≡ number_of_suite self }
+    {
+        match self {
+            Suite::Gcm128 => 1,
+            Suite::Gcm256 => 2,
+            Suite::Xpn128 => 3,
+            Suite::Xpn256 => 4,
         }
     }
 
