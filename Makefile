@@ -17,7 +17,6 @@
 # make dist          makes build/dist: macsec-VERSION.tar.gz and the Debian packages macsec, libmacsec1, libmacsec-dev,
 #                    python3-macsec, macsec-doc and macsecd
 # make check         the gate
-# make pictures      draws docs/pictures again, from crates.txt and docs/PERFORMANCE.md
 # make reference     writes docs/reference again, from the sources
 # make bench         measures the cipher and an endpoint, by time and by instructions, built for each processor
 # make clean         removes what make has built
@@ -61,7 +60,7 @@ CHECKS := $(OVER_PROGRAM) $(OVER_LIBRARY) against allocators any-order c-header 
     device-forged-linux device-installed device-kernel edits failures fuzz isolated-kinds kept-frames kernel-captures \
     lanes-used live mka moves needed packages sizes style table version
 
-.PHONY: all try test run lib kept device device-of install install-device install-python dist check pictures reference \
+.PHONY: all try test run lib kept device device-of install install-device install-python dist check reference \
     bench toolchain clean help always $(CHECKS)
 
 all: build/macsec
@@ -116,9 +115,6 @@ check: toolchain
 	@tools/check --when gate
 
 # What is made from the sources.
-pictures:
-	tools/pictures
-
 reference:
 	tools/reference
 

@@ -76,8 +76,6 @@ CHECKS: list[Check] = [
           "headers with another constant, struct and call; one without an earlier call", test="", gate=""),
     Check("version", "finds a file that has another version", "tools/version", NOTHING, 1, "another version",
           test="", gate=""),
-    Check("pictures", "finds a drawing that its source does not make", "tools/pictures --check", NOTHING, 5,
-          "another drawing", test="", gate=""),
     Check("reference", "finds a page or part that its sources do not make, and compares tools/families.json with them",
           "tools/reference --check", NOTHING, 2, "another page, parts, and data that the proofs do not have",
           test="", gate=""),
@@ -239,4 +237,4 @@ def markdown() -> str:
 
 def targets() -> list[Check]:
     """The checks that are targets of the Makefile under their names. Of some names the target does something else."""
-    return [it for it in CHECKS if it.name not in (PROOFS, "edits-refused", "device", "pictures", "reference")]
+    return [it for it in CHECKS if it.name not in (PROOFS, "edits-refused", "device", "reference")]

@@ -13,7 +13,7 @@ from collections.abc import Callable, Iterable
 
 from house import ROOT
 from house.families import Member, family, refusals, suites, text_faults
-from house.written import table
+from house.written import PART, table
 
 SOURCE = "tools/families.json"
 WIDTH = 120
@@ -359,6 +359,11 @@ def marks(path: str) -> re.Pattern[str]:
     """A made part of a file: its first line, its name, its text and its last line."""
     first = re.escape(comment(path, f"made: NAME of {SOURCE}")).replace("NAME", r"([\w-]+)")
     return re.compile(rf"^([ ]*{first}\n)(.*?)^([ ]*{re.escape(comment(path, 'end'))}$)", re.M | re.S)
+
+
+def without_made(path: str, text: str) -> str:
+    """What of a file is written by hand."""
+    return PART.sub("", marks(path).sub("", text))
 
 
 def without_layout(path: str, text: str) -> str:

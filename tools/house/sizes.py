@@ -3,7 +3,7 @@
 A part is the files whose path from the top has its form in PARTS, without what .gitignore names. "Tests and tools" are
 the programs in conformance, device/tests, fuzz, integrations, python/tests, tests and tools: of what `git ls-files`
 lists there, each file that ends in .py, .c, .h or .sh, or begins with `#!`. Examples are all texts in examples/. Words
-of a page do not include its made parts (house/named.py). In no part are the tests' data, must-fail edits, the header
+of a page do not include its made parts (house/made.py). In no part are the tests' data, must-fail edits, the header
 for C, made pages, CHANGES.md, CONTRIBUTING.md, SECURITY.md and the README.md of folders."""
 
 from __future__ import annotations
@@ -14,7 +14,7 @@ from collections.abc import Collection, Iterator
 from typing import NamedTuple
 
 from house import ROOT
-from house.named import without_made
+from house.made import without_made
 
 FILE = ROOT / "tests/sizes.tsv"
 # What .gitignore names.

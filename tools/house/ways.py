@@ -15,8 +15,6 @@ WAYS: list[tuple[str, str, str]] = [
     ("edits", "nothing cites", "no proof needs this lemma: delete it, and the imports that only it used"),
     ("edits", "GROUPS", "put the crate below a heading in tools/edits"),
     ("table", "tests/manual.tsv", "delete the row, or record the run again"),
-    ("pictures", "takes", "a text is too long for its drawing: shorten it"),
-    ("pictures", "has no table", "restore the table that the drawing is made of"),
     ("reference", "is of nothing", "no source makes this file any more: delete it"),
     ("sizes", "over its limit", "cut, or raise the limit in this commit, tools/sizes --write PART, and say why in its "
      "body"),
