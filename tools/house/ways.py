@@ -41,7 +41,6 @@ WAYS: list[tuple[str, str, str]] = [
     ("lanes-used", "NOT CALLED", "the cipher is not built of its lanes: restore the call"),
     ("stored-runs", "runs are stored", "change COUNT there, or restore the run"),
     ("stored-runs", "", "decide by the rules, then change the code, or the stored text and the page"),
-    ("altered-frames", "", "decide by the rules, then change the code or fuzz/expected.py"),
     ("failures", "WRONG", "mend the code, or add the call that allocates to the lists there; docs/HOSTILE.md says how "
      "runs end"),
     ("fuzz", "promise", "the rules in Python break a promise: python3 fuzz/fuzz.py --seed SEED --only N prints the "
@@ -52,10 +51,6 @@ WAYS: list[tuple[str, str, str]] = [
     ("readers", "input", "python3 fuzz/readers.py --seed S --only N prints the input: mend the command"),
     ("planted", "not shown", "no input shows that wrong rule: extend fuzz/inputs.py, fuzz/made.py or fuzz/blocks.py"),
     ("planted", "WRONG: there are", "change COUNT there and the number in docs/HOSTILE.md, or restore the mistake"),
-    ("moves", "MISSED", "no list of moves shows that wrong rule: extend the moves"),
-    ("moves", "met the premises", "no world reaches the promise: change WORLDS or the moves"),
-    ("moves", "promise", "run the script by macsec run, and decide by docs/LINK.md whether the rules or the promise "
-     "are wrong"),
     ("", "expected.py has another text", "decide by the pages, then change fuzz/expected.py, or the script and its "
      "text"),
     ("instructions", "has no ", "the text of a planted mistake has moved: change it in the check"),
