@@ -53,12 +53,12 @@ DEVICE_SOURCES := $(sort $(filter-out device/macsecctl.c,$(wildcard device/*.c))
 
 # The checks that make a program or a library first, and the others.
 OVER_PROGRAM := conformance conformance-controls peer planted stored-runs
-OVER_LIBRARY := axioms c-programs constant-time delivered-once device-forged device-fuzz instructions isolated \
-    isolated-controls isolated-unit journal keys-in-memory macsecd macsecd-controls macsecd-isolated macsecd-workers \
+OVER_LIBRARY := axioms c-programs constant-time device-forged device-fuzz instructions isolated isolated-controls \
+    isolated-unit journal keys-in-memory macsecd macsecd-controls macsecd-isolated macsecd-workers \
     pages python readers two-hosts workers
-CHECKS := $(OVER_PROGRAM) $(OVER_LIBRARY) against allocators any-order c-header controls cores device-analyzed \
-    device-forged-linux device-installed device-kernel edits failures fuzz isolated-kinds kept-frames kernel-captures \
-    lanes-used live mka needed packages sizes style table version
+CHECKS := $(OVER_PROGRAM) $(OVER_LIBRARY) against allocators any-order c-header controls device-analyzed \
+    device-forged-linux device-installed device-kernel edits failures fuzz isolated-kinds kept-frames kernel-captures live \
+    mka needed packages sizes style table version
 
 .PHONY: all try test run lib kept device device-of install install-device install-python dist check reference \
     bench toolchain clean help always $(CHECKS)
@@ -127,14 +127,14 @@ help:
 $(CHECKS):
 	@tools/check --inputs $(INPUTS) --seed $(SEED) $@
 
-kept-frames lanes-used any-order: toolchain
+kept-frames any-order: toolchain
 $(OVER_PROGRAM): build/macsec
 fuzz: build/macsec build/macsec-rattle
 failures: build/macsec
 $(OVER_LIBRARY): build/libmacsec.a
 c-programs pages python: build/macsec
 axioms constant-time: $(BOTH)
-constant-time delivered-once instructions keys-in-memory: build/$(HWCAPS)/libmacsec.a
+constant-time instructions keys-in-memory: build/$(HWCAPS)/libmacsec.a
 packages: $(BOTH) $(LIBRARIES)
 controls: build/macsec $(BOTH) build/macsec-rattle build/libmacsec.a
 against: $(BOTH) $(LIBRARIES)

@@ -38,7 +38,6 @@ WAYS: list[tuple[str, str, str]] = [
     ("edits-refused", "names what the edit took away", "make the same mistake in a text that keeps the goal's name"),
     ("edits-refused", "", "see the end of build/ci.log, and run the gate again without changes beside it"),
     ("kept-frames", "NOT REFUSED", "a caller may keep a frame: restore the lifetime of the result"),
-    ("lanes-used", "NOT CALLED", "the cipher is not built of its lanes: restore the call"),
     ("stored-runs", "runs are stored", "change COUNT there, or restore the run"),
     ("stored-runs", "", "decide by the rules, then change the code, or the stored text and the page"),
     ("failures", "WRONG", "mend the code, or add the call that allocates to the lists there; docs/HOSTILE.md says how "
@@ -74,7 +73,7 @@ WAYS: list[tuple[str, str, str]] = [
     ("keys-in-memory", "on the stack", "look at what that call passes to its functions, or list the call in "
      "tools/library/clearing.c"),
     ("keys-in-memory", "parts of the key are known", "measure SECTIONS of tools/house/memory.py again"),
-    ("instructions", "too many", "find what costs more"),
+    ("instructions", "too many", "find what costs more, such as a cipher that is not built of its lanes any more"),
     ("instructions", "far fewer", "lower the limit in tests/library/costs/limits.txt"),
     ("constant-time", "places, and not", "mend the code, or, if the branch may be there, the list in that tool"),
     ("two-hosts", "docs/TWO-HOSTS.md", "mend the page or the device, or REPLACED, ANSWERED or WRONG there"),
