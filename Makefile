@@ -54,11 +54,11 @@ DEVICE_SOURCES := $(sort $(filter-out device/macsecctl.c,$(wildcard device/*.c))
 # The checks that make a program or a library first, and the others.
 OVER_PROGRAM := conformance conformance-controls peer planted stored-runs
 OVER_LIBRARY := axioms c-programs constant-time device-forged device-fuzz instructions isolated isolated-controls \
-    isolated-unit journal keys-in-memory macsecd macsecd-controls macsecd-isolated macsecd-workers \
-    pages python readers two-hosts workers
-CHECKS := $(OVER_PROGRAM) $(OVER_LIBRARY) against allocators any-order c-header controls device-analyzed \
-    device-forged-linux device-installed device-kernel edits failures fuzz isolated-kinds kept-frames kernel-captures live \
-    mka needed packages sizes style table version
+    isolated-unit journal keys-in-memory macsecd macsecd-controls macsecd-isolated macsecd-workers pages python readers \
+    two-hosts workers
+CHECKS := $(OVER_PROGRAM) $(OVER_LIBRARY) against any-order c-header controls device-analyzed device-forged-linux \
+    device-installed device-kernel edits failures fuzz isolated-kinds kept-frames kernel-captures live mka needed \
+    packages sizes style table version
 
 .PHONY: all try test run lib kept device device-of install install-device install-python dist check reference \
     bench toolchain clean help always $(CHECKS)
