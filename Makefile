@@ -18,7 +18,6 @@
 #                    python3-macsec, macsec-doc and macsecd
 # make check         the gate
 # make reference     writes docs/reference again, from the sources
-# make bench         measures the cipher and an endpoint, by time and by instructions, built for each processor
 # make clean         removes what make has built
 # make help          prints this list and the checks, each of which is a target: make NAME runs it over what is built,
 #                    and proves and builds that first
@@ -48,7 +47,6 @@ DEVICE_FLAGS := -std=c11 -pthread -Wall -Wextra -Werror -pedantic -Iinclude -O2 
 HWCAPS := glibc-hwcaps/x86-64-v3
 LIBRARIES := build/libmacsec.a build/$(HWCAPS)/libmacsec.a
 BOTH := build/macsec-x86-64-v2 build/macsec-x86-64-v3
-BENCHES := build/macsec_bench-x86-64-v2 build/macsec_bench-x86-64-v3
 DEVICE_SOURCES := $(sort $(filter-out device/macsecctl.c,$(wildcard device/*.c)))
 
 # The checks that make a program or a library first, and the others.
@@ -61,7 +59,7 @@ CHECKS := $(OVER_PROGRAM) $(OVER_LIBRARY) against any-order c-header controls de
     packages sizes style table version
 
 .PHONY: all try test run lib kept device device-of install install-device install-python dist check reference \
-    bench toolchain clean help always $(CHECKS)
+    toolchain clean help always $(CHECKS)
 
 all: build/macsec
 
@@ -118,9 +116,6 @@ check: toolchain
 reference:
 	tools/reference
 
-bench: $(BENCHES)
-	@tests/program/bench
-
 help:
 	@sed -n '/^RT/q; s/^# //p' Makefile; tools/check --targets
 
@@ -160,9 +155,9 @@ build/macsec build/macsecd: %: %-$(CPU) always
 	@for end in "" .proved; do \
 	    [ ! -e $<$$end ] || cmp -s $<$$end $@$$end || cp -f $<$$end $@$$end || exit 1; done
 
-# The program and the benchmark, proved and then built by LLVM, and the program as Rattle's own compiler builds it. Here
-# and below `rt` is asked for when something is to be built, so that what is built can be installed without it.
-$(BOTH) $(BENCHES) build/macsec-rattle: $(SOURCES)
+# The program, proved and then built by LLVM, and as Rattle's own compiler builds it. Here and below `rt` is asked for
+# when something is to be built, so that what is built can be installed without it.
+$(BOTH) build/macsec-rattle: $(SOURCES)
 	@$(with_rt)
 	@echo "proving and building $@: from nothing many minutes, with a line for each crate" >&2
 	@tools/prove $(@F)

@@ -72,7 +72,7 @@ def size_table() -> str:
     restarts = below(RESTARTS) - machine - promises
     texts = below(TEXTS) - machine - promises
     in_c = below(IN_C) - machine - restarts - promises - texts
-    code = [it for it in paths("crates/*/src/**/*.rt") if "_tests/" not in it and "_bench/" not in it]
+    code = [it for it in paths("crates/*/src/**/*.rt") if "_tests/" not in it]
     device = paths("device/*.[ch]", "include/macsec.h", "examples/c/*.c")
     python = paths("python/macsec/*.py") + paths("python/macsec/cli/*.py")
     rows = [
