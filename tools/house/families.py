@@ -98,25 +98,13 @@ def statuses_of_specs() -> dict[str, int]:
     return found | numbered(re.findall(r"^number_of_refusal (\w+) = (\d+)$", refused, re.M))
 
 
-def statuses_of_source() -> dict[str, int]:
-    """The statuses as the source numbers them."""
-    text = text_of("crates/macsec_c_calls/src/statuses.rt")
-    constants = re.findall(r"pub const ((?!FATE_|VERDICT_)\w+): u32 = (\d+);", text)
-    found = numbered([(camel(name), number) for name, number in constants])
-    for kind, before in (("New", "New"), ("Frame", ""), ("Line", ""), ("Script", "")):
-        found |= numbered(re.findall(rf"{kind}Fault::(\w+) => (\d+),", text), before)
-    for path, kind, before in (
-        ("crates/macsec_c_calls/src/arguments.rt", "ArgumentFault", "NoSuch"),
-        ("crates/macsec_suite/src/refusal.rt", "Refusal", ""),
-    ):
-        found |= numbered(re.findall(r"(\w+) = (\d+),", part_of(path, rf"enum {kind} \{{.*?^\}}")), before)
-    return found
-
-
-def verdicts_of(path: str, form: str, names_path: str, name_form: str) -> dict[str, int]:
+def verdicts_of_specs() -> dict[str, int]:
     """The verdicts by the names that are printed, with their numbers."""
-    printed = dict(re.findall(name_form, text_of(names_path), re.M))
-    return {printed.get(it, it): int(number) for it, number in re.findall(form, text_of(path), re.M)}
+    names = text_of("crates/macsec_rx/specs/Verdicts.antt")
+    printed = dict(re.findall(r'^verdict_name (\w+) = codes "(\w+)"$', names, re.M))
+    numbers = text_of("crates/macsec_c_calls/specs/Statuses.antt")
+    found = re.findall(r"^number_of_verdict (\w+) = (\d+)$", numbers, re.M)
+    return {printed.get(it, it): int(number) for it, number in found}
 
 
 def suites_of_specs() -> list[tuple[object, ...]]:
@@ -162,19 +150,6 @@ def numbered_names(name: str, numbers: range) -> dict[str, int]:
     return {it["name"]: it["number"] for it in family(name) if it["number"] in numbers}
 
 
-VERDICTS_OF_SPECS = (
-    "crates/macsec_c_calls/specs/Statuses.antt",
-    r"^number_of_verdict (\w+) = (\d+)$",
-    "crates/macsec_rx/specs/Verdicts.antt",
-    r'^verdict_name (\w+) = codes "(\w+)"$',
-)
-VERDICTS_OF_SOURCE = (
-    "crates/macsec_c_calls/src/statuses.rt",
-    r"Verdict::(\w+) => (\d+),",
-    "crates/macsec_rx/src/lib.rt",
-    r'Verdict::(\w+) => "(\w+)",',
-)
-
 # What is compared, what the data have, and what the sources have.
 Compared = Iterator[tuple[str, Any, Any]]
 
@@ -195,18 +170,13 @@ def compared_counters() -> Compared:
 def compared_numbers() -> Compared:
     numbers = {it["name"]: it["number"] for it in family("statuses")}
     yield "statuses", numbers, statuses_of_specs()
-    yield "statuses", numbers, statuses_of_source()
     faults = text_of("crates/macsec_link_events/specs/FaultNumbers.antt")
     there = numbered(re.findall(r"^number_of_world_fault (\w+) = ([2-9])$", faults, re.M))
     yield "faults of events", {it["name"]: it["number"] for it in family("faults")}, there
     here = {it["name"]: it["number"] for it in family("capture_faults")}
     text = text_of("crates/macsec_pcap/specs/FaultNumbers.antt")
     yield "faults of captures", here, numbered(re.findall(r"^number_of_fault (\w+) = (\d+)$", text, re.M))
-    yield "faults of captures", here, numbered(
-        re.findall(r"(\w+) = (\d+),", text_of("crates/macsec_pcap/src/fault.rt"))
-    )
-    yield "verdicts", numbered_names("verdicts", range(1, 13)), verdicts_of(*VERDICTS_OF_SPECS)
-    yield "verdicts", numbered_names("verdicts", range(1, 13)), verdicts_of(*VERDICTS_OF_SOURCE)
+    yield "verdicts", numbered_names("verdicts", range(1, 13)), verdicts_of_specs()
     statuses = text_of("crates/macsec_c_calls/src/statuses.rt")
     for what, start, of in (("fates", "FATE", range(6)), ("verdicts of a journal", "VERDICT", range(13, 99))):
         here = {it["c"]: it["number"] for it in family(start.lower() + "s") if it["number"] in of}
