@@ -4,28 +4,17 @@
  *
  * A frame has so many octets of data, and is encrypted under a 128-bit key with an explicit SCI. With `journal` the
  * endpoint that sends or receives is beside a journal, with `ahead` it also reserves ahead of receiving. Its packet
- * numbers are reserved once, before the first frame. `install` prints how many microseconds macsec_free took after so
- * many keys. */
+ * numbers are reserved once, before the first frame. */
 #include "macsec.h"
-#include <stdio.h>
 #include <stdlib.h>
 #include <string.h>
-#include <time.h>
 
-static double now(void) {
-    struct timespec t;
-    clock_gettime(CLOCK_MONOTONIC, &t);
-    return (double)t.tv_sec * 1e6 + (double)t.tv_nsec / 1e3;
-}
-
-/* Installs so many keys of a suite, and frees the endpoint. Returns the microseconds that this took, or -1. */
-static double install(uint32_t suite, unsigned count) {
+/* Installs so many keys of a suite, and frees the endpoint. */
+static bool install(uint32_t suite, unsigned count) {
     macsec_endpoint e = MACSEC_ENDPOINT_INIT;
-    macsec_config config = { { 2, 0, 0, 0, 0, 1, 0, 1 }, 0, MACSEC_FORM_SCI, 1546 };
-    double began;
-    config.suite = suite;
+    macsec_config config = { { 2, 0, 0, 0, 0, 1, 0, 1 }, suite, MACSEC_FORM_SCI, 1546 };
     if (macsec_new(&e, &config) != MACSEC_OK)
-        return -1;
+        return false;
     for (unsigned i = 0; i < count; i++) {
         macsec_sak key = { 0 };
         key.number = (uint16_t)i;
@@ -33,11 +22,10 @@ static double install(uint32_t suite, unsigned count) {
         key.bytes[0] = (uint8_t)i;
         key.bytes[1] = (uint8_t)(i >> 8);
         if (macsec_install_key(&e, &key) != MACSEC_OK)
-            return -1;
+            return false;
     }
-    began = now();
     macsec_free(&e);
-    return now() - began;
+    return true;
 }
 
 /* How many packet numbers a record reserves. */
@@ -106,11 +94,8 @@ int main(int words, char **word) {
     macsec_sent sent;
     macsec_received received;
 
-    if (words > 3 && word[1][0] == 'i') {
-        double took = install((uint32_t)atoi(word[2]), (unsigned)count);
-        printf("%.0f\n", took);
-        return took < 0;
-    }
+    if (words > 3 && word[1][0] == 'i')
+        return !install((uint32_t)atoi(word[2]), (unsigned)count);
     memset(client, 0x5a, sizeof client);
     if (!begin_sending(&a, client, length, is_sender ? journal : NULL, &sent))
         return 1;
