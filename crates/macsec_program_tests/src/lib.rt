@@ -5,8 +5,7 @@
 //! - `sentences`: the sentences of faults and refusals, which the program does not print.
 //! - `worlds`: worlds and steps do not return `Memory` if there is memory; a full link; and the logs.
 //!
-//! What the program prints is in `examples/scripts/` and `tests/program/runs`. `tests/program/altered-frames` alters
-//! each bit of a frame.
+//! What the program prints is in `examples/scripts/` and `tests/program/runs`.
 #![tactic(auto)]
 
 #[cfg(test)]
