@@ -19,8 +19,15 @@ from typing import NamedTuple
 from house import ROOT
 from house.compiling import WARNINGS
 from house.reporting import Failed, call, report
-from macsecd_speed import DATAGRAM, RELAY, run_tcp
-from macsecd_world import End, World, build, echo_request, inside, is_answered, processor_time
+from macsecd_losses import settled
+from macsecd_world import End, World, build, echo_request, inside, is_answered, processor_time, tcp
+
+# The octets of a datagram whose Ethernet frame has 1,400.
+DATAGRAM = 1400 - 14 - 20 - 8
+# macsecd without the cipher.
+RELAYED = ["send_raw", "receive_raw", "slot_new", "slot_free_raw", "plan_send_raw", "seal_job_raw"]
+RELAYED += ["plan_receive_raw", "open_job", "finish_receive_raw"]
+RELAY = [*(f"-Wl,--wrap=macsec_{name}" for name in RELAYED), str(ROOT / "device/tests/macsecd_relay.c")]
 
 # What workers have to gain at least, by their number, and what an echo may lose, in microseconds.
 BARS_UDP, BARS_TCP, BAR_ECHO = {2: 2.2}, {2: 1.5}, 10.0
@@ -95,6 +102,24 @@ def run_udp(
     return {workers: [turn[workers] for turn in taken] for workers in numbers}
 
 
+def run_tcp(folder: pathlib.Path, programs: pathlib.Path, octets: int) -> Speed:
+    """TCP from one client to the other: million octets a second, and for a frame of data, with the acknowledgements
+    and with the system, the microseconds of processors in the macsecd that sends it."""
+    with World(folder, programs) as world:
+        world.start()
+        a = world.ends[0]
+        tcp(a, octets // 8)
+        before, used = settled(*world.ends), processor_time(a)
+        seconds = tcp(a, octets)
+        used, after = processor_time(a) - used, settled(*world.ends)
+        for end in world.ends:
+            report(end.stop() == 0, f"macsecd does not end well: {end.log()}")
+    names = "device LinkLost", "device LinkRefused", "device TapRefused"
+    lost = [now[name] - old[name] for now, old in zip(after, before) for name in names]
+    report(not any(lost), f"frames were lost: {lost}")
+    return Speed(octets / seconds / 1e6, used / (after[0]["device LinkOut"] - before[0]["device LinkOut"]))
+
+
 def run_echo(folder: pathlib.Path, programs: pathlib.Path, count: int) -> float:
     """Echo requests in a quiet network, each a millisecond after the reply to the last one. Returns the median."""
     times = []
@@ -152,8 +177,8 @@ def measure_cores(
             for workers in numbers:
                 End.workers = workers
                 at = f"{name}{number}-{workers}"
-                tcp = Speed(*run_tcp(folder / f"{at}-tcp", each, octets)[:2])
-                row = Row(udp[workers], tcp, run_echo(folder / f"{at}-echo", each, echoes))
+                speed = run_tcp(folder / f"{at}-tcp", each, octets)
+                row = Row(udp[workers], speed, run_echo(folder / f"{at}-echo", each, echoes))
                 rows[name][workers].append(row)
                 print(f"cores: {name}, {workers} workers: {row.text()}", flush=True)
     for name in programs:

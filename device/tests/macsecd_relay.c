@@ -1,6 +1,6 @@
-/* In place of calls of the library, for the tests macsecd --speed and --cores: frames pass without a cipher. It is
- * linked with --wrap, so that the rest of macsecd is the same. On LINK a frame has another EtherType, as a protected
- * one has: else the system would also take it from LINK itself, and TCP would answer it twice.
+/* In place of calls of the library, for the test macsecd --cores: frames pass without a cipher. It is linked with
+ * --wrap, so that the rest of macsecd is the same. On LINK a frame has another EtherType, as a protected one has: else
+ * the system would also take it from LINK itself, and TCP would answer it twice.
  *
  * Frames for workers are copied as often as the library copies them. */
 #include "macsec.h"
