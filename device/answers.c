@@ -2,8 +2,6 @@
 #include "device.h"
 #include <ctype.h>
 #include <inttypes.h>
-#include <stdio.h>
-#include <string.h>
 
 enum { OWN = OWN_COUNTERS, TX = TX_COUNTERS, RX = RX_COUNTERS, METRIC = 40 };
 

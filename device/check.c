@@ -8,16 +8,11 @@
 #include "numbers.h"
 #include "text.h"
 #include "workers.h"
-#include <errno.h>
 #include <limits.h>
 #include <stdarg.h>
-#include <stdio.h>
-#include <string.h>
 #include <strings.h>
 #include <sys/ioctl.h>
-#include <sys/socket.h>
 #include <sys/stat.h>
-#include <unistd.h>
 
 /* What is found: what keeps macsecd from starting, and what is likely to be a slip. */
 enum kind { FAULT, HINT };

@@ -2,15 +2,10 @@
 #include "text.h"
 #include "workers.h"
 #include <ctype.h>
-#include <errno.h>
 #include <fcntl.h>
 #include <grp.h>
 #include <pwd.h>
-#include <stdio.h>
-#include <stdlib.h>
-#include <string.h>
 #include <sys/stat.h>
-#include <unistd.h>
 
 /* The most octets of a configuration, as the library has it. */
 enum { LONGEST = 1048576 };

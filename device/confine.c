@@ -1,7 +1,6 @@
 /* What macsecd gives up. libseccomp is not used: the lists of system calls are short, for one processor, and never
  * change while macsecd runs. Without it the program needs the C library alone. */
 #include "system.h"
-#include <errno.h>
 #include <grp.h>
 #include <linux/audit.h>
 #include <linux/capability.h>
@@ -9,14 +8,12 @@
 #include <linux/if_tun.h>
 #include <linux/landlock.h>
 #include <linux/seccomp.h>
-#include <stddef.h>
 #include <sys/ioctl.h>
 #include <sys/mman.h>
 #include <sys/prctl.h>
 #include <sys/resource.h>
 #include <sys/stat.h>
 #include <sys/syscall.h>
-#include <unistd.h>
 
 int confine_memory(void) {
     const struct rlimit none = { 0, 0 };

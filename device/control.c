@@ -1,13 +1,8 @@
 /* The control socket: a packet is a request, and its answer is a packet. */
 #include "device.h"
-#include <errno.h>
 #include <fcntl.h>
-#include <stdio.h>
-#include <string.h>
-#include <sys/socket.h>
 #include <sys/stat.h>
 #include <sys/un.h>
-#include <unistd.h>
 
 /* ---- Opening ---- */
 

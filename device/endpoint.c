@@ -1,9 +1,6 @@
 /* The endpoint, by the lines of requests and of the configuration. The library judges each line. */
 #include "device.h"
 #include "workers.h"
-#include <stdio.h>
-#include <stdlib.h>
-#include <string.h>
 
 /* What a command that was carried out means for the device. `passes`: a key agreement owns the device, so the key of
  * the command does not come again once it is retired. */

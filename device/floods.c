@@ -3,7 +3,6 @@
  * the endpoint is strict, and ends after a second, and when a line may have changed the endpoint. */
 #include "device.h"
 #include <linux/filter.h>
-#include <sys/socket.h>
 
 /* So many such frames are read in a second. The socket has space for twice as many of them, if they are short. */
 enum { FLOOD = 4096 };

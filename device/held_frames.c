@@ -1,7 +1,6 @@
 /* Frames of LINK that wait for a reservation: they are given to the endpoint again when one is on the disk, in their
  * order and before later frames. So a burst, or a peer that starts again, loses no frame. */
 #include "device.h"
-#include <string.h>
 
 /* Frames wait until the clock has ticked so often since one of them passed. */
 enum { TICKS = 2 };

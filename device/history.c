@@ -1,6 +1,5 @@
 /* When frames last went each way, and why the last one was dropped: for people who look at a running device. */
 #include "frames.h"
-#include <string.h>
 
 /* The time by which a frame is noted. */
 static uint64_t now(const struct history *h) {

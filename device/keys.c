@@ -2,7 +2,6 @@
  * of the library shows a key. They are in separate memory, which is locked, is in no core file and in no forked child,
  * and which is wiped as soon as a key is retired. */
 #include "control.h"
-#include <string.h>
 #include <sys/mman.h>
 
 int keys_open(macsec_sak **keys) {

@@ -1,15 +1,8 @@
 /* LINK: the network device below, by a packet socket. */
 #include "frames.h"
 #include <arpa/inet.h>
-#include <errno.h>
-#include <linux/if_packet.h>
-#include <linux/virtio_net.h>
 #include <net/ethernet.h>
-#include <net/if.h>
-#include <string.h>
 #include <sys/ioctl.h>
-#include <sys/socket.h>
-#include <unistd.h>
 
 /* Octets of a VLAN tag, and where it is in a frame. */
 enum { TAG = 4, TAG_AT = 12 };

@@ -1,13 +1,10 @@
 /* Waiting: for frames, requests, reports, signals and the clock. */
 #include "device.h"
 #include "workers.h"
-#include <errno.h>
 #include <signal.h>
-#include <string.h>
 #include <sys/epoll.h>
 #include <sys/signalfd.h>
 #include <sys/timerfd.h>
-#include <unistd.h>
 
 /* What an event is about. Clients are numbered from CLIENT on. */
 enum { TAP, LINK, SIGNALS, CLOCK, RTNETLINK, LISTENER, JOURNAL, WORKERS, CLIENT };

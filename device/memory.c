@@ -7,8 +7,6 @@
 #include "system.h"
 #include <limits.h>
 #include <malloc.h>
-#include <stdlib.h>
-#include <string.h>
 #include <sys/mman.h>
 #include <sys/resource.h>
 

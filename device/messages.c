@@ -1,16 +1,12 @@
 /* What macsecd says, on standard error: a line for what starts, changes, fails and ends, and none for a frame. A client
  * that makes one message again and again must not fill the log, and nobody who does not read it may stop frames. */
 #include "system.h"
-#include <errno.h>
 #include <fcntl.h>
 #include <poll.h>
 #include <stdarg.h>
-#include <stdio.h>
-#include <string.h>
 #include <sys/socket.h>
 #include <sys/stat.h>
 #include <time.h>
-#include <unistd.h>
 
 enum { LONGEST = 1024 };
 

@@ -2,17 +2,12 @@
  * programs get frames of LINK only through MACsec. The program `macsec-link` makes the namespace. */
 #include "frames.h"
 #include "text.h"
-#include <errno.h>
 #include <fcntl.h>
 #include <linux/nsfs.h>
 #include <linux/sockios.h>
 #include <sched.h>
-#include <stdio.h>
-#include <stdlib.h>
-#include <string.h>
 #include <sys/ioctl.h>
 #include <sys/stat.h>
-#include <unistd.h>
 
 /* The first descriptor that a service manager passes. */
 enum { PASSED = 3 };

@@ -6,8 +6,6 @@
  * endpoint was then. */
 #include "device.h"
 #include "workers.h"
-#include <stddef.h>
-#include <string.h>
 
 /* ---- Sending ---- */
 

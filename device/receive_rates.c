@@ -1,7 +1,6 @@
 /* How many frames of each receive channel are accepted in a second, and so how many packet numbers are reserved ahead
  * of its associations. The peer goes on at the same rate under a new key, so the rate is the channel's. */
 #include "numbers.h"
-#include <string.h>
 
 /* A reservation lasts for so many seconds. The next one is asked for when half of it is left. Where a synchronization
  * takes long, the half lasts for two of them: one that is under way, and the next. */

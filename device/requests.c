@@ -1,6 +1,5 @@
 /* Requests at the control socket: requests that only read, requests to the device, and lines for the endpoint. */
 #include "device.h"
-#include <string.h>
 
 /* ---- Reading ---- */
 

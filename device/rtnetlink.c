@@ -4,13 +4,8 @@
  * The system drops reports while the socket's queue is full, and also the answer to a question. So a question is asked
  * when the queue is empty, and each second, whatever was reported. */
 #include "device.h"
-#include <errno.h>
 #include <linux/netlink.h>
 #include <linux/rtnetlink.h>
-#include <net/if.h>
-#include <string.h>
-#include <sys/socket.h>
-#include <unistd.h>
 
 /* The most messages that are read in one call, so that a busy system does not keep macsecd from its frames. */
 enum { MESSAGES = 256 };

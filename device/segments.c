@@ -4,7 +4,6 @@
  *
  * Protected frames are complete: this is for frames that pass unprotected. */
 #include "frames.h"
-#include <string.h>
 
 /* EtherTypes, and where a frame's first one is. */
 enum { TYPE_AT = 12, VLAN = 0x8100, PROVIDER_VLAN = 0x88a8, IPV4 = 0x0800, IPV6 = 0x86dd };

@@ -1,9 +1,5 @@
 /* The service manager: systemd's protocol for services, of a datagram with an assignment. */
 #include "system.h"
-#include <errno.h>
-#include <stddef.h>
-#include <stdlib.h>
-#include <string.h>
 #include <sys/socket.h>
 #include <sys/un.h>
 

@@ -1,7 +1,6 @@
 /* The answer to `show`: the state of the device for people, as `wg show` prints it. Programs read `json`. */
 #include "device.h"
 #include <inttypes.h>
-#include <stdio.h>
 
 /* The octets of an age, and of a packet number. */
 enum { AGE = 40, NUMBER = 24 };

@@ -2,15 +2,20 @@
 #ifndef SYSTEM_H
 #define SYSTEM_H
 
-/* Each header of the device includes this one first. */
+/* Each header of the device includes this one first, so no file names these headers of the C library again. */
 #ifndef _GNU_SOURCE
 #define _GNU_SOURCE
 #endif
 #include "macsec.h"
+#include <errno.h>
 #include <stdbool.h>
 #include <stddef.h>
 #include <stdint.h>
+#include <stdio.h>
+#include <stdlib.h>
+#include <string.h>
 #include <sys/types.h>
+#include <unistd.h>
 
 /* Exit statuses: the system refused something, or LINK or TAP is gone; the arguments or the configuration are wrong.
  * And of --own-tap: only the deletion of TAP takes it from another user. */

@@ -1,16 +1,11 @@
 /* TAP: the network device of the client, this host's network stack. */
 #include "frames.h"
 #include "text.h"
-#include <errno.h>
 #include <fcntl.h>
 #include <limits.h>
 #include <linux/if_arp.h>
 #include <linux/if_tun.h>
-#include <net/if.h>
-#include <stdio.h>
-#include <string.h>
 #include <sys/ioctl.h>
-#include <unistd.h>
 
 /* Octets of an Ethernet header. */
 enum { HEADER = 14 };

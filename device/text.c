@@ -1,7 +1,6 @@
 /* Texts that are composed piece by piece, in a buffer that the caller gives. */
 #include "text.h"
 #include <stdarg.h>
-#include <stdio.h>
 
 void text_add(struct text *t, const char *form, ...) {
     va_list arguments;

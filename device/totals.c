@@ -1,6 +1,5 @@
 /* Counters over the endpoints of a run: an endpoint that takes over from another one begins to count at 0. */
 #include "device.h"
-#include <string.h>
 
 static void add(uint64_t *to, const uint64_t *values, size_t count) {
     for (size_t i = 0; i < count; i++)

@@ -2,10 +2,7 @@
  * when its records are on the disk: so a client that enables the new association then loses no frame. It does not wait
  * for ever: a disk can be slow or fail. */
 #include "device.h"
-#include <errno.h>
-#include <string.h>
 #include <sys/epoll.h>
-#include <sys/socket.h>
 #include <time.h>
 
 /* How many milliseconds an answer waits. A key agreement that gets none for two seconds starts again. */

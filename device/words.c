@@ -1,8 +1,6 @@
 /* The words of a line, separated as the library separates them: by spaces and tabs. One carriage return at the end of a
  * line belongs to no word. */
 #include "text.h"
-#include <stdlib.h>
-#include <string.h>
 
 static bool is_blank(char octet) {
     return octet == ' ' || octet == '\t';

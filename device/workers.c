@@ -6,17 +6,13 @@
  * and when a ring is too full. It leaves no job undone when it waits, so each job is done although no worker may have
  * been woken for it. While it waits in its loop, an eventfd reports that the first frame is finished. */
 #include "workers.h"
-#include <errno.h>
 #include <limits.h>
 #include <linux/futex.h>
 #include <pthread.h>
 #include <sched.h>
-#include <stdlib.h>
-#include <string.h>
 #include <sys/eventfd.h>
 #include <sys/mman.h>
 #include <sys/syscall.h>
-#include <unistd.h>
 
 /* A page, the octets of a worker's stack (sanitizers need most of them), and how many it overwrites before it sleeps:
  * the calls of jobs need less and can leave octets of keys there. */
