@@ -96,68 +96,26 @@ static int restrict_files(int state, bool unconfined) {
 
 /* ---- System calls ---- */
 
-/* The calls of the thread that has the endpoint. It opens no file and writes to none. */
+/* The calls of the thread that has the endpoint: for frames, control, reports, signals, the clock, the journal's thread
+ * and standard error, and from SYS_brk on for memory and the end. It opens no file and writes to none. */
 static const unsigned of_frames[] = {
-    /* frames, control, reports, signals, the clock, the thread of the journal, and standard error */
-    SYS_read,
-    SYS_write,
-    SYS_recvmmsg,
-    SYS_sendmmsg,
-    SYS_recvfrom,
-    SYS_sendto,
-    SYS_getsockopt,
-    SYS_setsockopt,
-    SYS_accept4,
-    SYS_close,
-    SYS_epoll_wait,
-    SYS_epoll_pwait,
-    SYS_epoll_ctl,
-    SYS_poll,
-    SYS_clock_gettime,
-    SYS_futex,
-    SYS_restart_syscall,
-    /* memory, for the words of a line and for names */
-    SYS_brk,
-    SYS_munmap,
-    SYS_mremap,
-    SYS_madvise,
-    SYS_exit,
-    SYS_exit_group,
+    SYS_read,       SYS_write,      SYS_recvmmsg,      SYS_sendmmsg, SYS_recvfrom,        SYS_sendto,
+    SYS_getsockopt, SYS_setsockopt, SYS_accept4,       SYS_close,    SYS_epoll_wait,      SYS_epoll_pwait,
+    SYS_epoll_ctl,  SYS_poll,       SYS_clock_gettime, SYS_futex,    SYS_restart_syscall, SYS_brk,
+    SYS_munmap,     SYS_mremap,     SYS_madvise,       SYS_exit,     SYS_exit_group,
 };
 
-/* The calls of the thread of the journal. It allocates no memory, and uses no socket. */
+/* The calls of the thread of the journal, which writes it again from SYS_openat on and ends from SYS_rt_sigprocmask on.
+ * It allocates no memory and uses no socket. It writes to an eventfd that an order was carried out. */
 static const unsigned of_journal[] = {
-    SYS_write, /* that an order was carried out */
-    SYS_pwrite64,
-    SYS_fdatasync,
-    SYS_newfstatat,
-    SYS_clock_gettime,
-    SYS_futex,
-    SYS_restart_syscall,
-    /* the journal is written again */
-    SYS_openat,
-    SYS_fsync,
-    SYS_flock,
-    SYS_fstat,
-    SYS_renameat,
-    SYS_renameat2,
-    SYS_unlinkat,
-    SYS_close,
-    /* the thread ends */
-    SYS_rt_sigprocmask,
-    SYS_madvise,
-    SYS_exit,
+    SYS_write,           SYS_pwrite64, SYS_fdatasync, SYS_newfstatat,     SYS_clock_gettime, SYS_futex,
+    SYS_restart_syscall, SYS_openat,   SYS_fsync,     SYS_flock,          SYS_fstat,         SYS_renameat,
+    SYS_renameat2,       SYS_unlinkat, SYS_close,     SYS_rt_sigprocmask, SYS_madvise,       SYS_exit,
 };
 
-/* The calls of a worker. The only file that it uses is the eventfd by which it says that a frame is there. */
+/* The calls of a worker. It writes to the eventfd by which it says that a frame is there. The last three end it. */
 static const unsigned of_workers[] = {
-    SYS_write,
-    SYS_futex,
-    SYS_restart_syscall,
-    /* the thread ends */
-    SYS_rt_sigprocmask,
-    SYS_madvise,
-    SYS_exit,
+    SYS_write, SYS_futex, SYS_restart_syscall, SYS_rt_sigprocmask, SYS_madvise, SYS_exit,
 };
 
 enum { BEFORE = 3, AFTER = 9, CALLS_MAX = 32 };

@@ -13,25 +13,11 @@ enum { TYPE_AT = 12, TYPE = 0x88e5, TCI_AT = 14, SC = 0x20, SCI_AT = 20, SCI = 8
 /* Instructions of the program: before the channels, of a channel, and after them. */
 enum { BEFORE = 12, EACH = 5, AFTER = 1, PROGRAM = BEFORE + EACH * MACSEC_RX_CHANNEL_COUNT + AFTER };
 
-/* The SCIs of the receive channels. */
-struct channels {
-    uint8_t sci[MACSEC_RX_CHANNEL_COUNT][SCI];
-    unsigned count;
-};
-
-static void find_channels(const struct device *d, struct channels *c) {
-    c->count = 0;
-    while (c->count < MACSEC_RX_CHANNEL_COUNT && macsec_get_rx_sc(d->endpoint, c->count, c->sci[c->count]) == MACSEC_OK)
-        c->count++;
-}
-
 /* Does the endpoint drop each frame that has no SecTAG, or an SCI of no channel? */
 static bool is_strict(const struct device *d) {
     macsec_options options;
     return macsec_get_options(d->endpoint, &options) == MACSEC_OK && options.mode == MACSEC_MODE_STRICT;
 }
-
-/* ---- The filter ---- */
 
 static uint32_t word(const uint8_t *octets) {
     return (uint32_t)octets[0] << 24 | (uint32_t)octets[1] << 16 | (uint32_t)octets[2] << 8 | octets[3];
@@ -52,8 +38,9 @@ static struct sock_filter *put_test(struct sock_filter *at, unsigned test, uint3
 /* Makes a program that drops frames without a SecTAG and those with an SCI of no channel. After a VLAN tag, which the
  * system has taken out, the endpoint looks for no SecTAG. A frame that is too short for a value to be loaded is
  * dropped. */
-static unsigned short make_program(const struct channels *c, struct sock_filter program[PROGRAM]) {
+static unsigned short make_program(const struct device *d, struct sock_filter program[PROGRAM]) {
     struct sock_filter *at = program;
+    uint8_t sci[SCI];
     at = put(at, BPF_LD | BPF_B | BPF_ABS, (uint32_t)(SKF_AD_OFF + SKF_AD_VLAN_TAG_PRESENT));
     at = put_test(at, BPF_JEQ, 0, 0, 2);
     at = put(at, BPF_LD | BPF_H | BPF_ABS, TYPE_AT);
@@ -66,11 +53,11 @@ static unsigned short make_program(const struct channels *c, struct sock_filter 
         at = put(at, BPF_LD | BPF_W | BPF_ABS, SCI_AT + 4 * half);
         at = put(at, BPF_ST, half);
     }
-    for (unsigned i = 0; i < c->count; i++) {
+    for (size_t i = 0; i < MACSEC_RX_CHANNEL_COUNT && macsec_get_rx_sc(d->endpoint, i, sci) == MACSEC_OK; i++) {
         at = put(at, BPF_LD | BPF_MEM, 0);
-        at = put_test(at, BPF_JEQ, word(c->sci[i]), 0, 3);
+        at = put_test(at, BPF_JEQ, word(sci), 0, 3);
         at = put(at, BPF_LD | BPF_MEM, 1);
-        at = put_test(at, BPF_JEQ, word(c->sci[i] + 4), 0, 1);
+        at = put_test(at, BPF_JEQ, word(sci + 4), 0, 1);
         at = put(at, BPF_RET | BPF_K, UINT32_MAX);
     }
     at = put(at, BPF_RET | BPF_K, 0);
@@ -84,11 +71,9 @@ void floods_note(struct device *d, uint32_t verdict) {
 void floods_stop(struct device *d) {
     struct sock_filter program[PROGRAM];
     struct sock_fprog filter = { 0, program };
-    struct channels c;
     if (d->floods.frames < FLOOD || d->floods.filtered || !is_strict(d))
         return;
-    find_channels(d, &c);
-    filter.len = make_program(&c, program);
+    filter.len = make_program(d, program);
     if (setsockopt(d->link.socket, SOL_SOCKET, SO_ATTACH_FILTER, &filter, sizeof filter) != 0) {
         message_of_errno("LINK %s: no filter against a flood", d->link.name);
         return;

@@ -18,15 +18,12 @@ enum { GOES_ON = -1 };
 /* ---- Opening ---- */
 
 int loop_block_signals(struct device *d) {
+    /* SIGXFSZ: else a journal above a limit ends macsecd, where a write can fail */
+    static const int blocked[] = { SIGTERM, SIGINT, SIGHUP, SIGPIPE, SIGUSR1, SIGUSR2, SIGXFSZ };
     sigset_t set;
     sigemptyset(&set);
-    sigaddset(&set, SIGTERM);
-    sigaddset(&set, SIGINT);
-    sigaddset(&set, SIGHUP);
-    sigaddset(&set, SIGPIPE);
-    sigaddset(&set, SIGUSR1);
-    sigaddset(&set, SIGUSR2);
-    sigaddset(&set, SIGXFSZ); /* else a journal above a limit ends macsecd, where a write can fail */
+    for (size_t i = 0; i < sizeof blocked / sizeof *blocked; i++)
+        sigaddset(&set, blocked[i]);
     if (sigprocmask(SIG_BLOCK, &set, NULL) != 0)
         return message_of_errno("signals");
     d->signals = signalfd(-1, &set, SFD_NONBLOCK | SFD_CLOEXEC);

@@ -10,22 +10,14 @@
 /* The most messages that are read in one call, so that a busy system does not keep macsecd from its frames. */
 enum { MESSAGES = 256 };
 
-/* ---- Asking ---- */
-
 /* Asks for the state of the device of this index. The answer is read as a report is. */
 static int ask(const struct rtnetlink *f, int index) {
-    struct {
+    const struct {
         struct nlmsghdr header;
         struct ifinfomsg about;
-    } request;
-    ssize_t sent;
-    memset(&request, 0, sizeof request);
-    request.header.nlmsg_len = sizeof request;
-    request.header.nlmsg_type = RTM_GETLINK;
-    request.header.nlmsg_flags = NLM_F_REQUEST;
-    request.about.ifi_family = AF_UNSPEC;
-    request.about.ifi_index = index;
-    sent = TEMP_FAILURE_RETRY(send(f->socket, &request, sizeof request, 0));
+    } request = { { .nlmsg_len = sizeof request, .nlmsg_type = RTM_GETLINK, .nlmsg_flags = NLM_F_REQUEST },
+                  { .ifi_family = AF_UNSPEC, .ifi_index = index } };
+    ssize_t sent = TEMP_FAILURE_RETRY(send(f->socket, &request, sizeof request, 0));
     /* Without memory for it, the question is asked again in a second. */
     if (sent == (ssize_t)sizeof request || errno == ENOBUFS || errno == ENOMEM || errno == EAGAIN)
         return 0;
@@ -79,11 +71,8 @@ static void note_attributes(struct device *d, const struct ifinfomsg *about, siz
         size_t step = RTA_ALIGN(a->rta_len);
         if (a->rta_type == IFLA_ADDRESS)
             note_address(d, value, a->rta_len - RTA_LENGTH(0));
-        if (a->rta_type == IFLA_MTU && a->rta_len == RTA_LENGTH(sizeof(uint32_t))) {
-            uint32_t mtu;
-            memcpy(&mtu, value, sizeof mtu);
-            note_link_mtu(d, mtu);
-        }
+        if (a->rta_type == IFLA_MTU && a->rta_len == RTA_LENGTH(sizeof(uint32_t)))
+            note_link_mtu(d, *(const uint32_t *)value);
         if (step >= length)
             return;
         length -= step;
