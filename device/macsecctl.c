@@ -25,12 +25,12 @@ enum { REQUEST = 128 * 1024, ANSWER = 512 * 1024 };
 
 static char request[REQUEST + 1], answer[ANSWER], earlier[ANSWER];
 
-static int fail(const char *what) {
-    fprintf(stderr, "macsecctl: %s: %s\n", what, strerror(errno));
-    return 1;
-}
+/* Prints a line about what is wrong. Its value is the status. */
+#define WRONG(status, ...) (fprintf(stderr, "macsecctl: " __VA_ARGS__), (status))
 
-/* ---- The socket ---- */
+static int fail(const char *what, int status) {
+    return WRONG(status, "%s: %s\n", what, strerror(errno));
+}
 
 /* Connects. Returns -1 after a message. */
 static int connected(const char *path, const char *name) {
@@ -38,17 +38,13 @@ static int connected(const char *path, const char *name) {
     int length = path != NULL ? snprintf(address.sun_path, sizeof address.sun_path, "%s", path)
                               : snprintf(address.sun_path, sizeof address.sun_path, "/run/macsec/%s.sock", name);
     int file = socket(AF_UNIX, SOCK_SEQPACKET | SOCK_CLOEXEC, 0);
-    if (length < 0 || (size_t)length >= sizeof address.sun_path) {
-        fprintf(stderr, "macsecctl: the path of the socket is too long\n");
-        return -1;
-    }
+    if (length < 0 || (size_t)length >= sizeof address.sun_path)
+        return WRONG(-1, "the path of the socket is too long\n");
     if (file >= 0 && connect(file, (const struct sockaddr *)&address, sizeof address) == 0)
         return file;
-    if (errno == ENOENT || errno == ECONNREFUSED)
-        fprintf(stderr, "macsecctl: %s: %s: is macsecd@%s running?\n", address.sun_path, strerror(errno), name);
-    else
-        (void)fail(address.sun_path);
-    return -1;
+    if (errno != ENOENT && errno != ECONNREFUSED)
+        return fail(address.sun_path, -1);
+    return WRONG(-1, "%s: %s: is macsecd@%s running?\n", address.sun_path, strerror(errno), name);
 }
 
 /* Whatever has answered, no octet of it is a command to the terminal. */
@@ -63,15 +59,11 @@ static void make_printable(char *octets, size_t length) {
 static bool ask(int file, size_t length) {
     ssize_t count = TEMP_FAILURE_RETRY(send(file, request, length, MSG_NOSIGNAL));
     explicit_bzero(request, sizeof request);
-    if (count < 0) {
-        (void)fail("macsecd");
-        return false;
-    }
+    if (count < 0)
+        return fail("macsecd", false);
     count = TEMP_FAILURE_RETRY(recv(file, answer, sizeof answer - 1, 0));
-    if (count <= 0) {
-        fprintf(stderr, "macsecctl: macsecd has closed the connection\n");
-        return false;
-    }
+    if (count <= 0)
+        return WRONG(false, "macsecd has closed the connection\n");
     make_printable(answer, (size_t)count);
     return true;
 }
@@ -116,17 +108,13 @@ static int ask_and_print(int file, size_t length) {
     return 2;
 }
 
-/* ---- One request ---- */
-
 static int ask_words(int file, int count, char **words) {
     size_t length = 0;
     for (int i = 0; i < count; i++) {
         int more = snprintf(request + length, sizeof request - length, "%s%s", i == 0 ? "" : " ", words[i]);
         length += more < 0 ? 0 : (size_t)more;
-        if (length >= sizeof request) {
-            fprintf(stderr, "macsecctl: the request is too long\n");
-            return 2;
-        }
+        if (length >= sizeof request)
+            return WRONG(2, "the request is too long\n");
     }
     return ask_and_print(file, length);
 }
@@ -135,20 +123,14 @@ static int ask_words(int file, int count, char **words) {
 
 /* Reads lines after what the request has already. Returns the length of the request, or 0 after a message. */
 static size_t read_lines(int file, size_t length) {
-    ssize_t count;
-    while (length < sizeof request && (count = read(file, request + length, sizeof request - length)) != 0) {
-        if (count < 0 && errno == EINTR)
-            continue;
-        if (count < 0) {
-            (void)fail("the lines");
-            return 0;
-        }
+    ssize_t count = 1;
+    while (count != 0 && length < sizeof request) {
+        count = TEMP_FAILURE_RETRY(read(file, request + length, sizeof request - length));
+        if (count < 0)
+            return (size_t)fail("the lines", 0);
         length += (size_t)count;
     }
-    if (length < sizeof request)
-        return length;
-    fprintf(stderr, "macsecctl: the lines have more than %d octets\n", REQUEST - 5);
-    return 0;
+    return length < sizeof request ? length : WRONG(0, "the lines have more than %d octets\n", REQUEST - 5);
 }
 
 static int load(int file, int lines) {
@@ -164,10 +146,8 @@ static int load(int file, int lines) {
 
 static int load_file(int file, const char *path) {
     int result, lines = open(path, O_RDONLY | O_CLOEXEC);
-    if (lines < 0) {
-        (void)fail(path);
-        return 2;
-    }
+    if (lines < 0)
+        return fail(path, 2);
     result = load(file, lines);
     (void)close(lines); /* it was only read */
     return result;
@@ -215,13 +195,11 @@ static int watch(int file) {
             return 1;
         print_changes();
         if (ferror(stdout))
-            return fail("standard output");
+            return fail("standard output", 1);
         memcpy(earlier, answer, strlen(answer) + 1);
         (void)sleep(1);
     }
 }
-
-/* ---- The whole ---- */
 
 static const char help[] = "A COMMAND ..            a command of macsec(5) for end A\n"
                            "close                   ends the endpoint\n"
@@ -269,7 +247,5 @@ int main(int count, char **words) {
         return 2;
     }
     result = run(path, words[first], count - first - 1, words + first + 1);
-    if (fflush(stdout) != 0 || ferror(stdout))
-        return fail("standard output");
-    return result;
+    return fflush(stdout) != 0 || ferror(stdout) ? fail("standard output", 1) : result;
 }
