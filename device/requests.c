@@ -3,21 +3,19 @@
 
 /* ---- Reading ---- */
 
-/* Adds the line of one association. */
-static void answer_one_number(struct device *d, struct text *t, const struct words *w) {
-    bool sends = words_is(w, 1, "tx");
+/* Adds the line of one association. The library reads `numbers tx AN` and `numbers rx SCI AN` as the lines `A txon AN`
+ * and `A rxon SCI AN`, which are written over the request. */
+static void answer_one_number(struct device *d, struct text *t, const struct words *w, char *request, size_t length) {
+    const char *start = words_is(w, 1, "tx") ? "A txon" : "A rxon";
+    size_t at = (size_t)(w->at[1] + strlen("tx") - request) - strlen(start);
+    macsec_command c;
     uint32_t status;
-    uint8_t sci[8];
-    uint64_t an;
-    if (w->count != (sends ? 3 : 4))
-        status = MACSEC_E_LINE_COUNT;
-    else if (!sends && !words_sci(w, 2, sci))
-        status = MACSEC_E_LINE_HEX;
-    else if (!words_number(w, w->count - 1, &an) || an >= MACSEC_AN_COUNT)
-        status = MACSEC_E_LINE_NUMBER;
-    else
-        status =
-            sends ? answer_tx_number(t, d->endpoint, (uint8_t)an) : answer_rx_number(t, d->endpoint, sci, (uint8_t)an);
+    memcpy(request + at, start, strlen(start));
+    status = macsec_parse_line((const uint8_t *)request + at, length - at, &c);
+    if (status == MACSEC_OK && c.kind == MACSEC_COMMAND_TX_ON)
+        status = answer_tx_number(t, d->endpoint, c.an);
+    else if (status == MACSEC_OK)
+        status = answer_rx_number(t, d->endpoint, c.sci, c.an);
     if (status != MACSEC_OK)
         answer_result(t, result_of(status));
 }
@@ -35,7 +33,7 @@ static const struct {
 };
 
 /* Answers a request that only reads. Returns false if it is another one. */
-static bool answer_reader(struct device *d, struct text *t, const struct words *w, const char *line, size_t length) {
+static bool answer_reader(struct device *d, struct text *t, const struct words *w, char *line, size_t length) {
     for (size_t i = 0; i < sizeof readers / sizeof *readers; i++)
         if (words_are(w, 0, readers[i].request)) {
             readers[i].answer(t, d);
@@ -43,7 +41,7 @@ static bool answer_reader(struct device *d, struct text *t, const struct words *
         }
     if (!words_is(w, 0, "numbers") || (!words_is(w, 1, "tx") && !words_is(w, 1, "rx")))
         return answer_line(t, d->endpoint, line, length);
-    answer_one_number(d, t, w);
+    answer_one_number(d, t, w, line, length);
     return true;
 }
 
@@ -90,9 +88,9 @@ bool requests_answer(struct device *d, struct text *t, int client, char *request
         length--;
     words_split(&w, request, length);
     reads = !loads && answer_reader(d, t, &w, request, length);
-    if (loads && port_may_change(d, client) && length <= REQUEST_MAX)
+    if (loads && port_may_change(d, client) && length <= REQUEST_MAX) {
         endpoint_load(d, t, request + sizeof load - 1, length - (sizeof load - 1));
-    else if (!reads) {
+    } else if (!reads) {
         if (loads && length > REQUEST_MAX)
             r.fault = "LoadLong";
         else if (words_are(&w, 0, "own") ? port_may_own(d, client) : port_may_change(d, client))

@@ -37,8 +37,6 @@ bool words_are(const struct words *w, unsigned index, const char *text);
 bool words_copy(const struct words *w, unsigned index, char *to, size_t room);
 /* Reads a decimal number; one that does not fit is UINT64_MAX. Returns false if the word is no decimal number. */
 bool words_number(const struct words *w, unsigned index, uint64_t *number);
-/* Reads an SCI. Returns false if the word is none. */
-bool words_sci(const struct words *w, unsigned index, uint8_t sci[8]);
 /* Takes the next line of a text, without its line feed. Returns NULL if there is none. */
 const char *words_line(const char **text, size_t *left, size_t *length);
 

@@ -64,17 +64,6 @@ bool words_number(const struct words *w, unsigned index, uint64_t *number) {
     return true;
 }
 
-bool words_sci(const struct words *w, unsigned index, uint8_t sci[8]) {
-    char text[SCI_TEXT];
-    if (!words_copy(w, index, text, sizeof text) || strspn(text, "0123456789abcdefABCDEF") != SCI_TEXT - 1)
-        return false;
-    for (int i = 0; i < 8; i++) {
-        char pair[3] = { text[2 * i], text[2 * i + 1], '\0' };
-        sci[i] = (uint8_t)strtoul(pair, NULL, 16);
-    }
-    return true;
-}
-
 const char *words_line(const char **text, size_t *left, size_t *length) {
     const char *line = *text;
     const char *feed;
