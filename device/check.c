@@ -51,6 +51,13 @@ __attribute__((format(printf, 3, 4))) static void say(struct check *c, enum kind
     c->found[kind]++;
 }
 
+/* Takes what is wrong, or NULL. */
+static bool is_right(struct check *c, const char *wrong) {
+    if (wrong != NULL)
+        say(c, FAULT, "%s", wrong);
+    return wrong == NULL;
+}
+
 /* ---- What the library says of a line ---- */
 
 /* What a status says, and what to do. */
@@ -310,10 +317,9 @@ static void find_link(struct check *c) {
 
 static void check_device_line(struct check *c) {
     const struct words *w = &c->words;
-    const char *wrong = config_take(&c->config, w);
-    if (wrong != NULL)
-        say(c, FAULT, "%s", wrong);
-    else if (words_is(w, 1, "link") && !c->is_there)
+    if (!is_right(c, config_take(&c->config, w)))
+        return;
+    if (words_is(w, 1, "link") && !c->is_there)
         say(c, HINT, "there is no network device %s: macsecd ends with status 1 until there is", c->config.link);
     else if (words_is(w, 1, "link") && !c->is_ethernet)
         say(c, FAULT, "LINK %s is not an Ethernet device; name one", c->config.link);
@@ -359,11 +365,9 @@ static void check_command(struct check *c, const struct commands *it) {
 
 static void check_line(struct check *c, const struct commands *it) {
     uint8_t *line = c->config.text + (it->line - (const char *)c->config.text);
-    const char *wrong = config_zero(it->line, it->length);
     c->line = it->number;
     words_split(&c->words, it->line, it->length);
-    if (wrong != NULL) {
-        say(c, FAULT, "%s", wrong);
+    if (!is_right(c, config_zero(it->line, it->length))) {
         memset(line, '#', it->length); /* as below */
     } else if (words_is(&c->words, 0, "device")) {
         check_device_line(c);
@@ -375,14 +379,11 @@ static void check_line(struct check *c, const struct commands *it) {
 
 static void check_lines(struct check *c) {
     struct commands it = { .text = (const char *)c->config.text, .left = c->config.length };
-    const char *wrong;
     while (!c->is_failed && commands_next(&it))
         check_line(c, &it);
     macsec_clear_command(&it.command);
     c->line = 0;
-    wrong = config_disagreement(&c->config);
-    if (wrong != NULL)
-        say(c, FAULT, "%s", wrong);
+    (void)is_right(c, config_disagreement(&c->config));
 }
 
 /* ---- The journal ---- */
@@ -445,24 +446,17 @@ int check_configuration(const char *name) {
     static struct check check = { .endpoint = MACSEC_ENDPOINT_INIT };
     struct check *c = &check;
     const char *wrong;
-    int result;
     if (strchr(name, '/') == NULL && !config_is_name(name))
         return message_wrong("no device can have the name %s", name);
     c->name = strchr(name, '/') == NULL ? name : NULL;
     name_tap(&c->config, name);
-    result = confine_memory();
-    if (result == 0)
-        result = config_look(&c->config, name, &wrong);
-    if (result != 0)
-        return result;
-    if (wrong != NULL)
-        say(c, FAULT, "%s", wrong);
+    RETURN_IF_FAILED(confine_memory());
+    RETURN_IF_FAILED(config_look(&c->config, name, &wrong));
+    (void)is_right(c, wrong);
     if (c->config.text == NULL)
         return finish(c);
     c->line = 1;
-    wrong = config_take_mark(&c->config);
-    if (wrong != NULL)
-        say(c, FAULT, "%s", wrong);
+    (void)is_right(c, config_take_mark(&c->config));
     look_ahead(c);
     find_link(c);
     check_lines(c);

@@ -56,15 +56,10 @@ static int read_text(struct config *c, int file, size_t size) {
         message("%s: out of memory", c->path);
         return ENDS_FAILED;
     }
-    while (c->length < size) {
-        ssize_t count = read(file, c->text + c->length, size - c->length);
-        if (count < 0 && errno == EINTR)
-            continue;
+    for (ssize_t count = 1; count > 0 && c->length < size; c->length += (size_t)count) {
+        count = TEMP_FAILURE_RETRY(read(file, c->text + c->length, size - c->length));
         if (count < 0)
             return message_of_errno("%s", c->path);
-        if (count == 0)
-            break;
-        c->length += (size_t)count;
     }
     return 0;
 }
@@ -98,13 +93,10 @@ static int read_file(struct config *c, const char *name, bool anyhow, const char
     *fault = NULL;
     if (file < 0)
         return message_of_errno("cannot open %s", c->path);
-    if (fstat(file, &status) != 0) {
+    if (fstat(file, &status) != 0)
         result = message_of_errno("%s", c->path);
-    } else {
-        *fault = fault_of_file(&status, is_credential);
-        if (*fault == NULL || (anyhow && S_ISREG(status.st_mode)))
-            result = read_text(c, file, (size_t)status.st_size);
-    }
+    else if ((*fault = fault_of_file(&status, is_credential)) == NULL || (anyhow && S_ISREG(status.st_mode)))
+        result = read_text(c, file, (size_t)status.st_size);
     (void)close(file); /* it was only read */
     return result;
 }

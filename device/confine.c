@@ -182,10 +182,8 @@ int confine_calls(enum thread thread) {
 #endif
 
 int confine_rights(int state, bool unconfined) {
-    int result;
     drop_bounding_set();
-    result = leave_root(state);
-    if (result == 0)
-        result = drop_capabilities();
-    return result == 0 ? restrict_files(state, unconfined) : result;
+    RETURN_IF_FAILED(leave_root(state));
+    RETURN_IF_FAILED(drop_capabilities());
+    return restrict_files(state, unconfined);
 }

@@ -9,7 +9,7 @@
 /* The folder of the socket, and its name there, while it is opened. */
 struct place {
     int folder;
-    char file[IF_NAMESIZE + 8];
+    const char *file;
 };
 
 /* The permissions are set before anybody can connect: listen comes after it. */
@@ -49,29 +49,25 @@ static int open_folder(struct place *p, const char *path) {
 /* Opens the socket in its folder. */
 static int open_socket(struct control *k, const struct place *p, const struct sockaddr_un *address,
                        const struct config *c) {
-    int result;
     k->listener = socket(AF_UNIX, SOCK_SEQPACKET | SOCK_NONBLOCK | SOCK_CLOEXEC, 0);
     if (k->listener < 0)
         return message_of_errno("control socket");
-    result = bind_socket(k, p, address);
-    if (result == 0)
-        result = set_owner(p, c);
-    return result == 0 && listen(k->listener, CLIENTS) != 0 ? message_of_errno("control socket") : result;
+    RETURN_IF_FAILED(bind_socket(k, p, address));
+    RETURN_IF_FAILED(set_owner(p, c));
+    return listen(k->listener, CLIENTS) == 0 ? 0 : message_of_errno("control socket");
 }
 
 int control_open(struct control *k, const char *name, const struct config *c) {
     struct sockaddr_un address = { .sun_family = AF_UNIX };
-    struct place place;
+    struct place place = { .folder = -1 };
     int result;
     for (int i = 0; i < CLIENTS; i++)
         k->clients[i] = -1;
     k->listener = -1;
     if (!config_path(address.sun_path, sizeof address.sun_path, "RUNTIME_DIRECTORY", "/run/macsec", name, ".sock"))
         return message_wrong("the path of the control socket is too long");
-    snprintf(place.file, sizeof place.file, "%s.sock", name);
-    result = open_folder(&place, address.sun_path);
-    if (result != 0)
-        return result;
+    place.file = strrchr(address.sun_path, '/') + 1;
+    RETURN_IF_FAILED(open_folder(&place, address.sun_path));
     result = open_socket(k, &place, &address, c);
     (void)close(place.folder);
     return result;

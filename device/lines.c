@@ -9,8 +9,6 @@ static uint32_t begin_at(macsec_endpoint *e, const macsec_command *c, uint64_t n
     return macsec_carry_out(e, &other);
 }
 
-/* ---- Above the numbers that were used, or accepted ---- */
-
 /* Would the endpoint refuse to send from this packet number on, because it may have been used? An association that the
  * test begins is deleted again: it was never enabled, so it has sent nothing. */
 static bool is_used(macsec_endpoint *e, const macsec_command *c, uint64_t number) {
@@ -64,8 +62,6 @@ static uint32_t begin_above(macsec_endpoint *e, const macsec_command *c, uint64_
         *raised = number;
     return status == MACSEC_E_PN_RANGE ? MACSEC_E_PN_FLOOR : status; /* no packet number is left to the key */
 }
-
-/* ---- Commands ---- */
 
 uint32_t lines_carry_out(struct numbers *n, macsec_endpoint *e, const macsec_command *c, uint64_t *raised) {
     bool begins = c->kind == MACSEC_COMMAND_TX_SA || c->kind == MACSEC_COMMAND_RX_SA;

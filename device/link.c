@@ -15,13 +15,13 @@ enum { WHOLE = LINK_BUFFER - TAG - 1, UDP_SEGMENTS = 5 };
 
 /* ---- Opening ---- */
 
-static int set(int socket, int level, int option, const void *value, socklen_t length, const char *what) {
-    return setsockopt(socket, level, option, value, length) == 0 ? 0 : message_of_errno("LINK: %s", what);
+static int set(const struct link *l, int option, const void *value, socklen_t length, const char *what) {
+    return setsockopt(l->socket, SOL_PACKET, option, value, length) == 0 ? 0 : message_of_errno("LINK: %s", what);
 }
 
 static int join(const struct link *l, unsigned short type, const char *what) {
     struct packet_mreq request = { .mr_ifindex = l->index, .mr_type = type };
-    return set(l->socket, SOL_PACKET, PACKET_ADD_MEMBERSHIP, &request, sizeof request, what);
+    return set(l, PACKET_ADD_MEMBERSHIP, &request, sizeof request, what);
 }
 
 /* With CAP_NET_ADMIN the buffer may be larger than what the system allows to all. */
@@ -40,9 +40,8 @@ static int read_properties(struct link *l) {
     memcpy(request.ifr_name, l->name, IF_NAMESIZE);
     if (ioctl(l->socket, SIOCGIFHWADDR, &request) != 0)
         return message_of_errno("LINK %s: its address", l->name);
-    if (request.ifr_hwaddr.sa_family != 1) { /* ARPHRD_ETHER */
+    if (request.ifr_hwaddr.sa_family != 1) /* ARPHRD_ETHER */
         return message_wrong("LINK %s is not an Ethernet device", l->name);
-    }
     memcpy(l->address, request.ifr_hwaddr.sa_data, sizeof l->address);
     if (ioctl(l->socket, SIOCGIFMTU, &request) != 0)
         return message_of_errno("LINK %s: its MTU", l->name);
@@ -59,7 +58,7 @@ static int bind_socket(const struct link *l) {
 }
 
 int link_open(struct link *l, const char *name) {
-    int one = 1, result;
+    const int one = 1;
     memcpy(l->name, name, IF_NAMESIZE);
     l->socket = socket(AF_PACKET, SOCK_RAW | SOCK_NONBLOCK | SOCK_CLOEXEC, 0);
     if (l->socket < 0)
@@ -68,12 +67,11 @@ int link_open(struct link *l, const char *name) {
     if (l->index == 0)
         return message_of_errno("LINK %s", name);
     set_buffer(l->socket);
-    if ((result = read_properties(l)) != 0 ||
-        (result = set(l->socket, SOL_PACKET, PACKET_AUXDATA, &one, sizeof one, "auxiliary data")) != 0 ||
-        (result = set(l->socket, SOL_PACKET, PACKET_VNET_HDR, &one, sizeof one, "what frames lack")) != 0 ||
-        (result = set(l->socket, SOL_PACKET, PACKET_IGNORE_OUTGOING, &one, sizeof one, "ignoring sent frames")) != 0 ||
-        (result = join(l, PACKET_MR_ALLMULTI, "all multicast frames")) != 0)
-        return result;
+    RETURN_IF_FAILED(read_properties(l));
+    RETURN_IF_FAILED(set(l, PACKET_AUXDATA, &one, sizeof one, "auxiliary data"));
+    RETURN_IF_FAILED(set(l, PACKET_VNET_HDR, &one, sizeof one, "what frames lack"));
+    RETURN_IF_FAILED(set(l, PACKET_IGNORE_OUTGOING, &one, sizeof one, "ignoring sent frames"));
+    RETURN_IF_FAILED(join(l, PACKET_MR_ALLMULTI, "all multicast frames"));
     return bind_socket(l);
 }
 

@@ -12,8 +12,8 @@ enum { TAP, LINK, SIGNALS, CLOCK, RTNETLINK, LISTENER, JOURNAL, WORKERS, CLIENT 
 /* The most events of a wait. */
 enum { EVENTS = CLIENT + CLIENTS };
 
-/* What handling an event gives beside an exit status of 0 or more: the loop goes on. */
-enum { GOES_ON = -1 };
+/* What handling an event gives beside an exit status: 0, and the loop goes on; or this, and macsecd ends with 0. */
+enum { ENDS_WELL = -1 };
 
 /* ---- Opening ---- */
 
@@ -30,10 +30,10 @@ int loop_block_signals(struct device *d) {
     return d->signals < 0 ? message_of_errno("signals") : 0;
 }
 
-/* Has the loop wait for events of a file. Returns GOES_ON, or the exit status after a message. */
+/* Has the loop wait for events of a file. */
 static int watch(const struct device *d, int operation, int file, uint32_t events, uint32_t about) {
     struct epoll_event event = { .events = events, .data.u32 = about };
-    return epoll_ctl(d->events, operation, file, &event) == 0 ? GOES_ON : message_of_errno("epoll");
+    return epoll_ctl(d->events, operation, file, &event) == 0 ? 0 : message_of_errno("epoll");
 }
 
 static int open_clock(struct device *d) {
@@ -43,20 +43,16 @@ static int open_clock(struct device *d) {
 }
 
 int loop_open(struct device *d) {
-    const int files[WORKERS] = { d->tap.file,         d->link.socket,          d->signals, -1, d->rtnetlink.socket,
-                                 d->control.listener, numbers_file(d->numbers) };
-    int result = open_clock(d);
+    const int *const files[WORKERS] = { &d->tap.file, &d->link.socket,      &d->signals,
+                                        &d->clock,    &d->rtnetlink.socket, &d->control.listener };
+    RETURN_IF_FAILED(open_clock(d));
     d->events = epoll_create1(EPOLL_CLOEXEC);
     if (d->events < 0)
         return message_of_errno("epoll");
-    if (result != 0)
-        return result;
-    result = GOES_ON;
-    for (uint32_t i = 0; i < WORKERS && result == GOES_ON; i++)
-        result = watch(d, EPOLL_CTL_ADD, i == CLOCK ? d->clock : files[i], EPOLLIN, i);
-    if (result == GOES_ON && d->workers != NULL)
-        result = watch(d, EPOLL_CTL_ADD, workers_file(d->workers), EPOLLIN, WORKERS);
-    return result == GOES_ON ? 0 : result;
+    for (uint32_t i = 0; i < JOURNAL; i++)
+        RETURN_IF_FAILED(watch(d, EPOLL_CTL_ADD, *files[i], EPOLLIN, i));
+    RETURN_IF_FAILED(watch(d, EPOLL_CTL_ADD, numbers_file(d->numbers), EPOLLIN, JOURNAL));
+    return d->workers == NULL ? 0 : watch(d, EPOLL_CTL_ADD, workers_file(d->workers), EPOLLIN, WORKERS);
 }
 
 /* ---- Events ---- */
@@ -64,19 +60,16 @@ int loop_open(struct device *d) {
 /* While frames wait for LINK, none is read from TAP, so that its queue fills and the client slows down. */
 static int watch_ports(struct device *d, bool *blocked) {
     bool waits = link_waiting(&d->link) > 0;
-    int result;
     if (waits == *blocked)
-        return GOES_ON;
+        return 0;
     *blocked = waits;
-    result = watch(d, EPOLL_CTL_MOD, d->tap.file, waits ? 0 : EPOLLIN, TAP);
-    if (result == GOES_ON)
-        result = watch(d, EPOLL_CTL_MOD, d->link.socket, waits ? EPOLLIN | EPOLLOUT : EPOLLIN, LINK);
-    return result;
+    RETURN_IF_FAILED(watch(d, EPOLL_CTL_MOD, d->tap.file, waits ? 0 : EPOLLIN, TAP));
+    return watch(d, EPOLL_CTL_MOD, d->link.socket, waits ? EPOLLIN | EPOLLOUT : EPOLLIN, LINK);
 }
 
 /* GONE can mean LINK or TAP. rtnetlink or the next event says which. */
 static int end_of(struct device *d, enum outcome outcome) {
-    return outcome == GONE && !rtnetlink_read(d) ? ENDS_FAILED : GOES_ON;
+    return outcome == GONE && !rtnetlink_read(d) ? ENDS_FAILED : 0;
 }
 
 /* Nothing is printed here: rtnetlink reports what happened to LINK. The client's answer to a frame, as to an echo
@@ -93,8 +86,7 @@ static int on_link(struct device *d, uint32_t events) {
 
 /* A TAP that is deleted has an error. */
 static int on_tap(struct device *d, uint32_t events) {
-    bool failed = (events & (EPOLLERR | EPOLLHUP)) != 0;
-    if (failed) {
+    if ((events & (EPOLLERR | EPOLLHUP)) != 0) {
         message("TAP %s was deleted", d->tap.name);
         return ENDS_FAILED;
     }
@@ -106,22 +98,20 @@ static int on_signal(struct device *d) {
     while (read(d->signals, &got, sizeof got) == (ssize_t)sizeof got)
         if (got.ssi_signo == SIGTERM || got.ssi_signo == SIGINT) {
             message("ends by %s", got.ssi_signo == SIGTERM ? "SIGTERM" : "SIGINT");
-            return 0;
+            return ENDS_WELL;
         }
-    return GOES_ON; /* the others mean nothing here */
+    return 0; /* the others mean nothing here */
 }
 
 /* A connection that is held up would be reported without end. So the listener is not watched until the next second. */
 static int watch_listener(struct device *d, uint32_t events) {
-    if (!d->control.held_up)
-        return GOES_ON;
-    return watch(d, EPOLL_CTL_MOD, d->control.listener, events, LISTENER);
+    return d->control.held_up ? watch(d, EPOLL_CTL_MOD, d->control.listener, events, LISTENER) : 0;
 }
 
 static int on_clock(struct device *d) {
     uint64_t times;
     if (read(d->clock, &times, sizeof times) != (ssize_t)sizeof times)
-        return GOES_ON;
+        return 0;
     d->history.seconds += times;
     numbers_tick(d->numbers, d->endpoint);
     held_frames_tick(d);
@@ -137,17 +127,15 @@ static int on_clock(struct device *d) {
 static int watch_client(struct device *d, int index) {
     bool waits = waits_for(d, index);
     if (waits == d->waits.clients[index].unwatched || d->control.clients[index] < 0)
-        return GOES_ON;
+        return 0;
     d->waits.clients[index].unwatched = waits;
     return watch(d, EPOLL_CTL_MOD, d->control.clients[index], waits ? 0 : EPOLLIN, CLIENT + (uint32_t)index);
 }
 
 /* A connection that has ended needs no answer. */
 static int on_client(struct device *d, int index, uint32_t events) {
-    if (d->control.clients[index] < 0)
-        return GOES_ON;
-    if (waits_for(d, index) && (events & (EPOLLERR | EPOLLHUP)) == 0)
-        return GOES_ON;
+    if (d->control.clients[index] < 0 || (waits_for(d, index) && (events & (EPOLLERR | EPOLLHUP)) == 0))
+        return 0;
     waits_client_gone(d, index);
     (void)control_answer(d, index);
     return watch_client(d, index);
@@ -155,13 +143,12 @@ static int on_client(struct device *d, int index, uint32_t events) {
 
 /* Sends answers whose time has come. */
 static int send_answers(struct device *d) {
-    int result = GOES_ON;
     if (d->waits.answers == 0)
-        return result;
+        return 0;
     waits_send(d);
-    for (int i = 0; i < CLIENTS && result == GOES_ON; i++)
-        result = watch_client(d, i);
-    return result;
+    for (int i = 0; i < CLIENTS; i++)
+        RETURN_IF_FAILED(watch_client(d, i));
+    return 0;
 }
 
 static int on_listener(struct device *d) {
@@ -175,7 +162,7 @@ static int on_listener(struct device *d) {
 /* What is no frame finds no job under way. */
 static int on_event(struct device *d, const struct epoll_event *event) {
     if (event->data.u32 != TAP && event->data.u32 != LINK && event->data.u32 != WORKERS &&
-        end_of(d, parallel_drain(d)) != GOES_ON)
+        end_of(d, parallel_drain(d)) != 0)
         return ENDS_FAILED;
     switch (event->data.u32) {
     case TAP:
@@ -187,15 +174,15 @@ static int on_event(struct device *d, const struct epoll_event *event) {
     case CLOCK:
         return on_clock(d);
     case RTNETLINK:
-        return rtnetlink_read(d) ? GOES_ON : ENDS_FAILED;
+        return rtnetlink_read(d) ? 0 : ENDS_FAILED;
     case LISTENER:
         return on_listener(d);
     case JOURNAL:
         numbers_go_on(d->numbers, d->endpoint);
-        return GOES_ON;
+        return 0;
     case WORKERS:
         workers_read_event(d->workers);
-        return GOES_ON; /* loop_run goes on with the frames after each event */
+        return 0; /* turn goes on with the frames after each event */
     default:
         return on_client(d, (int)(event->data.u32 - CLIENT), event->events);
     }
@@ -214,24 +201,23 @@ static int wait_for_events(struct device *d, struct epoll_event events[EVENTS]) 
     return count;
 }
 
+static int turn(struct device *d, bool *blocked) {
+    struct epoll_event events[EVENTS];
+    int count = wait_for_events(d, events);
+    if (count < 0 && errno != EINTR)
+        return message_of_errno("epoll");
+    for (int i = 0; i < count; i++)
+        RETURN_IF_FAILED(on_event(d, &events[i]));
+    RETURN_IF_FAILED(end_of(d, held_frames_give(d)));
+    RETURN_IF_FAILED(end_of(d, parallel_go_on(d)));
+    RETURN_IF_FAILED(send_answers(d));
+    return watch_ports(d, blocked);
+}
+
 int loop_run(struct device *d) {
     bool blocked = false;
-    int result = GOES_ON;
-    while (result == GOES_ON) {
-        struct epoll_event events[EVENTS];
-        int count = wait_for_events(d, events);
-        if (count < 0 && errno != EINTR)
-            return message_of_errno("epoll");
-        for (int i = 0; i < count && result == GOES_ON; i++)
-            result = on_event(d, &events[i]);
-        if (result == GOES_ON)
-            result = end_of(d, held_frames_give(d));
-        if (result == GOES_ON)
-            result = end_of(d, parallel_go_on(d));
-        if (result == GOES_ON)
-            result = send_answers(d);
-        if (result == GOES_ON)
-            result = watch_ports(d, &blocked);
-    }
-    return result;
+    int result = 0;
+    while (result == 0)
+        result = turn(d, &blocked);
+    return result == ENDS_WELL ? 0 : result;
 }

@@ -31,47 +31,29 @@ static int configure(struct device *d) {
 /* Opens everything, and then gives up the rights to open more. The endpoint is last: it reserves packet numbers, which
  * a start that fails again and again would use up. */
 static int start(struct device *d) {
-    int result = confine_memory();
+    const struct config *c = &d->config;
+    RETURN_IF_FAILED(confine_memory());
     memory_lock();
-    if (result == 0)
-        result = service_open(&d->service);
-    if (result == 0)
-        result = config_read(&d->config, d->name);
-    if (result == 0)
-        result = namespace_enter(&d->tap, &d->config, d->name);
-    if (result == 0)
-        result = journals_check_disk(d->name, false);
-    if (result == 0)
-        result = numbers_open(&d->numbers, d->name, &d->counts);
-    if (result == 0)
-        result = journals_lock(d->name);
-    if (result == 0)
-        result = journals_check_keys(&d->config, d->name);
-    if (result == 0)
-        result = link_open(&d->link, d->config.link);
-    if (result == 0)
-        result = tap_open(&d->tap, &d->config, &d->link);
-    if (result == 0)
-        result = keys_open(&d->keys);
-    if (result == 0)
-        result = control_open(&d->control, d->name, &d->config);
-    if (result == 0)
-        result = rtnetlink_open(d);
-    if (result == 0)
-        result = workers_open(&d->workers, d->config.has_workers ? d->config.workers : workers_fitting());
-    if (result == 0)
-        result = loop_open(d);
-    if (result == 0)
-        result = confine_rights(numbers_folder(d->numbers), d->config.unconfined);
-    if (result == 0)
-        result = configure(d);
-    if (result == 0)
-        result = numbers_start(d->numbers, d->endpoint); /* the threads have no other rights either */
-    if (result == 0)
-        result = workers_start(d->workers);
-    if (result == 0)
-        result = rtnetlink_begin(d);
-    return result == 0 ? confine_calls(ENDPOINT_THREAD) : result;
+    RETURN_IF_FAILED(service_open(&d->service));
+    RETURN_IF_FAILED(config_read(&d->config, d->name));
+    RETURN_IF_FAILED(namespace_enter(&d->tap, c, d->name));
+    RETURN_IF_FAILED(journals_check_disk(d->name, false));
+    RETURN_IF_FAILED(numbers_open(&d->numbers, d->name, &d->counts));
+    RETURN_IF_FAILED(journals_lock(d->name));
+    RETURN_IF_FAILED(journals_check_keys(c, d->name));
+    RETURN_IF_FAILED(link_open(&d->link, c->link));
+    RETURN_IF_FAILED(tap_open(&d->tap, c, &d->link));
+    RETURN_IF_FAILED(keys_open(&d->keys));
+    RETURN_IF_FAILED(control_open(&d->control, d->name, c));
+    RETURN_IF_FAILED(rtnetlink_open(d));
+    RETURN_IF_FAILED(workers_open(&d->workers, c->has_workers ? c->workers : workers_fitting()));
+    RETURN_IF_FAILED(loop_open(d));
+    RETURN_IF_FAILED(confine_rights(numbers_folder(d->numbers), c->unconfined));
+    RETURN_IF_FAILED(configure(d));
+    RETURN_IF_FAILED(numbers_start(d->numbers, d->endpoint)); /* the threads have no other rights either */
+    RETURN_IF_FAILED(workers_start(d->workers));
+    RETURN_IF_FAILED(rtnetlink_begin(d));
+    return confine_calls(ENDPOINT_THREAD);
 }
 
 /* Says which frames pass beside MACsec, which no line of the configuration can close. */
@@ -124,21 +106,17 @@ static const char *way_of(const struct config *c) {
 
 /* Reads the lines of the device alone. */
 static int read_device(struct config *c, const char *name) {
-    int result = confine_memory();
-    if (result == 0)
-        result = config_read(c, name);
-    if (result == 0)
-        config_wipe(c);
-    return result;
+    RETURN_IF_FAILED(confine_memory());
+    RETURN_IF_FAILED(config_read(c, name));
+    config_wipe(c);
+    return 0;
 }
 
 /* Prints what macsec-link needs of the configuration: LINK, TAP, the largest frame, whether LINK is isolated, and whose
  * TAP is. */
 static int print_settings(const char *name) {
     struct config c;
-    int result = read_device(&c, name);
-    if (result != 0)
-        return result;
+    RETURN_IF_FAILED(read_device(&c, name));
     printf("%s %s %u %s %u\n", c.link, c.tap, (unsigned)c.max_frame, way_of(&c), (unsigned)c.user);
     return messages_flush_output();
 }
@@ -148,17 +126,15 @@ static int own_tap(const char *name) {
     char path[PATH_MAX];
     struct config c;
     struct stat journal;
-    int result = read_device(&c, name);
-    if (result != 0)
-        return result;
+    RETURN_IF_FAILED(read_device(&c, name));
     if (!journals_path(path, sizeof path, name))
         return ENDS_FAILED;
     return tap_own(&c, stat(path, &journal) == 0 ? journal.st_uid : 0);
 }
 
 static int create_journal(const char *name) {
-    int result = journals_check_disk(name, true);
-    return result == 0 ? numbers_create(name) : result;
+    RETURN_IF_FAILED(journals_check_disk(name, true));
+    return numbers_create(name);
 }
 
 int main(int count, char **words) {

@@ -32,8 +32,6 @@ void messages_name(const char *name) {
     device_name = name;
 }
 
-/* ---- Without waiting ---- */
-
 /* O_NONBLOCK is set where no other process has it: it belongs to what was opened, and a shell has opened its terminal.
  * A pipe of another user can't be opened again. A file is written as it is: it would be written from its beginning. */
 void messages_open(void) {
@@ -105,8 +103,6 @@ static void print_line(char line[LONGEST], size_t end) {
     if (lost > 0 || !write_line(line, end))
         lost++;
 }
-
-/* ---- Messages ---- */
 
 static void print(const char *form, va_list arguments, int error) {
     char line[LONGEST];

@@ -74,11 +74,10 @@ static int isolate(int tun, const char *name) {
 }
 
 int namespace_enter(struct tap *t, const struct config *c, const char *name) {
-    int result = 0;
     t->file = open_tun();
     if (t->file < 0)
         return message_of_errno("/dev/net/tun");
     if (!c->shared)
-        result = isolate(t->file, name);
-    return result == 0 ? confine_namespace() : result;
+        RETURN_IF_FAILED(isolate(t->file, name));
+    return confine_namespace();
 }

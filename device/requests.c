@@ -1,8 +1,6 @@
 /* Requests at the control socket: requests that only read, requests to the device, and lines for the endpoint. */
 #include "device.h"
 
-/* ---- Reading ---- */
-
 /* Adds the line of one association. The library reads `numbers tx AN` and `numbers rx SCI AN` as the lines `A txon AN`
  * and `A rxon SCI AN`, which are written over the request. */
 static void answer_one_number(struct device *d, struct text *t, const struct words *w, char *request, size_t length) {
@@ -44,8 +42,6 @@ static bool answer_reader(struct device *d, struct text *t, const struct words *
     answer_one_number(d, t, w, line, length);
     return true;
 }
-
-/* ---- Changing ---- */
 
 static struct result switch_port(struct device *d, bool on) {
     if (on && !endpoint_is_open(d))

@@ -5,8 +5,6 @@
 /* The octets of an age, and of a packet number. */
 enum { AGE = 40, NUMBER = 24 };
 
-/* ---- Words ---- */
-
 /* "3 s ago", "2 min ago", "never". */
 static void age_text(bool ever, uint64_t seconds, char text[AGE]) {
     if (!ever)
@@ -48,8 +46,6 @@ static void left_text(bool extended, uint64_t next, uint64_t high, char text[NUM
     else
         snprintf(text, NUMBER, "%" PRIu64, last - next + 1);
 }
-
-/* ---- Parts ---- */
 
 static void add_link(struct text *t, const struct device *d) {
     const uint8_t *a = d->link.address;

@@ -21,6 +21,14 @@
  * And of --own-tap: only the deletion of TAP takes it from another user. */
 enum { ENDS_FAILED = 1, ENDS_WRONG = 2, ENDS_TAKEN = 3 };
 
+/* Makes a call that gives 0 or an exit status. Then the caller returns this status. */
+#define RETURN_IF_FAILED(call)                                                                                         \
+    do {                                                                                                               \
+        int ends_with = (call);                                                                                        \
+        if (ends_with != 0)                                                                                            \
+            return ends_with;                                                                                          \
+    } while (0)
+
 /* ---- messages.c: what macsecd says, on standard error ---- */
 
 /* Names the device in the messages that follow. */

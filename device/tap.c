@@ -117,12 +117,11 @@ int tap_own(const struct config *c, uid_t user) {
  * frames for TAP. The MTU leaves space for what the endpoint adds. */
 static int set_properties(const struct tap *t, const struct config *c, const struct link *l) {
     struct ifreq request = request_of(t);
-    int result;
     request.ifr_hwaddr.sa_family = ARPHRD_ETHER;
     memcpy(request.ifr_hwaddr.sa_data, l->address, sizeof l->address);
-    result = ask(t->file, SIOCSIFHWADDR, &request, t->name, "its address");
-    if (result != 0 || !c->shared)
-        return result;
+    RETURN_IF_FAILED(ask(t->file, SIOCSIFHWADDR, &request, t->name, "its address"));
+    if (!c->shared)
+        return 0;
     request = request_of(t);
     request.ifr_mtu = (int)tap_mtu(l->mtu, c->max_frame);
     return ask(l->socket, SIOCSIFMTU, &request, t->name, "its MTU");

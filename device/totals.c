@@ -14,8 +14,6 @@ static size_t index_of(const struct totals *t, const uint8_t sci[8]) {
     return i;
 }
 
-/* ---- Reading ---- */
-
 void totals_own(const struct device *d, uint64_t own[OWN_COUNTERS], uint64_t tx[TX_COUNTERS]) {
     macsec_counters all;
     macsec_tx_counters sent;
@@ -41,8 +39,6 @@ uint32_t totals_rx(const struct device *d, const uint8_t sci[8], int an, uint64_
         add(values, an < 0 ? d->totals.channels[i].all : d->totals.channels[i].of_sa[an], RX_COUNTERS);
     return status;
 }
-
-/* ---- Carrying over ---- */
 
 void totals_carry(struct device *d) {
     struct totals sum = { .count = 0 };

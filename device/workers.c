@@ -27,17 +27,12 @@ enum { PAGE = 4096, STACK = 1024 * 1024, USED = 64 * 1024 };
 /* How many jobs wake a worker. */
 enum { LOOKS = WORKERS_LOOKS, WAKES = 8 };
 
-/* How many keys have copies at a time. */
-enum { COPIES = 64 };
-
 /* What the endpoint's thread waits for: nothing, any event of its loop, or one place. */
 enum awaited { NOTHING, EVENT, PLACE };
 
 /* The copies of a key: one for each worker, and one for the endpoint's thread. */
 struct copies {
     bool there, usable; /* not usable: the key could not be taken, which is not tried for each frame */
-    uint16_t number;
-    unsigned jobs; /* that need them */
     macsec_key keys[WORKERS_MAX + 1];
 };
 
@@ -52,8 +47,8 @@ struct workers {
     unsigned count, started, jobs; /* the threads, those that were started, and the jobs since the rings were empty */
     int events;                    /* an eventfd, written when a first frame is there and the loop waits */
     uint8_t *stacks;
-    struct copies copies[COPIES];
-    struct copies *last;
+    struct copies copies[MACSEC_KEY_COUNT]; /* by the numbers of the keys */
+    bool has_copies;
     struct worker each[WORKERS_MAX];
     /* Of all threads. */
     _Alignas(64) _Atomic uint32_t bell; /* changes with each wake */
@@ -83,8 +78,7 @@ static void ring_bell(struct workers *w, int count) {
 /* The counter of an eventfd can't be full here. */
 static void tell(const struct workers *w) {
     const uint64_t one = 1;
-    while (write(w->events, &one, sizeof one) < 0 && errno == EINTR)
-        ;
+    (void)TEMP_FAILURE_RETRY(write(w->events, &one, sizeof one));
 }
 
 /* Its own function, which the caller's frame does not have. */
@@ -271,56 +265,14 @@ unsigned workers_under_way(const struct workers *w, enum direction direction) {
 
 /* ---- Keys ---- */
 
-static void free_copies(struct copies *c) {
-    for (unsigned i = 0; i <= WORKERS_MAX; i++)
-        macsec_key_free(&c->keys[i]);
-    c->there = c->usable = false;
-}
-
-/* Copies that can be made: there are none, or no job needs them. */
-static struct copies *free_place(struct workers *w) {
-    struct copies *found = NULL;
-    for (unsigned i = 0; i < COPIES; i++) {
-        if (!w->copies[i].there)
-            return &w->copies[i];
-        if (w->copies[i].jobs == 0)
-            found = &w->copies[i];
-    }
-    if (found != NULL)
-        free_copies(found);
-    return found;
-}
-
-static struct copies *make_copies(struct workers *w, const macsec_endpoint *e, uint16_t number) {
-    struct copies *c = free_place(w);
-    if (c == NULL)
-        return NULL;
-    c->there = c->usable = true;
-    c->number = number;
-    for (unsigned i = 0; i <= w->count && c->usable; i++)
-        c->usable = macsec_key_take(&c->keys[i], e, number) == MACSEC_OK;
-    return c;
-}
-
 struct copies *workers_copies(struct workers *w, const macsec_endpoint *e, uint16_t number) {
-    struct copies *c = w->last;
-    if (c == NULL || !c->there || c->number != number) {
-        c = NULL;
-        for (unsigned i = 0; i < COPIES && c == NULL; i++)
-            if (w->copies[i].there && w->copies[i].number == number)
-                c = &w->copies[i];
-        if (c == NULL)
-            c = make_copies(w, e, number);
-        w->last = c;
+    struct copies *c = &w->copies[number];
+    if (!c->there) {
+        c->there = c->usable = w->has_copies = true;
+        for (unsigned i = 0; i <= w->count && c->usable; i++)
+            c->usable = macsec_key_take(&c->keys[i], e, number) == MACSEC_OK;
     }
-    return c != NULL && c->usable ? c : NULL;
-}
-
-/* A place is finished, so its job needs no copies any more. */
-static void release(struct ring_place *p) {
-    if (p->copies != NULL)
-        p->copies->jobs--;
-    p->copies = NULL;
+    return c->usable ? c : NULL;
 }
 
 void workers_forget(struct workers *w) {
@@ -330,9 +282,12 @@ void workers_forget(struct workers *w) {
         (void)workers_await(w, SENDING, i);
     for (unsigned i = 0; i < ring_count(&w->rings[RECEIVING]); i++)
         (void)workers_await(w, RECEIVING, i);
-    for (unsigned i = 0; i < COPIES; i++)
-        if (w->copies[i].there)
-            free_copies(&w->copies[i]);
+    for (struct copies *c = w->copies; w->has_copies && c < w->copies + MACSEC_KEY_COUNT; c++) {
+        for (unsigned i = 0; c->there && i <= w->count; i++)
+            macsec_key_free(&c->keys[i]);
+        c->there = c->usable = false;
+    }
+    w->has_copies = false;
     overwrite_stack();
 }
 
@@ -348,13 +303,11 @@ void workers_put(struct workers *w, enum direction direction, struct copies *cop
     ring_put(r, copies != NULL);
     if (copies == NULL)
         return;
-    copies->jobs++;
     if (++w->jobs % WAKES == 0 && ring_untaken(r) >= WAKES)
         ring_bell(w, 1);
 }
 
 void workers_remove(struct workers *w, enum direction direction) {
-    release(ring_first(&w->rings[direction]));
     ring_remove(&w->rings[direction]);
 }
 
@@ -375,7 +328,6 @@ struct ring_place *workers_await(struct workers *w, enum direction direction, un
             __builtin_ia32_pause();
         }
     }
-    release(p);
     return p;
 }
 

@@ -124,7 +124,7 @@ def check_starts(options: Options) -> None:
 def stopping(options: Options) -> pathlib.Path:
     """A macsecd that stops before it opens the journal."""
     opens = "numbers_open(&d->numbers, d->name, &d->counts)"
-    edit = "macsecd.c", f"result = {opens};", f"result = (raise({int(signal.SIGSTOP)}), {opens});"
+    edit = "macsecd.c", f"FAILED({opens});", f"FAILED((raise({int(signal.SIGSTOP)}), {opens}));"
     source = altered(options.folder / f"stopping{next(options.numbers)}", edit, options.source)
     return build(source / "built", options.library, ["-Wno-error"], source)
 
