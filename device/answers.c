@@ -87,12 +87,9 @@ void answer_result(struct text *t, struct result r) {
 /* Takes the number 1 and the space from the beginning of each line. */
 static size_t without_number(char *octets, size_t length) {
     size_t kept = 0;
-    bool begins = true;
-    for (size_t i = 0; i < length; i++) {
-        if (begins && i + 1 < length && octets[i] == '1' && octets[i + 1] == ' ')
-            i += 2;
-        begins = i < length && octets[i] == '\n';
-        if (i < length)
+    for (size_t i = 0, column = 0; i < length; i++) {
+        column = i > 0 && octets[i - 1] == '\n' ? 0 : column;
+        if (column++ >= strlen("1 "))
             octets[kept++] = octets[i];
     }
     return kept;

@@ -19,16 +19,9 @@ static bool is_used(macsec_endpoint *e, const macsec_command *c, uint64_t number
     return false;
 }
 
-/* Finds the lowest packet number above `used` that was not used: first by steps that double, then by halves. */
+/* Finds the lowest packet number above `used` that was not used, by halves. If there is none, it is the greatest. */
 static uint64_t first_unused(macsec_endpoint *e, const macsec_command *c, uint64_t used) {
-    uint64_t unused = used;
-    for (uint64_t step = 1; unused == used || is_used(e, c, unused); step *= 2) {
-        if (unused != used)
-            used = unused;
-        if (used == UINT64_MAX)
-            return used;
-        unused = UINT64_MAX - used < step ? UINT64_MAX : used + step;
-    }
+    uint64_t unused = UINT64_MAX;
     while (unused - used > 1) {
         uint64_t middle = used + (unused - used) / 2;
         if (is_used(e, c, middle))

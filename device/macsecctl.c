@@ -1,12 +1,5 @@
-/* Requests to a running macsecd.
- *
- *     macsecctl [-s SOCKET] NAME REQUEST..    one request; its arguments are joined by spaces
- *     macsecctl [-s SOCKET] NAME load FILE    carries out all lines of a file, or none
- *     macsecctl [-s SOCKET] NAME < FILE       the same
- *     macsecctl [-s SOCKET] NAME watch        each second the counters that have changed
- *     macsecctl [-s SOCKET] NAME help         lists the requests
- *
- * The exit status is 0, 1 if macsecd can't be reached, or 2 if a request is refused or at fault. */
+/* Requests to a running macsecd: `help` lists them, and man/macsecctl.8 has the manual. The exit status is 0, 1 if
+ * macsecd can't be reached, or 2 if a request is refused or at fault. */
 #define _GNU_SOURCE
 #include <ctype.h>
 #include <errno.h>

@@ -1,12 +1,5 @@
-/* A MACsec device for Linux: a TAP device whose frames are protected on the network device below.
- *
- *     macsecd NAME
- *     macsecd --create-journal NAME
- *     macsecd --settings NAME
- *     macsecd --own-tap NAME
- *     macsecd --check NAME
- *
- * man/macsecd.8 has the manual. The library of macsec.h judges every frame; this program moves octets. */
+/* A MACsec device for Linux: a TAP device whose frames are protected on the network device below. man/macsecd.8 has the
+ * manual. The library of macsec.h judges every frame; this program moves octets. */
 #include "device.h"
 #include "workers.h"
 #include <limits.h>

@@ -15,10 +15,8 @@ static size_t index_of(const struct totals *t, const uint8_t sci[8]) {
 }
 
 void totals_own(const struct device *d, uint64_t own[OWN_COUNTERS], uint64_t tx[TX_COUNTERS]) {
-    macsec_counters all;
-    macsec_tx_counters sent;
-    memset(&all, 0, sizeof all);
-    memset(&sent, 0, sizeof sent);
+    macsec_counters all = { 0 };
+    macsec_tx_counters sent = { 0 };
     (void)macsec_get_counters(d->endpoint, &all); /* MACSEC_E_EMPTY leaves 0 */
     (void)macsec_get_tx_counters(d->endpoint, &sent);
     memcpy(own, &all, OWN_COUNTERS * sizeof *own);
@@ -30,9 +28,8 @@ void totals_own(const struct device *d, uint64_t own[OWN_COUNTERS], uint64_t tx[
 uint32_t totals_rx(const struct device *d, const uint8_t sci[8], int an, uint64_t values[RX_COUNTERS]) {
     const macsec_endpoint *e = d->endpoint;
     size_t i = index_of(&d->totals, sci);
-    macsec_rx_counters shown;
+    macsec_rx_counters shown = { 0 };
     uint32_t status;
-    memset(&shown, 0, sizeof shown);
     status = an < 0 ? macsec_get_rx_counters(e, sci, &shown) : macsec_get_rx_sa_counters(e, sci, (uint8_t)an, &shown);
     memcpy(values, &shown, RX_COUNTERS * sizeof *values);
     if (i < d->totals.count)
