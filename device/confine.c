@@ -68,7 +68,10 @@ static int drop_capabilities(void) {
     return 0;
 }
 
-#ifndef MACSECD_UNFILTERED /* sanitizers and valgrind open files and make other calls */
+/* 1 for sanitizers and valgrind, which open files and make other calls. */
+#ifndef MACSECD_UNFILTERED
+#define MACSECD_UNFILTERED 0
+#endif
 
 /* ---- Files ---- */
 
@@ -160,30 +163,18 @@ _Static_assert(sizeof of_journal / sizeof *of_journal <= CALLS_MAX, "the list of
 int confine_calls(enum thread thread) {
     struct sock_filter program[BEFORE + CALLS_MAX + AFTER];
     struct sock_fprog filter = { make_filter(program, lists[thread].calls, lists[thread].count), program };
+    if (MACSECD_UNFILTERED && thread == ENDPOINT_THREAD)
+        message("this build restricts neither its files nor its system calls");
+    if (MACSECD_UNFILTERED)
+        return 0;
     return prctl(PR_SET_SECCOMP, SECCOMP_MODE_FILTER, &filter, 0, 0) == 0
                ? 0
                : message_of_errno("the list of system calls");
 }
 
-#else
-
-static int restrict_files(int state, bool unconfined) {
-    (void)unconfined;
-    (void)state;
-    return 0;
-}
-
-int confine_calls(enum thread thread) {
-    if (thread == ENDPOINT_THREAD)
-        message("this build restricts neither its files nor its system calls");
-    return 0;
-}
-
-#endif
-
 int confine_rights(int state, bool unconfined) {
     drop_bounding_set();
     RETURN_IF_FAILED(leave_root(state));
     RETURN_IF_FAILED(drop_capabilities());
-    return restrict_files(state, unconfined);
+    return MACSECD_UNFILTERED ? 0 : restrict_files(state, unconfined);
 }

@@ -2,7 +2,6 @@
 #ifndef CONTROL_H
 #define CONTROL_H
 
-#include "system.h"
 #include "text.h"
 
 struct device;
@@ -16,7 +15,6 @@ int keys_open(macsec_sak **keys);
 void keys_note(macsec_sak *keys, const macsec_command *c);
 /* Is there a key of this number that is not retired? */
 bool keys_has(const macsec_sak *keys, size_t number);
-/* Does nothing if keys_open has allocated nothing. */
 void keys_wipe(macsec_sak *keys);
 
 /* ---- totals.c: counters over all endpoints that have taken over from each other ---- */
@@ -56,7 +54,6 @@ struct result {
     uint32_t kind;     /* MACSEC_COMMAND_.. */
 };
 
-/* What became of a line, by the status of the library. */
 struct result result_of(uint32_t status);
 /* Creates the endpoint of a configuration's text, or none if the text has no line. Returns the status of the first line
  * that fails, and its number. */
@@ -65,7 +62,6 @@ bool endpoint_is_open(const struct device *d);
 /* Creates an endpoint without keys by `open SCI SUITE FORM`; the present one ends. */
 struct result endpoint_open(struct device *d, const struct words *w);
 void endpoint_close(struct device *d);
-/* Carries out a line of a request. */
 struct result endpoint_command(struct device *d, const char *line, size_t length);
 /* Carries out all lines of a text, or none. Adds the answer. */
 void endpoint_load(struct device *d, struct text *t, const char *lines, size_t length);
@@ -84,22 +80,19 @@ bool handover_finish(struct device *d, macsec_endpoint *e);
 /* Lets the second endpoint take over, even without a reservation: then frames are dropped until one is made. */
 void handover_take(struct device *d, macsec_endpoint *e);
 
-/* ---- answers.c: the text of answers ---- */
+/* ---- answers.c: the text of answers, each for a request ---- */
 
 void sci_text(const uint8_t sci[8], char text[SCI_TEXT]);
-/* The answer to a command. */
 void answer_result(struct text *t, struct result r);
 /* What `macsec run` prints for a line that only reads, `A counters` or `A numbers`, without the number of the line.
  * Returns false if it is another line. */
 bool answer_line(struct text *t, macsec_endpoint *e, const char *line, size_t length);
-/* The packet numbers of all associations. */
 void answer_numbers(struct text *t, const struct device *d);
 /* The counters, with those of the endpoints from which this one has taken over, and what the device counts. */
 void answer_counters(struct text *t, const struct device *d);
 /* Adds the line of one association. Returns the library's status. */
 uint32_t answer_tx_number(struct text *t, const macsec_endpoint *e, uint8_t an);
 uint32_t answer_rx_number(struct text *t, const macsec_endpoint *e, const uint8_t sci[8], uint8_t an);
-/* What LINK is, and where. */
 void answer_link(struct text *t, const struct device *d);
 /* All counters as one JSON object, and in the text format of Prometheus. */
 void answer_json(struct text *t, const struct device *d);
@@ -145,7 +138,6 @@ bool waits_for(const struct device *d, int client);
 void waits_send(struct device *d);
 /* How many milliseconds the loop may wait; -1: for ever. */
 int waits_left(const struct device *d);
-/* To be called when a connection has ended. */
 void waits_client_gone(struct device *d, int client);
 
 /* ---- control.c: the control socket ---- */
@@ -184,13 +176,11 @@ void port_open(struct device *d);
 /* Gives TAP carrier while LINK has and the port is on. */
 void port_set_carrier(struct device *d);
 void port_set(struct device *d, bool on);
-/* To be called each second. */
 void port_tick(struct device *d);
 /* May a client change something? Then it may become the owner, and so may root if the owner is not root. */
 bool port_may_change(const struct device *d, int client);
 bool port_may_own(const struct device *d, int client);
 void port_own(struct device *d, int client);
-/* To be called when a connection has ended. */
 void port_client_gone(struct device *d, int client);
 
 #endif

@@ -107,13 +107,11 @@ enum outcome link_read(struct link *l, struct unfinished frames[BATCH], unsigned
 void link_keep(struct link *l, unsigned index, struct received **spare);
 /* Adds a copy of a frame to those that wait to be sent. If BATCH frames wait, it is counted as refused. */
 void link_append(struct link *l, const uint8_t *octets, size_t length, struct counts *c);
-/* How many frames wait to be sent. */
 unsigned link_waiting(const struct link *l);
 /* Sends the frames that link_append has added. BUSY: some still wait, until LINK can be written to. */
 enum outcome link_flush(struct link *l, struct counts *c);
-/* Adds the frames that LINK's socket has lost since the last call. */
+/* Counts the frames that LINK's socket has lost since the last call. */
 void link_count_lost(struct link *l, struct counts *c);
-/* Makes LINK pass frames to any address. */
 void link_make_promiscuous(struct link *l);
 
 /* ---- segments.c: frames of LINK that the system has not completed ---- */
@@ -157,7 +155,6 @@ enum outcome tap_read(struct tap *t, struct frame *frame);
 enum outcome tap_write(struct tap *t, const uint8_t *octets, size_t length, struct counts *c);
 /* Reads TAP's address. Returns false if it can't be read, as after TAP was moved to a third namespace. */
 bool tap_address(const struct tap *t, uint8_t address[6]);
-/* Gives TAP carrier, or takes it away. */
 void tap_set_carrier(struct tap *t, bool on);
 
 /* ---- holder.c: the process that has TAP ---- */
@@ -168,10 +165,8 @@ bool holder_say(const struct tap *t, uid_t user);
 
 /* ---- namespace.c: the host's network namespace, which has TAP, and LINK's own ---- */
 
-/* The octets of the path of LINK's namespace. */
+/* The path of the namespace of the LINK of NAME, and its most octets. */
 enum { NAMESPACE_PATH = sizeof "/run/netns/macsec-" + IF_NAMESIZE };
-
-/* The path of the namespace of the LINK of NAME. */
 void namespace_path(char path[NAMESPACE_PATH], const char *name);
 /* Opens TAP's file in the host's namespace, enters LINK's unless LINK is shared, and gives up CAP_SYS_ADMIN. To be
  * called before the journal is read and a socket of a device is opened. Returns 0, or the exit status after a
@@ -213,7 +208,6 @@ struct history {
     struct heard heard[MACSEC_RX_CHANNEL_COUNT]; /* when a channel's last frame was delivered */
 };
 
-/* Note what became of a frame. */
 void history_sent(struct history *h, const macsec_sent *sent);
 void history_received(struct history *h, const macsec_received *got);
 /* Sets how long ago this time was. Returns false if it never was. */
@@ -231,8 +225,6 @@ enum outcome frames_from_link(struct device *d);
 struct client_batch {
     unsigned used, lacked;
 };
-
-/* Notes what became of a client frame. */
 void frames_note_fate(struct device *d, struct client_batch *b, uint32_t fate);
 /* Adds to the waiting frames what the endpoint makes of a client frame. Returns its fate. */
 uint32_t frames_send(struct device *d, const struct frame *frame);
@@ -262,7 +254,6 @@ bool held_frames_keep(struct device *d, const uint8_t *octets, size_t length);
 /* Gives the frames that are kept to the endpoint if a reservation was reported. To be called before a later frame is
  * given to it, and when a reservation may have been reported. Returns GONE if TAP is. */
 enum outcome held_frames_give(struct device *d);
-/* How many frames wait for a reservation. */
 unsigned held_frames_count(const struct device *d);
 /* To be called each second: drops the kept frames that have waited too long. */
 void held_frames_tick(struct device *d);
@@ -285,7 +276,6 @@ struct floods {
     bool filtered;   /* does the system drop such frames? */
 };
 
-/* Notes the verdict on a frame. */
 void floods_note(struct device *d, uint32_t verdict);
 /* If there were too many such frames, has the system drop the next ones, before it copies them. */
 void floods_stop(struct device *d);

@@ -42,7 +42,6 @@ void message(const char *form, ...) __attribute__((format(printf, 1, 2)));
 int message_wrong(const char *form, ...) __attribute__((format(printf, 1, 2)));
 /* The same of a call that failed, with the text of errno after it. Returns ENDS_FAILED. */
 int message_of_errno(const char *form, ...) __attribute__((format(printf, 1, 2)));
-/* Says that memory has run out. Returns ENDS_FAILED. */
 int message_of_memory(void);
 /* Writes what was printed to standard output. Returns 0, or the exit status after a message. */
 int messages_flush_output(void);

@@ -25,11 +25,6 @@ static struct ifreq request_of(const struct tap *t) {
     return request;
 }
 
-/* Carries out a request at a socket or at TAP's file. */
-static int ask(int file, unsigned long call, struct ifreq *request, const char *name, const char *what) {
-    return ioctl(file, call, request) == 0 ? 0 : message_of_errno("TAP %s: %s", name, what);
-}
-
 /* ---- Whose it is ---- */
 
 /* Attaches the file to TAP, which is made if it is not there. Root and macsecd's user may have TAP. Another one has it
@@ -119,12 +114,13 @@ static int set_properties(const struct tap *t, const struct config *c, const str
     struct ifreq request = request_of(t);
     request.ifr_hwaddr.sa_family = ARPHRD_ETHER;
     memcpy(request.ifr_hwaddr.sa_data, l->address, sizeof l->address);
-    RETURN_IF_FAILED(ask(t->file, SIOCSIFHWADDR, &request, t->name, "its address"));
+    if (ioctl(t->file, SIOCSIFHWADDR, &request) != 0)
+        return message_of_errno("TAP %s: its address", t->name);
     if (!c->shared)
         return 0;
     request = request_of(t);
     request.ifr_mtu = (int)tap_mtu(l->mtu, c->max_frame);
-    return ask(l->socket, SIOCSIFMTU, &request, t->name, "its MTU");
+    return ioctl(l->socket, SIOCSIFMTU, &request) == 0 ? 0 : message_of_errno("TAP %s: its MTU", t->name);
 }
 
 /* What is done with a TAP that TUNSETIFF has made. Its MTU can be set in the host's namespace alone, so `macsec-link`

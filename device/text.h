@@ -72,7 +72,6 @@ struct limits {
 const char *limits_take(struct limits *l, const struct words *w);
 /* Takes the suite of the endpoint: requests may not install keys that are shorter than this suite's. */
 void limits_take_suite(struct limits *l, uint32_t suite);
-/* Do the limits allow a command? */
 bool limits_allow(const struct limits *l, const macsec_command *c);
 
 /* ---- config.c: NAME.conf, and where files are ---- */

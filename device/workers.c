@@ -168,23 +168,18 @@ unsigned workers_fitting(void) {
     return count < WORKERS_MAX ? (unsigned)count : WORKERS_MAX;
 }
 
-static int failed(int error) {
-    errno = error;
-    return message_of_errno("workers");
-}
-
 /* Their stacks are locked in memory, as the heap is. Below each one is a page that can't be used. */
 static int make_stacks(struct workers *w) {
     size_t length = (size_t)w->count * STACK;
     void *stacks = mmap(NULL, length, PROT_READ | PROT_WRITE, MAP_PRIVATE | MAP_ANONYMOUS | MAP_STACK, -1, 0);
     if (stacks == MAP_FAILED)
-        return failed(errno);
+        return message_of_errno("workers");
     w->stacks = stacks;
     if (mlock2(stacks, length, MLOCK_ONFAULT) != 0)
         message_of_errno("the stacks of workers can't be locked, so keys may be swapped");
     for (unsigned i = 0; i < w->count; i++)
         if (mprotect(w->stacks + (size_t)i * STACK, PAGE, PROT_NONE) != 0)
-            return failed(errno);
+            return message_of_errno("workers");
     return 0;
 }
 
@@ -195,15 +190,16 @@ int workers_open(struct workers **w, unsigned count) {
         return 0;
     it = aligned_alloc(_Alignof(struct workers), sizeof *it);
     if (it == NULL)
-        return failed(ENOMEM);
+        return message_of_errno("workers");
     memset(it, 0, sizeof *it);
     it->count = count;
     *w = it;
     it->events = eventfd(0, EFD_NONBLOCK | EFD_CLOEXEC);
     if (it->events < 0)
-        return failed(errno);
+        return message_of_errno("workers");
+    errno = ENOMEM; /* if there is no memory for a ring */
     if (ring_open(&it->rings[SENDING]) != MACSEC_OK || ring_open(&it->rings[RECEIVING]) != MACSEC_OK)
-        return failed(ENOMEM);
+        return message_of_errno("workers");
     return make_stacks(it);
 }
 
@@ -225,9 +221,9 @@ int workers_start(struct workers *w) {
     if (w == NULL)
         return 0;
     for (; w->started < w->count; w->started++) {
-        int error = start_one(w, w->started);
-        if (error != 0)
-            return failed(error);
+        errno = start_one(w, w->started);
+        if (errno != 0)
+            return message_of_errno("workers");
     }
     for (uint32_t begun; (begun = atomic_load(&w->begun)) < w->count;)
         sleep_while(&w->begun, begun);

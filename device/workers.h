@@ -10,12 +10,11 @@
 /* The most workers. */
 enum { WORKERS_MAX = 8 };
 
+struct copies;
 struct device;
 struct workers;
 
 enum place_state { FREE, PLANNED, TAKEN, FINISHED };
-
-struct copies;
 
 /* A frame that is under way. Its state says which thread has the other members. */
 struct ring_place {
@@ -57,7 +56,6 @@ void ring_remove(struct ring *r);
 /* In any thread: takes any job, or a place's job, so that no other thread has it. NULL and false: there is none. */
 struct ring_place *ring_take(struct ring *r);
 bool ring_take_place(struct ring_place *p);
-/* Says that the job of a place is done. */
 void ring_finish(struct ring_place *p);
 /* Is this the first place, as the endpoint's thread has it when it waits? */
 bool ring_is_first(struct ring *r, const struct ring_place *p);
