@@ -11,8 +11,6 @@
 #include <limits.h>
 #include <stdarg.h>
 #include <strings.h>
-#include <sys/ioctl.h>
-#include <sys/stat.h>
 
 /* What is found: what keeps macsecd from starting, and what is likely to be a slip. */
 enum kind { FAULT, HINT };

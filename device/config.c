@@ -2,10 +2,8 @@
 #include "text.h"
 #include "workers.h"
 #include <ctype.h>
-#include <fcntl.h>
 #include <grp.h>
 #include <pwd.h>
-#include <sys/stat.h>
 
 /* The most octets of a configuration, as the library has it. */
 enum { LONGEST = 1048576 };

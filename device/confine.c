@@ -8,11 +8,9 @@
 #include <linux/if_tun.h>
 #include <linux/landlock.h>
 #include <linux/seccomp.h>
-#include <sys/ioctl.h>
 #include <sys/mman.h>
 #include <sys/prctl.h>
 #include <sys/resource.h>
-#include <sys/stat.h>
 #include <sys/syscall.h>
 
 int confine_memory(void) {

@@ -1,7 +1,5 @@
 /* The control socket: a packet is a request, and its answer is a packet. */
 #include "device.h"
-#include <fcntl.h>
-#include <sys/stat.h>
 #include <sys/un.h>
 
 /* ---- Opening ---- */

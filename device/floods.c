@@ -23,44 +23,35 @@ static uint32_t word(const uint8_t *octets) {
     return (uint32_t)octets[0] << 24 | (uint32_t)octets[1] << 16 | (uint32_t)octets[2] << 8 | octets[3];
 }
 
-static struct sock_filter *put(struct sock_filter *at, unsigned code, uint32_t value) {
-    *at = (struct sock_filter)BPF_STMT((uint16_t)code, value);
-    return at + 1;
-}
-
-/* Skips so many instructions if the value is equal, and so many if not. */
-static struct sock_filter *put_test(struct sock_filter *at, unsigned test, uint32_t value, uint8_t equal,
-                                    uint8_t other) {
-    *at = (struct sock_filter)BPF_JUMP((uint16_t)(BPF_JMP | test | BPF_K), value, equal, other);
-    return at + 1;
-}
-
 /* Makes a program that drops frames without a SecTAG and those with an SCI of no channel. After a VLAN tag, which the
  * system has taken out, the endpoint looks for no SecTAG. A frame that is too short for a value to be loaded is
  * dropped. */
 static unsigned short make_program(const struct device *d, struct sock_filter program[PROGRAM]) {
-    struct sock_filter *at = program;
+    static const struct sock_filter before[BEFORE] = {
+        BPF_STMT(BPF_LD | BPF_B | BPF_ABS, (uint32_t)(SKF_AD_OFF + SKF_AD_VLAN_TAG_PRESENT)),
+        BPF_JUMP(BPF_JMP | BPF_JEQ | BPF_K, 0, 0, 2),
+        BPF_STMT(BPF_LD | BPF_H | BPF_ABS, TYPE_AT),
+        BPF_JUMP(BPF_JMP | BPF_JEQ | BPF_K, TYPE, 1, 0),
+        BPF_STMT(BPF_RET | BPF_K, 0),
+        BPF_STMT(BPF_LD | BPF_B | BPF_ABS, TCI_AT),
+        BPF_JUMP(BPF_JMP | BPF_JSET | BPF_K, SC, 1, 0),
+        BPF_STMT(BPF_RET | BPF_K, UINT32_MAX),
+        BPF_STMT(BPF_LD | BPF_W | BPF_ABS, SCI_AT),
+        BPF_STMT(BPF_ST, 0),
+        BPF_STMT(BPF_LD | BPF_W | BPF_ABS, SCI_AT + 4),
+        BPF_STMT(BPF_ST, 1),
+    };
+    struct sock_filter *at = (struct sock_filter *)memcpy(program, before, sizeof before) + BEFORE;
     uint8_t sci[SCI];
-    at = put(at, BPF_LD | BPF_B | BPF_ABS, (uint32_t)(SKF_AD_OFF + SKF_AD_VLAN_TAG_PRESENT));
-    at = put_test(at, BPF_JEQ, 0, 0, 2);
-    at = put(at, BPF_LD | BPF_H | BPF_ABS, TYPE_AT);
-    at = put_test(at, BPF_JEQ, TYPE, 1, 0);
-    at = put(at, BPF_RET | BPF_K, 0);
-    at = put(at, BPF_LD | BPF_B | BPF_ABS, TCI_AT);
-    at = put_test(at, BPF_JSET, SC, 1, 0);
-    at = put(at, BPF_RET | BPF_K, UINT32_MAX);
-    for (unsigned half = 0; half < 2; half++) {
-        at = put(at, BPF_LD | BPF_W | BPF_ABS, SCI_AT + 4 * half);
-        at = put(at, BPF_ST, half);
-    }
     for (size_t i = 0; i < MACSEC_RX_CHANNEL_COUNT && macsec_get_rx_sc(d->endpoint, i, sci) == MACSEC_OK; i++) {
-        at = put(at, BPF_LD | BPF_MEM, 0);
-        at = put_test(at, BPF_JEQ, word(sci), 0, 3);
-        at = put(at, BPF_LD | BPF_MEM, 1);
-        at = put_test(at, BPF_JEQ, word(sci + 4), 0, 1);
-        at = put(at, BPF_RET | BPF_K, UINT32_MAX);
+        const struct sock_filter each[EACH] = {
+            BPF_STMT(BPF_LD | BPF_MEM, 0),         BPF_JUMP(BPF_JMP | BPF_JEQ | BPF_K, word(sci), 0, 3),
+            BPF_STMT(BPF_LD | BPF_MEM, 1),         BPF_JUMP(BPF_JMP | BPF_JEQ | BPF_K, word(sci + 4), 0, 1),
+            BPF_STMT(BPF_RET | BPF_K, UINT32_MAX),
+        };
+        at = (struct sock_filter *)memcpy(at, each, sizeof each) + EACH;
     }
-    at = put(at, BPF_RET | BPF_K, 0);
+    *at++ = (struct sock_filter)BPF_STMT(BPF_RET | BPF_K, 0);
     return (unsigned short)(at - program);
 }
 

@@ -6,7 +6,6 @@
 #include <linux/if_packet.h>
 #include <linux/virtio_net.h>
 #include <net/if.h>
-#include <sys/socket.h>
 
 struct config;
 struct device;

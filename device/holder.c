@@ -3,11 +3,8 @@
 #include "frames.h"
 #include <ctype.h>
 #include <dirent.h>
-#include <fcntl.h>
 #include <linux/if_tun.h>
 #include <linux/sockios.h>
-#include <sys/ioctl.h>
-#include <sys/stat.h>
 #include <sys/syscall.h>
 
 /* Octets of a path, and of what is read of a file. */

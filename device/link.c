@@ -2,7 +2,6 @@
 #include "frames.h"
 #include <arpa/inet.h>
 #include <net/ethernet.h>
-#include <sys/ioctl.h>
 
 /* Octets of a VLAN tag, and where it is in a frame. */
 enum { TAG = 4, TAG_AT = 12 };

@@ -3,7 +3,6 @@
 #include "device.h"
 #include "workers.h"
 #include <limits.h>
-#include <sys/stat.h>
 
 static struct device device = { .handles = { MACSEC_ENDPOINT_INIT, MACSEC_ENDPOINT_INIT } };
 

@@ -1,11 +1,8 @@
 /* What macsecd says, on standard error: a line for what starts, changes, fails and ends, and none for a frame. A client
  * that makes one message again and again must not fill the log, and nobody who does not read it may stop frames. */
 #include "system.h"
-#include <fcntl.h>
 #include <poll.h>
 #include <stdarg.h>
-#include <sys/socket.h>
-#include <sys/stat.h>
 #include <time.h>
 
 enum { LONGEST = 1024 };

@@ -2,12 +2,9 @@
  * programs get frames of LINK only through MACsec. The program `macsec-link` makes the namespace. */
 #include "frames.h"
 #include "text.h"
-#include <fcntl.h>
 #include <linux/nsfs.h>
 #include <linux/sockios.h>
 #include <sched.h>
-#include <sys/ioctl.h>
-#include <sys/stat.h>
 
 /* The first descriptor that a service manager passes. */
 enum { PASSED = 3 };

@@ -1,6 +1,5 @@
 /* The service manager: systemd's protocol for services, of a datagram with an assignment. */
 #include "system.h"
-#include <sys/socket.h>
 #include <sys/un.h>
 
 int service_open(struct service *s) {

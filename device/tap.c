@@ -1,11 +1,9 @@
 /* TAP: the network device of the client, this host's network stack. */
 #include "frames.h"
 #include "text.h"
-#include <fcntl.h>
 #include <limits.h>
 #include <linux/if_arp.h>
 #include <linux/if_tun.h>
-#include <sys/ioctl.h>
 
 /* Octets of an Ethernet header. */
 enum { HEADER = 14 };
