@@ -31,12 +31,13 @@ static bool is_same(const struct stat *a, const struct stat *b) {
  * name is the host's. */
 static int check_tun(int tun, const char *path, const struct stat *wanted) {
     struct stat status;
-    int file = ioctl(tun, SIOCGSKNS), result = 0;
-    if (file < 0 || fstat(file, &status) != 0)
-        result = message_of_errno("the network namespace of /dev/net/tun");
+    int file = ioctl(tun, SIOCGSKNS), result = file < 0 ? -1 : fstat(file, &status);
+    if (result != 0)
+        message_of_errno("the network namespace of /dev/net/tun");
     if (file >= 0)
         (void)close(file); /* it was only looked at */
-    RETURN_IF_FAILED(result);
+    if (result != 0)
+        return ENDS_FAILED;
     if (!is_same(&status, wanted))
         return 0;
     return message_wrong("%s is the network namespace of /dev/net/tun too: start macsecd in that of the host", path);
