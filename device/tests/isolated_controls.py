@@ -52,16 +52,16 @@ CONTROLS: dict[str, list[Control]] = {
     "carrier": [inverted("no blackhole route", "blackhole", "left by another device")],
     "taken": [
         inverted("`device shared`", "shared", "left by another device", "sendto", "sendmmsg", "join"),
-        edited("no restriction of files", "confine.c", "result == 0 ? restrict_files(state, unconfined) : result;",
-               "(void)restrict_files, result;", "openat 0", "openat 1", "unlinkat 0", "unlinkat 1"),
+        edited("no restriction of files", "confine.c", "MACSECD_UNFILTERED ? 0 : restrict_files(state, unconfined);",
+               "(void)restrict_files, 0;", "openat 0", "openat 1", "unlinkat 0", "unlinkat 1"),
         edited("no list of system calls", "confine.c", "SECCOMP_RET_KILL_PROCESS", "SECCOMP_RET_ALLOW", "setns",
                "unshare", "socket", "bind", "SIOCGSKNS", "TUNGETDEVNETNS", "TUNSETIFF")],
     "rights": [
         edited("CAP_SYS_ADMIN stays", "confine.c", "~(1U << CAP_SYS_ADMIN)", "~0U", "isolated, by root",
                "isolated, as nobody", "shared, by root", "shared, as nobody"),
         edited("it goes after the journal with `device shared`", "namespace.c",
-               "return result == 0 ? confine_namespace() : result;",
-               "return result == 0 && !c->shared ? confine_namespace() : result;", "shared, by root")],
+               "    return confine_namespace();",
+               "    return !c->shared ? confine_namespace() : 0;", "shared, by root")],
     "names": [edited("LINK is not waited for", "macsec-link", "tries=30", "tries=1", "is not there")],
     "starts": [
         edited("TAP may be in LINK's namespace", "namespace.c", "if (!is_same(&status, wanted))", "if (true)",
@@ -74,7 +74,8 @@ CONTROLS: dict[str, list[Control]] = {
                "at once"),
         edited("the mask of the unit", "macsec-link", "umask 022", "umask 077", "has the mode")],
     "life": [
-        edited("a deleted TAP is not seen", "loop.c", "    if (failed) {\n", "    if (false) {\n", "TAP is deleted"),
+        edited("a deleted TAP is not seen", "loop.c", "    if ((events & (EPOLLERR | EPOLLHUP)) != 0) {\n", "    if (false) {\n",
+               "TAP is deleted"),
         edited("TAP's address is not read", "loop.c", "return rtnetlink_tick(d) ?", "return true ?",
                "TAP's new address"),
         edited("no release with `device shared`", "macsec-link", "release() {\n",
