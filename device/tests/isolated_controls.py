@@ -74,8 +74,8 @@ CONTROLS: dict[str, list[Control]] = {
                "at once"),
         edited("the mask of the unit", "macsec-link", "umask 022", "umask 077", "has the mode")],
     "life": [
-        edited("a deleted TAP is not seen", "loop.c", "    if ((events & (EPOLLERR | EPOLLHUP)) != 0) {\n", "    if (false) {\n",
-               "TAP is deleted"),
+        edited("a deleted TAP is not seen", "loop.c", "    if ((events & (EPOLLERR | EPOLLHUP)) != 0) {\n",
+               "    if (false) {\n", "TAP is deleted"),
         edited("TAP's address is not read", "loop.c", "return rtnetlink_tick(d) ?", "return true ?",
                "TAP's new address"),
         edited("no release with `device shared`", "macsec-link", "release() {\n",
