@@ -1,26 +1,27 @@
 -- What a journal writes was asked for.
-use Rattle.std.proofs.{Common.{◌≡◌, ℕ, ◌≤◌, Bool, true, false, List, [], ◌++◌, length, drop, ap, ◌∙◌, sym, arith, All, length-append, drop_at, take_at}, Common.{if◌then◌else◌, ◌||◌}}
+use Rattle.std.proofs.{Common.{◌≡◌, ℕ, ◌≤◌, Bool, true, false, List, [], ◌++◌, length, ap, ◌∙◌, sym, arith, All}, Common.{if◌then◌else◌, ◌||◌}}
 use Rattle.macsec_gcm.specs.Octets.{same_octets}
 use Rattle.macsec_reserve.proofs.{
   HighestOf.highest-append,
   Reduced.{reduced_reserves, with_all-append},
-  ShorterJournals.{reads_records, reservations_split},
 }
 use Rattle.macsec_reserve.specs.{
   Crashes.IsReservation,
   Entries.{reduced, with_all},
-  Journal.{header, highest, records_of, reservations, reserved_in},
+  Journal.{header, highest, reservations, reserved_in},
   declared.reservation.Reservation.Reservation,
 }
 use Rattle.macsec_journal.proofs.{
   Going.{unless_within, without_says},
   Pieces.header_long,
+  Written.{file_read, front_read, twice_says},
   Tracking.{Tracks, in_step, table_are},
 }
 use Rattle.macsec_journal.specs.{
   Disk.Folder,
+  Format.read_in,
   Laws.SaysNoMore,
-  Machine.{Journal, answered, appended, appending, ends_behind_limit, is_full, letting_go, ordering, replacing, whole},
+  Machine.{Journal, answered, appended, appending, ends_behind_limit, for_endpoint, is_full, letting_go, ordering, replacing, whole},
   Machine.with_order,
   declared.step.Step.{
     Step,
@@ -80,25 +81,25 @@ go_asks asked name j it n =
 
 -- ---- what is written
 
+own_says : (asked table : List Reservation) (read : List Reservation) → read ≡ table → ((name : List ℕ) → highest table name ≤ highest asked name) → SaysNoMore asked read
+own_says asked table read is less name = let same : highest read name ≡ highest table name = ap (λ rs. highest rs name) is in omega (arith, same, less name)
+
 pub whole_says_no_more : (salt : List ℕ) (told asked : List Reservation) (f : Folder) (j : Journal) → length salt ≡ 24 → Tracks salt told f j → Asks asked j →
-    SaysNoMore salt asked (whole j).octets
-whole_says_no_more salt told asked f j long tracks it name =
-    let own : length j.salt ≡ 24 = ap length tracks.same ∙ long in
-    let head : length (header j.salt) ≡ 64 = header_long j.salt own in
+    SaysNoMore asked (read_in (whole j).octets)
+whole_says_no_more salt told asked f j long tracks it =
     let are : All IsReservation j.table = table_are j.table tracks.said tracks.table tracks.are in
-    let octets : List ℕ = header j.salt ++ records_of j.table in
-    let enough : 64 ≤ length octets = omega (arith, length-append (header j.salt) (records_of j.table), head) in
-    let read : reservations octets ≡ reserved_in (header salt) ++ j.table =
-    reservations_split octets enough
-    ∙ ap (λ xs. reserved_in xs ++ reservations (drop 64 octets)) (take_at (header j.salt) (records_of j.table) 64 head)
-    ∙ ap (λ xs. reserved_in (header j.salt) ++ reservations xs) (drop_at (header j.salt) (records_of j.table) 64 head)
-    ∙ ap (λ rs. reserved_in (header j.salt) ++ rs) (reads_records j.table are).0
-    ∙ ap (λ x. reserved_in (header x) ++ j.table) tracks.same in
-    let says : highest (reservations octets) name ≡ highest (reserved_in (header salt) ++ j.table) name = ap (λ rs. highest rs name) read in
-    omega (arith, says, highest-append (reserved_in (header salt)) j.table name, (it name).0)
+    own_says asked j.table (read_in (whole j).octets) (file_read j.salt j.table (ap length tracks.same ∙ long) tracks.few are) (λ name. (it name).0)
 
 pub appended_says_no_more : (salt : List ℕ) (told asked : List Reservation) (f : Folder) (j : Journal) → Tracks salt told f j → Asks asked j →
-    SaysNoMore salt asked (appended j).octets
-appended_says_no_more salt told asked f j tracks it name =
-    let says : highest (reservations (records_of j.ordered)) name ≡ highest j.ordered name = ap (λ rs. highest rs name) (reads_records j.ordered tracks.ordered).0 in
-    omega (arith, says, (it name).1)
+    SaysNoMore asked (reservations (appended j).octets)
+appended_says_no_more salt told asked f j tracks it name = omega (arith, twice_says j.ordered tracks.ordered name, (it name).1)
+
+pub endpoint_reads_no_more : (salt : List ℕ) (told asked : List Reservation) (f : Folder) (j : Journal) → length salt ≡ 24 → Tracks salt told f j → Asks asked j →
+    SaysNoMore (reserved_in (header salt) ++ asked) (reservations (for_endpoint j))
+endpoint_reads_no_more salt told asked f j long tracks it name =
+    let own : length j.salt ≡ 24 = ap length tracks.same ∙ long in
+    let are : All IsReservation j.table = table_are j.table tracks.said tracks.table tracks.are in
+    let read : reservations (for_endpoint j) ≡ reserved_in (header salt) ++ j.table =
+    front_read (header j.salt) j.table (header_long j.salt own) are ∙ ap (λ x. reserved_in (header x) ++ j.table) tracks.same in
+    let says : highest (reservations (for_endpoint j)) name ≡ highest (reserved_in (header salt) ++ j.table) name = ap (λ rs. highest rs name) read in
+    omega (arith, says, highest-append (reserved_in (header salt)) j.table name, highest-append (reserved_in (header salt)) asked name, (it name).0)

@@ -6,10 +6,9 @@ use Rattle.macsec_commands.specs.declared.config.EndConfig.{EndConfig}
 use Rattle.macsec_reserve.specs.declared.reservation.Reservation.{Reservation}
 use Rattle.macsec_reserve.specs.Crashes.{IsReservation}
 use Rattle.macsec_reserve.specs.Entries.{reduced, with_all}
-use Rattle.macsec_reserve.specs.Journal.{reservations}
 use Rattle.macsec_journal.specs.Disk.{IsLeft}
-use Rattle.macsec_journal.specs.Machine.{fits}
-use Rattle.macsec_journal.specs.World.{Event, Happen, after_all, answers, begins, created, ends, opens, orders}
+use Rattle.macsec_journal.specs.Format.{fits, read_in}
+use Rattle.macsec_journal.specs.World.{Event, Form, Happen, after_all, answers, begins, created, ends, opens, orders}
 
 -- so many calls that succeed, and other events after them
 abbrev pub calls_before : List Event → ℕ → List Event
@@ -24,19 +23,19 @@ lost_and_ordered_again limit config octets rs =
     begins limit config octets ∷ orders rs true ∷ calls_before (answers false ∷ opens config ∷ ends 1 ∷ ordered_again limit config octets rs) 7
 
 -- a process can read these octets in a journal that was created with this salt, and order these records
-pub record CanOrder (limit : ℕ) (salt octets : List ℕ) (rs : List Reservation) : Type 0 where
-  pub left : IsLeft (created salt).folder.named octets
+pub record CanOrder (limit : ℕ) (form : Form) (salt octets : List ℕ) (rs : List Reservation) : Type 0 where
+  pub left : IsLeft (created form salt).folder.named octets
   pub small : All (λ x. x < 256) octets
   pub are : All IsReservation rs
-  pub read : fits limit (length (reduced (reservations octets))) ≡ true
-  pub more : fits limit (length (reduced (reservations octets)) + length rs) ≡ true
+  pub read : fits limit (length (reduced (read_in octets))) ≡ true
+  pub more : fits limit (length (reduced (read_in octets)) + length rs) ≡ true
 
-pub record EndsWell (salt : List ℕ) (events : List Event) (told : List Reservation) : Type 0 where
-  pub can : Happen (created salt) events
-  pub says : (after_all (created salt) events).told ≡ told
+pub record EndsWell (form : Form) (salt : List ℕ) (events : List Event) (told : List Reservation) : Type 0 where
+  pub can : Happen (created form salt) events
+  pub says : (after_all (created form salt) events).told ≡ told
 
 -- it can happen, and what was ordered is durable in the end
 abbrev pub CanHappenSo : Type 0
 CanHappenSo =
-    (limit : ℕ) (config : EndConfig) (salt octets : List ℕ) (rs : List Reservation) → CanOrder limit salt octets rs →
-    EndsWell salt (lost_and_ordered_again limit config octets rs) (with_all (reduced (reservations octets)) rs)
+    (limit : ℕ) (config : EndConfig) (form : Form) (salt octets : List ℕ) (rs : List Reservation) → CanOrder limit form salt octets rs →
+    EndsWell form salt (lost_and_ordered_again limit config octets rs) (with_all (reduced (read_in octets)) rs)
