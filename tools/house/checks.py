@@ -21,6 +21,9 @@ BUILT_NEEDS = (PROVED, PROGRAM, PROGRAMS, LIBRARY, ROOT_USER)
 # The check that builds what the controls take.
 BEFORE_CONTROLS = "c-programs"
 
+# A check that takes less than this many seconds is made before the proofs, and not beside them.
+QUICK = 10
+
 PROOFS = "proofs"
 
 # The line of `rt ci` after which it goes on with the other crates, and can only fail.
