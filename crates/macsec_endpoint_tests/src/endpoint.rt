@@ -402,9 +402,8 @@ fn assert_case(rt: &impl Abort, secy: &mut Secy, case: &Case) {
     assert_received(rt, secy, link, *wanted);
 }
 
-pub(crate) fn passed_and_late(counters: Option<RxCounters>) -> Option<(u64, u64)> {
-    let counters = counters?;
-    Some((counters.in_pkts_ok, counters.in_pkts_late))
+pub(crate) fn passed(counters: Option<RxCounters>) -> Option<u64> {
+    Some(counters?.in_pkts_ok)
 }
 
 /// A frame has an SA from the recovery of its packet number on, even if no packet number is recovered. The counters of a
@@ -419,6 +418,6 @@ fn associations_of_frames(rt: HostRuntime) {
     let two = an(&rt, 2);
     carry_out(&rt, &mut secy, &Command::RxDel(sci, two));
     assert!(rt; secy.rx_sa_counters(sci, two).is_none());
-    assert!(rt; passed_and_late(secy.rx_removed(sci)) == Some((1, 1)));
-    assert!(rt; passed_and_late(secy.rx_counters(sci)) == Some((1, 1)));
+    assert!(rt; passed(secy.rx_removed(sci)) == Some(1));
+    assert!(rt; secy.rx_counters(sci) == secy.rx_removed(sci));
 }

@@ -5,7 +5,7 @@ ghost use Rattle.macsec_secy.specs.Jobs.{OpensFrame, state_after};
 ghost use Rattle.macsec_secy.specs.Step.{Input};
 
 use crate::endpoint::{
-    CASES, Case, SENDER, Wanted, an, carry_out, endpoint, key_number, passed_and_late, receiver,
+    CASES, Case, SENDER, Wanted, an, carry_out, endpoint, key_number, passed, receiver,
     sending, set,
 };
 use macsec_secy::laws::jobs_stay;
@@ -94,5 +94,5 @@ fn frames_opened_before_a_command(rt: HostRuntime) {
         }
     }
     assert!(rt; count == 3);
-    assert!(rt; passed_and_late(secy.rx_counters(SENDER.sci)) == Some((1, 1)));
+    assert!(rt; passed(secy.rx_counters(SENDER.sci)) == Some(1));
 }
