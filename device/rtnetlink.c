@@ -63,20 +63,12 @@ bool rtnetlink_tick(struct device *d) {
     return ask(&d->rtnetlink, d->link.index) == 0;
 }
 
-static void note_attributes(struct device *d, const struct ifinfomsg *about, size_t length) {
-    const struct rtattr *a = (const struct rtattr *)((const char *)about + NLMSG_ALIGN(sizeof *about));
-    length -= NLMSG_ALIGN(sizeof *about);
-    while (length >= sizeof *a && a->rta_len >= sizeof *a && a->rta_len <= length) {
-        const uint8_t *value = (const uint8_t *)a + RTA_LENGTH(0);
-        size_t step = RTA_ALIGN(a->rta_len);
+static void note_attributes(struct device *d, const struct ifinfomsg *about, int left) {
+    for (const struct rtattr *a = IFLA_RTA(about); RTA_OK(a, left); a = RTA_NEXT(a, left)) {
         if (a->rta_type == IFLA_ADDRESS)
-            note_address(d, value, a->rta_len - RTA_LENGTH(0));
-        if (a->rta_type == IFLA_MTU && a->rta_len == RTA_LENGTH(sizeof(uint32_t)))
-            note_link_mtu(d, *(const uint32_t *)value);
-        if (step >= length)
-            return;
-        length -= step;
-        a = (const struct rtattr *)((const char *)a + step);
+            note_address(d, RTA_DATA(a), RTA_PAYLOAD(a));
+        if (a->rta_type == IFLA_MTU && RTA_PAYLOAD(a) == sizeof(uint32_t))
+            note_link_mtu(d, *(const uint32_t *)RTA_DATA(a));
     }
 }
 
@@ -94,7 +86,7 @@ static bool read_report(struct device *d, const struct nlmsghdr *header) {
         message("LINK %s was deleted or moved", d->link.name);
         return false;
     }
-    note_attributes(d, about, header->nlmsg_len - NLMSG_LENGTH(0));
+    note_attributes(d, about, (int)IFLA_PAYLOAD(header));
     note_link_up(d, about->ifi_flags);
     return true;
 }
@@ -110,17 +102,11 @@ static bool read_error(const struct nlmsghdr *header) {
     return false;
 }
 
-static bool read_reports(struct device *d, size_t length) {
-    const struct nlmsghdr *header = (const struct nlmsghdr *)d->rtnetlink.buffer;
-    while (NLMSG_OK(header, length)) {
-        size_t step = NLMSG_ALIGN(header->nlmsg_len);
-        if (header->nlmsg_type == NLMSG_ERROR ? !read_error(header) : !read_report(d, header))
+static bool read_reports(struct device *d, int left) {
+    for (const struct nlmsghdr *it = (struct nlmsghdr *)d->rtnetlink.buffer; NLMSG_OK(it, left);
+         it = NLMSG_NEXT(it, left))
+        if (it->nlmsg_type == NLMSG_ERROR ? !read_error(it) : !read_report(d, it))
             return false;
-        if (step >= length)
-            break;
-        length -= step;
-        header = (const struct nlmsghdr *)((const char *)header + step);
-    }
     return true;
 }
 
@@ -136,19 +122,20 @@ static ssize_t read_message(struct rtnetlink *f) {
 bool rtnetlink_read(struct device *d) {
     for (int i = 0; i < MESSAGES; i++) {
         ssize_t length = read_message(&d->rtnetlink);
-        if (length < 0 && errno == EAGAIN && !d->rtnetlink.lost)
+        if (length >= 0) {
+            if (!read_reports(d, (int)length))
+                return false;
+        } else if (errno == ENOBUFS) {
+            d->rtnetlink.lost = true;
+        } else if (errno != EAGAIN) {
+            message_of_errno("rtnetlink");
+            return false;
+        } else if (!d->rtnetlink.lost) {
             return true;
-        if (length < 0 && errno == EAGAIN) { /* the queue is empty now */
+        } else { /* the queue is empty now */
             d->rtnetlink.lost = false;
             if (ask(&d->rtnetlink, d->link.index) != 0)
                 return false;
-        } else if (length < 0 && errno == ENOBUFS) {
-            d->rtnetlink.lost = true;
-        } else if (length < 0) {
-            message_of_errno("rtnetlink");
-            return false;
-        } else if (!read_reports(d, (size_t)length)) {
-            return false;
         }
     }
     return true;

@@ -2,28 +2,19 @@
  * line belongs to no word. */
 #include "text.h"
 
-static bool is_blank(char octet) {
-    return octet == ' ' || octet == '\t';
-}
-
 void words_split(struct words *w, const char *line, size_t length) {
-    size_t i = 0;
+    size_t begin = 0;
     w->count = 0;
     if (length > 0 && line[length - 1] == '\r')
         length--;
-    while (i < length) {
-        size_t end = i;
-        while (end < length && !is_blank(line[end]))
-            end++;
-        if (end > i) {
-            if (w->count == WORDS) {
-                w->count++;
-                return;
-            }
-            w->at[w->count] = line + i;
-            w->length[w->count++] = end - i;
+    for (size_t i = 0; i <= length && w->count <= WORDS; i++) {
+        if (i < length && line[i] != ' ' && line[i] != '\t')
+            continue;
+        if (i > begin && w->count++ < WORDS) {
+            w->at[w->count - 1] = line + begin;
+            w->length[w->count - 1] = i - begin;
         }
-        i = end + 1;
+        begin = i + 1;
     }
 }
 
@@ -71,7 +62,7 @@ const char *words_line(const char **text, size_t *left, size_t *length) {
         return NULL;
     feed = memchr(line, '\n', *left);
     *length = feed == NULL ? *left : (size_t)(feed - line);
-    *text += feed == NULL ? *length : *length + 1;
-    *left -= feed == NULL ? *length : *length + 1;
+    *text += *length + (feed != NULL);
+    *left -= *length + (feed != NULL);
     return line;
 }
