@@ -4,71 +4,34 @@
 
 /* ---- Opening ---- */
 
-/* The folder of the socket, and its name there, while it is opened. */
-struct place {
-    int folder;
-    const char *file;
-};
-
-/* The permissions are set before anybody can connect: listen comes after it. */
-static int set_owner(const struct place *p, const struct config *c) {
-    if (c->has_group && fchownat(p->folder, p->file, (uid_t)-1, c->group, AT_SYMLINK_NOFOLLOW) != 0)
-        return message_of_errno("the group of the control socket");
-    if (fchmodat(p->folder, p->file, c->has_group ? 0660 : 0600, 0) != 0)
-        return message_of_errno("the mode of the control socket");
-    return 0;
+/* Makes the folder of the socket, if it is not there. */
+static int make_folder(char *path) {
+    char *slash = strrchr(path, '/');
+    int result;
+    *slash = '\0';
+    result = mkdir(path, 0755) == 0 || errno == EEXIST ? 0 : message_of_errno("%s", path);
+    *slash = '/';
+    return result;
 }
 
 /* An earlier run has left its socket: macsecd may remove no file of this folder when it ends, since other instances
- * have sockets there too. The lock on the journal says that the earlier one runs no more. */
-static int bind_socket(const struct control *k, const struct place *p, const struct sockaddr_un *address) {
-    mode_t before;
-    int result;
-    if (unlinkat(p->folder, p->file, 0) != 0 && errno != ENOENT)
-        return message_of_errno("%s", address->sun_path);
-    before = umask(0177);
-    result = bind(k->listener, (const struct sockaddr *)address, sizeof *address);
-    (void)umask(before);
-    return result == 0 ? 0 : message_of_errno("%s", address->sun_path);
-}
-
-/* Opens the folder, which is made if it is not there. */
-static int open_folder(struct place *p, const char *path) {
-    char folder[sizeof(struct sockaddr_un)];
-    size_t length = (size_t)(strrchr(path, '/') - path);
-    memcpy(folder, path, length);
-    folder[length] = '\0';
-    if (mkdir(folder, 0755) != 0 && errno != EEXIST)
-        return message_of_errno("%s", folder);
-    p->folder = open(folder, O_RDONLY | O_DIRECTORY | O_CLOEXEC);
-    return p->folder < 0 ? message_of_errno("%s", folder) : 0;
-}
-
-/* Opens the socket in its folder. */
-static int open_socket(struct control *k, const struct place *p, const struct sockaddr_un *address,
-                       const struct config *c) {
-    k->listener = socket(AF_UNIX, SOCK_SEQPACKET | SOCK_NONBLOCK | SOCK_CLOEXEC, 0);
-    if (k->listener < 0)
-        return message_of_errno("control socket");
-    RETURN_IF_FAILED(bind_socket(k, p, address));
-    RETURN_IF_FAILED(set_owner(p, c));
-    return listen(k->listener, CLIENTS) == 0 ? 0 : message_of_errno("control socket");
-}
-
+ * have sockets there too. The lock on the journal says that the earlier one runs no more. Nobody can connect before the
+ * socket has its owner and its mode: listen is the last call. */
 int control_open(struct control *k, const char *name, const struct config *c) {
     struct sockaddr_un address = { .sun_family = AF_UNIX };
-    struct place place = { .folder = -1 };
-    int result;
+    char *path = address.sun_path;
     for (int i = 0; i < CLIENTS; i++)
         k->clients[i] = -1;
-    k->listener = -1;
-    if (!config_path(address.sun_path, sizeof address.sun_path, "RUNTIME_DIRECTORY", "/run/macsec", name, ".sock"))
+    if (!config_path(path, sizeof address.sun_path, "RUNTIME_DIRECTORY", "/run/macsec", name, ".sock"))
         return message_wrong("the path of the control socket is too long");
-    place.file = strrchr(address.sun_path, '/') + 1;
-    RETURN_IF_FAILED(open_folder(&place, address.sun_path));
-    result = open_socket(k, &place, &address, c);
-    (void)close(place.folder);
-    return result;
+    RETURN_IF_FAILED(make_folder(path));
+    k->listener = socket(AF_UNIX, SOCK_SEQPACKET | SOCK_NONBLOCK | SOCK_CLOEXEC, 0);
+    if (k->listener >= 0 && (unlink(path) == 0 || errno == ENOENT) &&
+        bind(k->listener, (const struct sockaddr *)&address, sizeof address) == 0 &&
+        (!c->has_group || fchownat(AT_FDCWD, path, (uid_t)-1, c->group, AT_SYMLINK_NOFOLLOW) == 0) &&
+        chmod(path, c->has_group ? 0660 : 0600) == 0 && listen(k->listener, CLIENTS) == 0)
+        return 0;
+    return message_of_errno("the control socket %s", path);
 }
 
 /* ---- Clients ---- */
@@ -87,11 +50,9 @@ static bool is_root(int client) {
     return getsockopt(client, SOL_SOCKET, SO_PEERCRED, &who, &length) == 0 && who.uid == 0;
 }
 
-/* Is connection i rather to end than connection j? Others' before root's, and then the one that is idle longest. */
-static bool ends_before(const struct control *k, int i, int j) {
-    if (j < 0 || k->is_root[i] != k->is_root[j])
-        return j < 0 || !k->is_root[i];
-    return k->used[i] < k->used[j];
+/* Connections end in the order of this number: others' before root's, and then the one that is idle longest. */
+static uint64_t rank(const struct control *k, int i) {
+    return k->used[i] | (uint64_t)k->is_root[i] << 63;
 }
 
 /* Finds a free place for a client. If there is none, an idle connection ends: never the owner's, and root's only for
@@ -102,7 +63,7 @@ static int make_place(struct device *d, bool for_root) {
     for (int i = 0; i < CLIENTS; i++) {
         if (k->clients[i] < 0)
             return i;
-        if (i != d->port.owner && (!k->is_root[i] || for_root) && ends_before(k, i, idle))
+        if (i != d->port.owner && (!k->is_root[i] || for_root) && (idle < 0 || rank(k, i) < rank(k, idle)))
             idle = i;
     }
     if (idle >= 0)
