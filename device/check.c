@@ -9,8 +9,8 @@
 #include "text.h"
 #include "workers.h"
 #include <limits.h>
+#include <linux/if_arp.h>
 #include <stdarg.h>
-#include <strings.h>
 
 /* What is found: what keeps macsecd from starting, and what is likely to be a slip. */
 enum kind { FAULT, HINT };
@@ -97,57 +97,46 @@ static const struct meaning meanings[] = {
 };
 /* end */
 
-/* How the commands are written, by their kinds, and arguments that are right. */
+/* How the commands are written. */
 /* made: usages of tools/families.json */
-static const char *const usages[][2] = {
-    [MACSEC_COMMAND_PROTECT] = { "A protect on|off", "on" },
-    [MACSEC_COMMAND_VALIDATE] = { "A validate strict|check|disabled", "strict" },
-    [MACSEC_COMMAND_REPLAY] = { "A replay on|off WINDOW", "on 0" },
-    [MACSEC_COMMAND_TAG] = { "A tag auto|sci|es|scb", "auto" },
-    [MACSEC_COMMAND_KEY] = { "A key N KEY OFFSET [SUITE] [SSCI SALT], with N up to 4095, and 32 or 64 digits of KEY",
-                             "0 00000000000000000000000000000000 0" },
-    [MACSEC_COMMAND_RETIRE] = { "A retire N", "0" },
-    [MACSEC_COMMAND_TX_SA] = { "A txsa AN N PN int|conf, with AN up to 3 and 1 to 16 hex digits of PN", "0 0 1 conf" },
-    [MACSEC_COMMAND_TX_ON] = { "A txon AN", "0" },
-    [MACSEC_COMMAND_TX_OFF] = { "A txoff AN", "0" },
-    [MACSEC_COMMAND_TX_DEL] = { "A txdel AN", "0" },
-    [MACSEC_COMMAND_RX_SC] = { "A rxsc SCI, with 16 digits of SCI", "0200000000000001" },
-    [MACSEC_COMMAND_RX_SC_DEL] = { "A rxscdel SCI", "0200000000000001" },
-    [MACSEC_COMMAND_RX_SA] = { "A rxsa SCI AN N PN [SSCI], with 16 digits of SCI and AN up to 3",
-                               "0200000000000001 0 0 1" },
-    [MACSEC_COMMAND_RX_ON] = { "A rxon SCI AN", "0200000000000001 0" },
-    [MACSEC_COMMAND_RX_OFF] = { "A rxoff SCI AN", "0200000000000001 0" },
-    [MACSEC_COMMAND_RX_LOW] = { "A rxlow SCI AN PN", "0200000000000001 0 1" },
-    [MACSEC_COMMAND_RX_DEL] = { "A rxdel SCI AN", "0200000000000001 0" },
+static const char *const usages[] = {
+    "A protect on|off",
+    "A validate strict|check|disabled",
+    "A replay on|off WINDOW",
+    "A tag auto|sci|es|scb",
+    "A key N KEY OFFSET [SUITE] [SSCI SALT], with N up to 4095, and 32 or 64 digits of KEY",
+    "A retire N",
+    "A txsa AN N PN int|conf, with AN up to 3 and 1 to 16 hex digits of PN",
+    "A txon AN",
+    "A txoff AN",
+    "A txdel AN",
+    "A rxsc SCI, with 16 digits of SCI",
+    "A rxscdel SCI",
+    "A rxsa SCI AN N PN [SSCI], with 16 digits of SCI and AN up to 3",
+    "A rxon SCI AN",
+    "A rxoff SCI AN",
+    "A rxlow SCI AN PN",
+    "A rxdel SCI AN",
 };
 /* end */
 
-/* How a line with this keyword is to be written, or NULL. A line at fault has no kind, so the library reads the keyword
- * with the arguments of each command. */
-static const char *usage_at(const char *end, const char *keyword) {
-    char line[4 * WORD];
-    macsec_command command;
-    macsec_config config;
-    for (uint32_t kind = MACSEC_COMMAND_NONE + 1; kind < sizeof usages / sizeof *usages; kind++) {
-        int length = snprintf(line, sizeof line, "%s %s %s", end, keyword, usages[kind][1]);
-        if (macsec_parse_line((const uint8_t *)line, (size_t)length, &command) == MACSEC_OK && command.kind == kind)
-            return usages[kind][0];
+/* How a line with the word of this index as its keyword is to be written, or NULL. */
+static const char *usage_at(const struct words *w, unsigned index) {
+    for (size_t i = 0; i < sizeof usages / sizeof *usages; i++) {
+        struct words usage;
+        char keyword[WORD];
+        words_split(&usage, usages[i], strlen(usages[i]));
+        if (words_copy(&usage, 1, keyword, sizeof keyword) && words_is(w, index, keyword))
+            return usages[i];
     }
-    snprintf(line, sizeof line, "%s A gcm128 0200000000000001 64 sci", keyword);
-    if (macsec_parse_end((const uint8_t *)line, strlen(line), &config) == MACSEC_OK)
-        return "end A SUITE SCI MAX FORM, with MAX from 64 to 9248";
-    return NULL;
+    return words_is(w, index, "end") ? "end A SUITE SCI MAX FORM, with MAX from 64 to 9248" : NULL;
 }
 
 /* How a line with these words is to be written. The A may be missing. */
 static const char *usage_of(const struct words *w) {
-    char first[WORD] = "", second[WORD] = "";
-    const char *usage;
-    (void)words_copy(w, 0, first, sizeof first);
-    (void)words_copy(w, 1, second, sizeof second);
-    usage = usage_at(first, second);
+    const char *usage = usage_at(w, 1);
     if (usage == NULL)
-        usage = usage_at("A", first);
+        usage = usage_at(w, 0);
     return usage != NULL ? usage : "`device ..`, end A SUITE SCI MAX FORM, or a command at A of macsec(5)";
 }
 
@@ -258,7 +247,7 @@ static void look_at_mode(struct check *c, const macsec_command *it) {
 
 /* Compares the SCI and MAX of the `end` line with LINK's address and MTU. */
 static void look_at_end(struct check *c, const macsec_config *end) {
-    uint32_t fitting = c->mtu + 14 < MACSEC_FRAME_MAX ? c->mtu + 14 : MACSEC_FRAME_MAX;
+    uint32_t fitting = link_max_frame(c->mtu);
     char right[SCI_TEXT];
     uint8_t sci[8];
     memcpy(sci, end->sci, sizeof sci);
@@ -267,7 +256,7 @@ static void look_at_end(struct check *c, const macsec_config *end) {
     config_take_end(&c->config, end);
     if (c->is_ethernet && memcmp(end->sci, sci, sizeof sci) != 0)
         say(c, HINT, "the SCI is not that of LINK %s, so another host may have it: write %s", c->config.link, right);
-    if (c->mtu != 0 && c->config.max_frame != fitting)
+    if (c->is_ethernet && c->mtu != 0 && c->config.max_frame != fitting)
         say(c, HINT, "MAX does not fit the MTU %u of LINK %s: TAP's MTU is %u; write %u", (unsigned)c->mtu,
             c->config.link, (unsigned)tap_mtu(c->mtu, c->config.max_frame), (unsigned)fitting);
 }
@@ -285,32 +274,22 @@ static void look_at_command(struct check *c, const macsec_command *it) {
 
 /* ---- The device ---- */
 
-/* Reads the address and the MTU of a network device of this namespace. It is not opened. */
-static bool read_device(struct check *c, const char *name, bool is_link) {
-    struct ifreq request;
-    int any = socket(AF_UNIX, SOCK_DGRAM | SOCK_CLOEXEC, 0);
-    bool is_there = false;
-    if (any < 0)
-        return false;
-    memset(&request, 0, sizeof request);
-    memcpy(request.ifr_name, name, strnlen(name, IF_NAMESIZE - 1));
-    if (ioctl(any, SIOCGIFHWADDR, &request) == 0) {
-        is_there = true;
-        c->is_ethernet = request.ifr_hwaddr.sa_family == 1; /* ARPHRD_ETHER */
-        memcpy(c->address, request.ifr_hwaddr.sa_data, sizeof c->address);
-        if (is_link && c->is_ethernet && ioctl(any, SIOCGIFMTU, &request) == 0)
-            c->mtu = (uint32_t)request.ifr_mtu;
-    }
-    (void)close(any);
-    return is_there;
+/* Looks at a network device of this namespace, which is not opened. */
+static bool read_device(struct check *c, const char *name, uint32_t *mtu) {
+    int any = socket(AF_UNIX, SOCK_DGRAM | SOCK_CLOEXEC, 0), type = link_type(any, name, c->address, mtu);
+    if (any >= 0)
+        (void)close(any);
+    c->is_ethernet = type == ARPHRD_ETHER;
+    return type >= 0;
 }
 
 /* An isolated LINK is in another namespace while its TAP is here, which has its address. */
 static void find_link(struct check *c) {
+    uint32_t of_tap;
     if (c->config.link[0] == '\0')
         return;
-    c->is_there = read_device(c, c->config.link, true) ||
-                  (!c->config.shared && c->config.tap[0] != '\0' && read_device(c, c->config.tap, false));
+    c->is_there = read_device(c, c->config.link, &c->mtu) ||
+                  (!c->config.shared && c->config.tap[0] != '\0' && read_device(c, c->config.tap, &of_tap));
 }
 
 static void check_device_line(struct check *c) {
@@ -386,45 +365,35 @@ static void check_lines(struct check *c) {
 
 /* ---- The journal ---- */
 
-/* Started by root, macsecd becomes the user of the journal's folder. */
 static void check_journal(struct check *c) {
-    char path[PATH_MAX], folder[PATH_MAX];
-    struct stat about, of_folder;
+    char path[PATH_MAX];
+    struct stat about;
     const char *wrong;
-    if (!journals_path(path, sizeof path, c->name)) {
+    if (!journals_path(path, sizeof path, c->name))
         c->found[FAULT]++;
-        return;
-    }
-    memcpy(folder, path, sizeof folder);
-    *strrchr(folder, '/') = '\0';
-    if (lstat(path, &about) != 0 && errno == ENOENT)
+    else if (lstat(path, &about) != 0 && errno == ENOENT)
         say(c, FAULT, "there is no journal %s; if the keys were never used: macsecd --create-journal %s", path,
             c->name);
-    else if (lstat(path, &about) != 0 || stat(folder, &of_folder) != 0)
-        say(c, HINT, "the journal %s can't be looked at: %s", path, strerror(errno));
-    else if (!S_ISREG(about.st_mode))
-        say(c, FAULT, "the journal %s is not a regular file", path);
-    else if (about.st_uid != of_folder.st_uid)
-        say(c, FAULT, "the journal %s belongs to another user than its folder, so macsecd can't write it: chown", path);
     else if ((wrong = journals_fault(path)) != NULL)
         say(c, FAULT, "the journal %s %s", path, wrong);
+    else if (access(path, R_OK) != 0)
+        say(c, HINT, "the journal %s can't be looked at: %s", path, strerror(errno));
     else if (journals_check_keys(&c->config, c->name) != 0)
         c->found[FAULT]++; /* it has said why */
 }
 
 /* ---- The whole ---- */
 
-/* The NAME of a configuration at a path, as the name of TAP. It may be none. */
+/* TAP has the NAME of the configuration. That of one at a path may be none. */
 static void name_tap(struct config *config, const char *name) {
-    const char *slash = strrchr(name, '/');
-    char copy[IF_NAMESIZE + sizeof ".conf"];
-    size_t length;
-    snprintf(copy, sizeof copy, "%s", slash == NULL ? name : slash + 1);
-    length = strlen(copy);
-    if (slash != NULL && length > 5 && strcmp(copy + length - 5, ".conf") == 0)
-        copy[length - 5] = '\0';
+    const char *slash = strrchr(name, '/'), *base = slash == NULL ? name : slash + 1;
+    const char *end = slash == NULL ? NULL : strstr(base, ".conf");
+    char copy[IF_NAMESIZE] = "";
+    size_t length = end == NULL ? strlen(base) : (size_t)(end - base);
+    if (length < sizeof copy)
+        memcpy(copy, base, length);
     if (config_is_name(copy))
-        memcpy(config->tap, copy, strlen(copy));
+        memcpy(config->tap, copy, sizeof copy);
 }
 
 static int finish(struct check *c) {

@@ -83,24 +83,18 @@ static int open_file(struct config *c, const char *name, bool *is_credential) {
     return open(c->path, O_RDONLY | O_CLOEXEC | O_NOFOLLOW | O_NONBLOCK);
 }
 
-/* Reads the file. One with a fault is read only if `anyhow`, and if it is a regular file. */
-static int read_file(struct config *c, const char *name, bool anyhow, const char **fault) {
+int config_look(struct config *c, const char *name, const char **fault) {
     struct stat status;
     bool is_credential;
-    int result = 0, file = open_file(c, name, &is_credential);
-    *fault = NULL;
+    int result, file = open_file(c, name, &is_credential);
     if (file < 0)
         return message_of_errno("cannot open %s", c->path);
-    if (fstat(file, &status) != 0)
-        result = message_of_errno("%s", c->path);
-    else if ((*fault = fault_of_file(&status, is_credential)) == NULL || (anyhow && S_ISREG(status.st_mode)))
-        result = read_text(c, file, (size_t)status.st_size);
+    result = fstat(file, &status) == 0 ? 0 : message_of_errno("%s", c->path);
+    if (result == 0) {
+        *fault = fault_of_file(&status, is_credential);
+        result = S_ISREG(status.st_mode) ? read_text(c, file, (size_t)status.st_size) : 0;
+    }
     (void)close(file); /* it was only read */
-    return result;
-}
-
-int config_look(struct config *c, const char *name, const char **fault) {
-    int result = read_file(c, name, true, fault);
     if (result != 0)
         config_wipe(c);
     return result;
@@ -271,12 +265,9 @@ int config_read(struct config *c, const char *name) {
     int result;
     memset(c, 0, sizeof *c);
     memcpy(c->tap, name, strlen(name));
-    result = read_file(c, name, false, &fault);
-    if (result == 0 && fault == NULL) {
-        result = take_lines(c);
-        fault = config_disagreement(c);
-    }
-    if (result == 0 && fault != NULL)
+    RETURN_IF_FAILED(config_look(c, name, &fault));
+    result = fault == NULL ? take_lines(c) : 0;
+    if (result == 0 && (fault != NULL || (fault = config_disagreement(c)) != NULL))
         result = message_wrong("%s: %s", c->path, fault);
     if (result == 0)
         result = read_end(c);

@@ -58,11 +58,11 @@ static uint32_t create(struct device *d, const macsec_config *end) {
 struct result endpoint_open(struct device *d, const struct words *w) {
     char line[4 * WORD], suite[WORD], sci[WORD], form[WORD] = "sci";
     macsec_config end;
-    uint32_t status, max = d->link.mtu + 14 < MACSEC_FRAME_MAX ? d->link.mtu + 14 : MACSEC_FRAME_MAX;
+    uint32_t status;
     if (!words_copy(w, 1, sci, sizeof sci) || !words_copy(w, 2, suite, sizeof suite) || w->count > 4 ||
         (w->count == 4 && !words_copy(w, 3, form, sizeof form)))
         return result_of(MACSEC_E_LINE_COUNT);
-    snprintf(line, sizeof line, "end A %s %s %u %s", suite, sci, (unsigned)max, form);
+    snprintf(line, sizeof line, "end A %s %s %u %s", suite, sci, (unsigned)link_max_frame(d->link.mtu), form);
     status = macsec_parse_end((const uint8_t *)line, strlen(line), &end);
     return result_of(status == MACSEC_OK ? create(d, &end) : status);
 }
@@ -199,28 +199,19 @@ static unsigned lines_to_do(const char *lines, size_t left) {
 
 /* Carries out lines that a copy has taken, at the endpoint itself: so no packet number is skipped. The endpoint can
  * refuse one all the same, since it knows the retired keys and the copy does not. Then the copy takes over, with all
- * lines, and its answers are those. */
+ * lines, and its answers are those. The others are written after them meanwhile. */
 static void do_lines(struct device *d, macsec_endpoint *copy, struct text *t, const char *lines, size_t length) {
-    struct text tried = { malloc(t->length), t->length, t->length, false };
-    if (tried.octets == NULL) {
-        macsec_free(copy);
-        t->length = 0;
-        answer_result(t, result_of(MACSEC_E_MEMORY));
-        return;
-    }
-    memcpy(tried.octets, t->octets, tried.length);
-    if (load_lines(d, d->endpoint, t, lines, length)) {
+    struct text done = { t->octets + t->length, 0, t->room - t->length, false };
+    if (load_lines(d, d->endpoint, &done, lines, length)) {
         macsec_free(copy);
         (void)numbers_reserve_soon(d->numbers, d->endpoint, HANDOVER_WAITS); /* a failure is reported */
+        memmove(t->octets, done.octets, done.length);
+        t->length = done.length;
     } else {
         handover_take(d, copy);
         note_lines(d, lines, length);
-        t->full = false;
-        t->length = tried.length;
-        memcpy(t->octets, tried.octets, tried.length);
         message("a second endpoint goes on after `load`");
     }
-    free(tried.octets);
 }
 
 void endpoint_load(struct device *d, struct text *t, const char *lines, size_t length) {

@@ -16,28 +16,13 @@ enum { BATCH = 64 };
 /* How many frames of a direction workers can have. */
 enum { RING = 128 };
 
-/* ---- What the device counts, in addition to the endpoint; answers.c has the names ---- */
+/* ---- What the device counts, in addition to the endpoint: macsecctl(8) says what each counts, answers.c its name ----
+ */
 
 struct counts {
-    uint64_t link_in;        /* frames that were read from LINK */
-    uint64_t link_lost;      /* frames that LINK's socket had no space for, or that can't be read from it */
-    uint64_t link_too_short; /* frames of LINK that the endpoint refused: fewer than 14 octets */
-    uint64_t link_too_long;  /* frames of LINK that the endpoint refused: more than 9,248 octets */
-    uint64_t no_endpoint;    /* frames of LINK while there is no endpoint */
-    uint64_t link_out;       /* frames that LINK took */
-    uint64_t link_refused;   /* frames that LINK did not take; their packet numbers are used */
-    uint64_t tap_in;         /* frames that were read from TAP */
-    uint64_t tap_too_short;  /* frames of TAP that the endpoint refused */
-    uint64_t tap_too_long;
-    uint64_t tap_out;        /* frames that TAP took */
-    uint64_t tap_refused;    /* frames that TAP did not take, because it is down, for example */
-    uint64_t port_out;       /* frames of TAP that were dropped: the controlled port is off */
-    uint64_t port_in;        /* frames for TAP that were dropped for this reason */
-    uint64_t no_reservation; /* frames of TAP that were dropped: their packet numbers are not reserved */
-    uint64_t journal_failed; /* failures to write to the journal */
-    uint64_t requests;       /* requests at the control socket */
-    uint64_t link_floods;    /* times that the system dropped a flood of LINK, for up to a second */
-    /* Valid frames of LINK that were dropped: their packet numbers were not reserved yet, or by an earlier run. */
+    uint64_t link_in, link_lost, link_too_short, link_too_long, no_endpoint, link_out, link_refused;
+    uint64_t tap_in, tap_too_short, tap_too_long, tap_out, tap_refused;
+    uint64_t port_out, port_in, no_reservation, journal_failed, requests, link_floods;
     uint64_t link_no_reservation, link_earlier_run;
 };
 
@@ -97,6 +82,9 @@ struct unfinished {
 /* What became of a call to a device: it was done, it can't be done now, or the device is gone. */
 enum outcome { DONE, BUSY, GONE };
 
+/* Reads the address and the MTU of a network device, by any socket of its namespace. Returns its type, ARPHRD_.., or -1
+ * after an error. */
+int link_type(int any, const char *name, uint8_t address[6], uint32_t *mtu);
 /* Opens LINK, in the namespace that the process is in. Returns 0, or the exit status after a message. */
 int link_open(struct link *l, const char *name);
 /* Reads at most BATCH frames. A VLAN tag that the system took out of a frame is in it again. */
@@ -112,6 +100,8 @@ enum outcome link_flush(struct link *l, struct counts *c);
 /* Counts the frames that LINK's socket has lost since the last call. */
 void link_count_lost(struct link *l, struct counts *c);
 void link_make_promiscuous(struct link *l);
+/* The most octets of a frame of the endpoint, for an MTU of LINK. */
+uint32_t link_max_frame(uint32_t mtu);
 
 /* ---- segments.c: frames of LINK that the system has not completed ---- */
 

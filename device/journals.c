@@ -72,56 +72,33 @@ int journals_check_disk(const char *name, bool creates) {
 
 /* ---- Keys under which this NAME sends ---- */
 
-/* The keys of the configuration's `txsa` lines, and an endpoint to which another journal is shown. */
-struct keys {
-    const struct config *config;
-    bool sends[MACSEC_KEY_COUNT];
-    const char *own; /* the folder of this NAME's journal, and its name there */
-    const char *name;
-};
-
-/* Returns false if memory runs out. */
-static bool find_sending(struct keys *k) {
-    struct commands it = { .text = (const char *)k->config->text, .left = k->config->length };
-    while (it.status != MACSEC_E_MEMORY && commands_next(&it))
-        if (it.command.kind == MACSEC_COMMAND_TX_SA)
-            k->sends[it.command.key] = true;
-    return it.status != MACSEC_E_MEMORY;
-}
-
-/* Makes an endpoint with the keys of the configuration beside another journal. A wrong line is reported later. */
-static uint32_t show_journal(const struct keys *k, macsec_endpoint *e, const uint8_t *octets, size_t length) {
-    struct commands it = { .text = (const char *)k->config->text, .left = k->config->length };
+/* Does another journal have packet numbers of a key under which this NAME sends? An endpoint gets the journal and the
+ * keys of the configuration. A wrong line is reported later. */
+static int compare(const struct config *c, const char *path, const uint8_t *octets, size_t length) {
+    struct commands it = { .text = (const char *)c->text, .left = c->length };
+    macsec_endpoint e = MACSEC_ENDPOINT_INIT;
     macsec_config end;
+    uint64_t floor = 0;
     uint32_t status = commands_end(&it, &end);
     if (status == MACSEC_OK)
-        status = macsec_reserve_open(e, &end, octets, length, false);
-    while (status == MACSEC_OK && commands_next(&it)) {
+        status = macsec_reserve_open(&e, &end, octets, length, false);
+    while (status == MACSEC_OK && floor == 0 && commands_next(&it)) {
         if (it.command.kind == MACSEC_COMMAND_KEY)
-            (void)macsec_carry_out(e, &it.command);
+            (void)macsec_carry_out(&e, &it.command);
+        if (it.command.kind == MACSEC_COMMAND_TX_SA)
+            (void)macsec_reserve_tx_floor(&e, it.command.key, &floor); /* 0 if there is no such key */
         if (it.status == MACSEC_E_MEMORY)
             status = it.status;
     }
-    return status;
-}
-
-/* Does another journal have packet numbers of a key under which this NAME sends? */
-static int compare(const struct keys *k, const char *path, const uint8_t *octets, size_t length) {
-    macsec_endpoint e = MACSEC_ENDPOINT_INIT;
-    uint32_t status = show_journal(k, &e, octets, length);
-    int result = status == MACSEC_E_MEMORY ? ENDS_FAILED : 0;
-    if (result != 0)
-        message("%s: out of memory", path);
-    for (unsigned number = 0; number < MACSEC_KEY_COUNT && status == MACSEC_OK && result == 0; number++) {
-        uint64_t floor = 0;
-        if (!k->sends[number] || macsec_reserve_tx_floor(&e, (uint16_t)number, &floor) != MACSEC_OK || floor == 0)
-            continue;
-        message("key %u has packet numbers in %s too: both would use the same ones. Install new keys at one of the two",
-                number, path);
-        result = ENDS_WRONG;
-    }
     macsec_free(&e);
-    return result;
+    if (floor != 0)
+        return message_wrong("key %u has packet numbers in %s too: both would use the same ones. Install new keys at "
+                             "one of the two",
+                             it.command.key, path);
+    if (status != MACSEC_E_MEMORY)
+        return 0;
+    message("%s: out of memory", path);
+    return ENDS_FAILED;
 }
 
 /* ---- The other journals ---- */
@@ -130,21 +107,16 @@ static int compare(const struct keys *k, const char *path, const uint8_t *octets
 static uint8_t *read_file(int file, size_t *length) {
     struct stat about;
     uint8_t *octets;
-    ssize_t count = 1;
     *length = 0;
     if (fstat(file, &about) != 0 || !S_ISREG(about.st_mode) || about.st_size > (off_t)JOURNAL_MAX)
         return NULL;
     octets = malloc((size_t)about.st_size + 1);
-    while (octets != NULL && *length < (size_t)about.st_size && count > 0) {
-        count = pread(file, octets + *length, (size_t)about.st_size - *length, (off_t)*length);
-        if (count < 0 && errno == EINTR)
-            count = 1;
-        else if (count > 0)
-            *length += (size_t)count;
-    }
-    if (count < 0) {
-        free(octets);
-        return NULL;
+    for (ssize_t count = 1; octets != NULL && count > 0 && *length < (size_t)about.st_size; *length += (size_t)count) {
+        count = TEMP_FAILURE_RETRY(pread(file, octets + *length, (size_t)about.st_size - *length, (off_t)*length));
+        if (count < 0) {
+            free(octets);
+            return NULL;
+        }
     }
     return octets;
 }
@@ -167,7 +139,7 @@ static const char *fault_of_octets(const uint8_t *octets, size_t length) {
     return text;
 }
 
-/* What is wrong with the owner of a journal, or NULL. */
+/* What is wrong with the owner of a journal, or NULL. Started by root, macsecd becomes the user of its folder. */
 static const char *fault_of_owner(const struct stat *about, const char *path) {
     char folder[PATH_MAX];
     struct stat of_folder;
@@ -175,14 +147,11 @@ static const char *fault_of_owner(const struct stat *about, const char *path) {
     *strrchr(folder, '/') = '\0';
     if (stat(folder, &of_folder) != 0)
         return NULL;
-    switch (journal_check_owner(about, &of_folder)) {
-    case EACCES:
+    if (journal_check_owner(about, &of_folder) == EACCES)
         return "can be read or written by others, who could make macsecd repeat packet numbers: chmod 600";
-    case EPERM:
-        return "belongs to another user than its folder: chown";
-    default:
-        return NULL;
-    }
+    return about->st_uid == of_folder.st_uid
+               ? NULL
+               : "belongs to another user than its folder, so macsecd can't write it: chown";
 }
 
 static const char *fault_of_file(int file, const char *path) {
@@ -192,6 +161,8 @@ static const char *fault_of_file(int file, const char *path) {
     size_t length;
     if (fstat(file, &about) != 0)
         return NULL;
+    if (!S_ISREG(about.st_mode))
+        return "is not a regular file";
     if ((fault = fault_of_owner(&about, path)) != NULL)
         return fault;
     if (about.st_nlink > 1)
@@ -206,14 +177,16 @@ static const char *fault_of_file(int file, const char *path) {
 
 const char *journals_fault(const char *path) {
     int file = open(path, O_RDONLY | O_CLOEXEC | O_NOFOLLOW | O_NONBLOCK | O_NOCTTY);
-    const char *fault = file < 0 ? NULL : fault_of_file(file, path);
-    if (file >= 0)
-        (void)close(file); /* it was only read */
+    const char *fault;
+    if (file < 0)
+        return errno == ELOOP ? "is not a regular file" : NULL;
+    fault = fault_of_file(file, path);
+    (void)close(file); /* it was only read */
     return fault;
 }
 
 /* Compares with one journal. It can be written meanwhile: whole records are read. */
-static int compare_file(const struct keys *k, const char *folder, const char *name) {
+static int compare_file(const struct config *c, const char *folder, const char *name) {
     char path[PATH_MAX];
     uint8_t *octets;
     size_t length, record;
@@ -224,7 +197,7 @@ static int compare_file(const struct keys *k, const char *folder, const char *na
     octets = file < 0 ? NULL : read_file(file, &length);
     if (octets == NULL)
         message("%s can't be read, so keys are not compared with it", path);
-    else if ((result = compare(k, path, octets, length)) == 0 &&
+    else if ((result = compare(c, path, octets, length)) == 0 &&
              journal_find_damage(octets, length, &record) == MACSEC_OK && record != 0)
         message("%s has damage in record %zu, so not all its keys are compared", path, record);
     free(octets);
@@ -234,77 +207,68 @@ static int compare_file(const struct keys *k, const char *folder, const char *na
 }
 
 static bool is_journal(const char *name) {
-    size_t length = strlen(name), suffix = strlen(SUFFIX);
-    return length > suffix && strcmp(name + length - suffix, SUFFIX) == 0;
+    const char *dot = strrchr(name, '.');
+    return dot != NULL && dot != name && strcmp(dot, SUFFIX) == 0;
 }
 
-/* Compares with the journals of a folder, except the device's own. One that can't be read has none of this user's. */
-static int compare_folder(const struct keys *k, const char *folder) {
+/* The configuration of this NAME; the folder of its journal, and the name there. */
+struct place {
+    const struct config *config;
+    char folder[PATH_MAX];
+    const char *name;
+};
+
+/* Compares with the journals of a folder, except the own one. A folder that can't be read has none of this user's. */
+static int compare_folder(const struct place *p, const char *folder) {
+    bool is_own = strcmp(folder, p->folder) == 0;
     DIR *entries = opendir(folder);
     const struct dirent *entry;
     int result = 0;
     if (entries == NULL)
         return 0;
     while (result == 0 && (entry = readdir(entries)) != NULL)
-        if (is_journal(entry->d_name) && (strcmp(folder, k->own) != 0 || strcmp(entry->d_name, k->name) != 0))
-            result = compare_file(k, folder, entry->d_name);
+        if (is_journal(entry->d_name) && !(is_own && strcmp(entry->d_name, p->name) == 0))
+            result = compare_file(p->config, folder, entry->d_name);
     (void)closedir(entries);
     return result;
-}
-
-static int compare_other(const char *folder, const void *keys) {
-    const struct keys *k = keys;
-    return strcmp(folder, k->own) == 0 ? 0 : compare_folder(k, folder);
 }
 
 static int is_visible(const struct dirent *entry) {
     return entry->d_name[0] != '.';
 }
 
-/* Visits the folders beside the own one, which has the name of the device. All devices do so in one order, and until a
- * visit returns another status than 0. */
-static int visit_beside(const char *parent, int (*visit)(const char *folder, const void *context),
-                        const void *context) {
+/* Visits the folder of the own journal and, if that has the name of the device, those beside it. All devices do so in
+ * one order, and until a visit returns another status than 0. */
+static int visit(struct place *p, const char *name, int (*each)(const struct place *p, const char *folder)) {
     struct dirent **entries;
-    int result = 0, count = scandir(parent, &entries, is_visible, alphasort);
+    char parent[PATH_MAX], *slash;
+    int result = 0, count = -1;
+    if (!journals_path(p->folder, sizeof p->folder, name))
+        return ENDS_WRONG;
+    slash = strrchr(p->folder, '/');
+    *slash = '\0';
+    p->name = slash + 1;
+    memcpy(parent, p->folder, sizeof parent);
+    slash = strrchr(parent, '/');
+    if (slash != NULL && slash != parent && strcmp(slash + 1, name) == 0) {
+        *slash = '\0';
+        count = scandir(parent, &entries, is_visible, alphasort);
+    }
     if (count < 0)
-        return 0;
+        return each(p, p->folder);
     for (int i = 0; i < count; i++) {
         char folder[PATH_MAX];
         if (result == 0 && snprintf(folder, sizeof folder, "%s/%s", parent, entries[i]->d_name) < PATH_MAX)
-            result = visit(folder, context);
+            result = each(p, folder);
         free(entries[i]);
     }
     free(entries);
     return result;
 }
 
-/* Finds the folder of the own journal and, if that has the name of the device, the one above it; else that is empty.
- * Returns the name of the journal in its folder, or NULL after a message. */
-static const char *find_folders(char own[PATH_MAX], char parent[PATH_MAX], const char *name) {
-    char *file, *slash;
-    if (!journals_path(own, PATH_MAX, name))
-        return NULL;
-    file = strrchr(own, '/');
-    *file++ = '\0';
-    memcpy(parent, own, PATH_MAX);
-    slash = strrchr(parent, '/');
-    if (slash == NULL || slash == parent || strcmp(slash + 1, name) != 0)
-        slash = parent;
-    *slash = '\0';
-    return file;
-}
-
 int journals_check_keys(const struct config *c, const char *name) {
-    char own[PATH_MAX], parent[PATH_MAX];
-    struct keys k = { .config = c, .own = own, .name = find_folders(own, parent, name) };
-    int result;
-    if (k.name == NULL)
-        return ENDS_WRONG;
-    if (!find_sending(&k))
-        return message_of_memory();
-    result = compare_folder(&k, own);
-    return result == 0 && parent[0] != '\0' ? visit_beside(parent, compare_other, &k) : result;
+    struct place p = { .config = c };
+    return visit(&p, name, compare_folder);
 }
 
 /* ---- One start at a time ---- */
@@ -352,10 +316,10 @@ static int lock_file(int file, const char *path, bool is_private) {
 }
 
 /* Locks a folder. One that this user can't open has no journal of this user's. */
-static int lock_folder(const char *path, const void *context) {
+static int lock_folder(const struct place *p, const char *path) {
     struct stat about;
     int *grown, file = open(path, O_RDONLY | O_DIRECTORY | O_CLOEXEC);
-    (void)context;
+    (void)p;
     if (file < 0 && errno != EMFILE && errno != ENFILE && errno != ENOMEM)
         return 0;
     if (file < 0 || fstat(file, &about) != 0)
@@ -372,10 +336,8 @@ static int lock_folder(const char *path, const void *context) {
 
 /* All lock in one order, so that no two wait for each other. Whoever makes a folder later locks these folders too. */
 int journals_lock(const char *name) {
-    char own[PATH_MAX], parent[PATH_MAX];
-    if (find_folders(own, parent, name) == NULL)
-        return ENDS_WRONG;
-    return parent[0] != '\0' ? visit_beside(parent, lock_folder, NULL) : lock_folder(own, NULL);
+    struct place p = { .config = NULL };
+    return visit(&p, name, lock_folder);
 }
 
 void journals_unlock(void) {

@@ -1,6 +1,7 @@
 /* LINK: the network device below, by a packet socket. */
 #include "frames.h"
 #include <arpa/inet.h>
+#include <linux/if_arp.h>
 #include <net/ethernet.h>
 
 /* Octets of a VLAN tag, and where it is in a frame. */
@@ -32,20 +33,26 @@ static void set_buffer(int socket) {
         (void)setsockopt(socket, SOL_SOCKET, SO_SNDBUF, &octets, sizeof octets); /* more calls are needed */
 }
 
-/* Reads LINK's address and its MTU. */
-static int read_properties(struct link *l) {
+int link_type(int any, const char *name, uint8_t address[6], uint32_t *mtu) {
     struct ifreq request;
+    int type;
     memset(&request, 0, sizeof request);
-    memcpy(request.ifr_name, l->name, IF_NAMESIZE);
-    if (ioctl(l->socket, SIOCGIFHWADDR, &request) != 0)
-        return message_of_errno("LINK %s: its address", l->name);
-    if (request.ifr_hwaddr.sa_family != 1) /* ARPHRD_ETHER */
-        return message_wrong("LINK %s is not an Ethernet device", l->name);
-    memcpy(l->address, request.ifr_hwaddr.sa_data, sizeof l->address);
-    if (ioctl(l->socket, SIOCGIFMTU, &request) != 0)
-        return message_of_errno("LINK %s: its MTU", l->name);
-    l->mtu = (uint32_t)request.ifr_mtu;
-    return 0;
+    memcpy(request.ifr_name, name, strnlen(name, IF_NAMESIZE - 1));
+    if (ioctl(any, SIOCGIFHWADDR, &request) != 0)
+        return -1;
+    type = request.ifr_hwaddr.sa_family;
+    memcpy(address, request.ifr_hwaddr.sa_data, 6);
+    if (ioctl(any, SIOCGIFMTU, &request) != 0)
+        return -1;
+    *mtu = (uint32_t)request.ifr_mtu;
+    return type;
+}
+
+static int read_properties(struct link *l) {
+    int type = link_type(l->socket, l->name, l->address, &l->mtu);
+    if (type < 0)
+        return message_of_errno("LINK %s: its address and its MTU", l->name);
+    return type == ARPHRD_ETHER ? 0 : message_wrong("LINK %s is not an Ethernet device", l->name);
 }
 
 /* The socket has no protocol until it is bound, so that it gets no frame of another device. */
@@ -72,6 +79,10 @@ int link_open(struct link *l, const char *name) {
     RETURN_IF_FAILED(set(l, PACKET_IGNORE_OUTGOING, &one, sizeof one, "ignoring sent frames"));
     RETURN_IF_FAILED(join(l, PACKET_MR_ALLMULTI, "all multicast frames"));
     return bind_socket(l);
+}
+
+uint32_t link_max_frame(uint32_t mtu) {
+    return mtu < MACSEC_FRAME_MAX - ETHER_HDR_LEN ? mtu + ETHER_HDR_LEN : MACSEC_FRAME_MAX;
 }
 
 void link_make_promiscuous(struct link *l) {

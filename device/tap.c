@@ -9,9 +9,7 @@
 enum { HEADER = 14 };
 
 uint32_t tap_mtu(uint32_t link_mtu, uint32_t max_frame) {
-    uint32_t frame = max_frame < MACSEC_FRAME_MAX ? max_frame : MACSEC_FRAME_MAX;
-    if (link_mtu + HEADER < frame)
-        frame = link_mtu + HEADER;
+    uint32_t most = link_max_frame(link_mtu), frame = max_frame < most ? max_frame : most;
     return frame < HEADER + MACSEC_OVERHEAD_MAX ? 0 : frame - HEADER - MACSEC_OVERHEAD_MAX;
 }
 

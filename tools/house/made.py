@@ -185,12 +185,12 @@ def check_of_device() -> dict[str, str]:
     remedies = (quoted(it["remedy"]) if it["remedy"] else "NULL" for it in rows)
     said = (f"{{ MACSEC_{it['c']}, {quoted(meaning(it))}, {remedy} }}" for it, remedy in zip(rows, remedies))
     commands = [it for it in family("commands") if it["number"]]
-    usages = (f"[MACSEC_{it['c']}] = {{ {quoted(it['usage'])}, {quoted(it['example'])} }}" for it in commands)
+    usages = (quoted(it["usage"]) for it in commands)
     slips = (f'#define {it["c"]} {quoted(it["text"])}' for it in family("slips"))
     return {
         "slips": lines(slips),
         "meanings": array("const struct meaning ", "meanings[]", said),
-        "usages": array("const char *const ", "usages[][2]", usages),
+        "usages": array("const char *const ", "usages[]", usages),
     }
 
 
