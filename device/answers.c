@@ -62,10 +62,8 @@ static const uint64_t *counts_of(const struct device *d) {
     return (const uint64_t *)&d->counts;
 }
 
-/* A packet number as text. 2^64, one past the last, has 17 digits. */
-static void number_text(uint64_t number, uint64_t high, char text[20]) {
-    snprintf(text, 20, "%s%016" PRIx64, high != 0 ? "1" : "", number);
-}
+/* A packet number after its upper half. 2^64, one past the last, has 17 digits. */
+#define NUMBER "%.0" PRIu64 "%016" PRIx64
 
 /* ---- Commands ---- */
 
@@ -154,30 +152,6 @@ void answer_counters(struct text *t, const struct device *d) {
     add_lines(t, "device ", device_names, counts_of(d), COUNT_OF_COUNTS);
 }
 
-uint32_t answer_tx_number(struct text *t, const macsec_endpoint *e, uint8_t an) {
-    macsec_tx_sa sa;
-    char next[20];
-    uint32_t status = macsec_get_tx_sa(e, an, &sa);
-    if (status != MACSEC_OK)
-        return status;
-    number_text(sa.next, sa.next_high, next);
-    text_add(t, "tx %u %u %s %s %s\n", an, sa.key, next, sa.on ? "on" : "off", sa.conf ? "conf" : "int");
-    return status;
-}
-
-uint32_t answer_rx_number(struct text *t, const macsec_endpoint *e, const uint8_t sci[8], uint8_t an) {
-    macsec_rx_sa sa;
-    char name[SCI_TEXT], next[20], lowest[20];
-    uint32_t status = macsec_get_rx_sa(e, sci, an, &sa);
-    if (status != MACSEC_OK)
-        return status;
-    sci_text(sci, name);
-    number_text(sa.next, sa.next_high, next);
-    number_text(sa.lowest, sa.lowest_high, lowest);
-    text_add(t, "rx %s %u %u %s %s %s\n", name, an, sa.key, next, lowest, sa.on ? "on" : "off");
-    return status;
-}
-
 /* LINK, as `ip link` would show it: an isolated one is not in the host's namespace. */
 void answer_link(struct text *t, const struct device *d) {
     const uint8_t *a = d->link.address;
@@ -202,12 +176,10 @@ static void add_json_transmit(struct text *t, const macsec_endpoint *e) {
     text_add(t, ",\"transmit\":[");
     for (uint8_t an = 0; an < MACSEC_AN_COUNT; an++) {
         macsec_tx_sa sa;
-        char next[20];
         if (macsec_get_tx_sa(e, an, &sa) != MACSEC_OK)
             continue;
-        number_text(sa.next, sa.next_high, next);
-        text_add(t, "%s{\"an\":%u,\"key\":%u,\"next\":\"%s\",\"on\":%s,\"conf\":%s}", comma, an, sa.key, next,
-                 sa.on ? "true" : "false", sa.conf ? "true" : "false");
+        text_add(t, "%s{\"an\":%u,\"key\":%u,\"next\":\"" NUMBER "\",\"on\":%s,\"conf\":%s}", comma, an, sa.key,
+                 sa.next_high, sa.next, sa.on ? "true" : "false", sa.conf ? "true" : "false");
         comma = ",";
     }
     text_add(t, "]");
@@ -219,13 +191,10 @@ static void add_json_associations(struct text *t, const struct device *d, const 
     for (uint8_t an = 0; an < MACSEC_AN_COUNT; an++) {
         macsec_rx_sa sa;
         uint64_t values[RX];
-        char next[20], lowest[20];
         if (macsec_get_rx_sa(d->endpoint, sci, an, &sa) != MACSEC_OK || totals_rx(d, sci, an, values) != MACSEC_OK)
             continue;
-        number_text(sa.next, sa.next_high, next);
-        number_text(sa.lowest, sa.lowest_high, lowest);
-        text_add(t, "%s{\"an\":%u,\"key\":%u,\"next\":\"%s\",\"lowest\":\"%s\",\"on\":%s,", comma, an, sa.key, next,
-                 lowest, sa.on ? "true" : "false");
+        text_add(t, "%s{\"an\":%u,\"key\":%u,\"next\":\"" NUMBER "\",\"lowest\":\"" NUMBER "\",\"on\":%s,", comma, an,
+                 sa.key, sa.next_high, sa.next, sa.lowest_high, sa.lowest, sa.on ? "true" : "false");
         add_object(t, "counters", rx_names, values, RX);
         text_add(t, "}");
         comma = ",";
@@ -321,16 +290,18 @@ static void add_rx_metrics(struct text *t, const struct device *d, int counter, 
     }
 }
 
+static void add_gauge(struct text *t, const char *device, const char *name, size_t value) {
+    text_add(t, "# TYPE macsec_%s gauge\nmacsec_%s{device=\"%s\"} %zu\n", name, name, device, value);
+}
+
 static void add_gauges(struct text *t, const struct device *d) {
     uint32_t left = 0;
     (void)macsec_keys_left(d->endpoint, &left);
-    text_add(t, "# TYPE macsec_link_up gauge\nmacsec_link_up{device=\"%s\"} %d\n", d->name, d->link.up);
-    text_add(t, "# TYPE macsec_port_on gauge\nmacsec_port_on{device=\"%s\"} %d\n", d->name, !d->port.off);
-    text_add(t, "# TYPE macsec_keys_left gauge\nmacsec_keys_left{device=\"%s\"} %u\n", d->name, (unsigned)left);
-    text_add(t, "# TYPE macsec_journal_names gauge\nmacsec_journal_names{device=\"%s\"} %zu\n", d->name,
-             numbers_names(d->numbers));
-    text_add(t, "# TYPE macsec_journal_names_max gauge\nmacsec_journal_names_max{device=\"%s\"} %zu\n", d->name,
-             numbers_names_max());
+    add_gauge(t, d->name, "link_up", d->link.up);
+    add_gauge(t, d->name, "port_on", !d->port.off);
+    add_gauge(t, d->name, "keys_left", left);
+    add_gauge(t, d->name, "journal_names", numbers_names(d->numbers));
+    add_gauge(t, d->name, "journal_names_max", numbers_names_max());
     text_add(t, "# TYPE macsec_next_packet_number gauge\n");
     for (uint8_t an = 0; an < MACSEC_AN_COUNT; an++) {
         macsec_tx_sa sa;

@@ -119,7 +119,7 @@ static const unsigned of_workers[] = {
     SYS_write, SYS_futex, SYS_restart_syscall, SYS_rt_sigprocmask, SYS_madvise, SYS_exit,
 };
 
-enum { BEFORE = 3, AFTER = 9, CALLS_MAX = 32 };
+enum { BEFORE = 3, AFTER = 9, CALLS_MAX = sizeof of_frames / sizeof *of_frames };
 
 #define LOAD(member) BPF_STMT(BPF_LD | BPF_W | BPF_ABS, (unsigned)offsetof(struct seccomp_data, member))
 #define JUMP_IF(test, value, yes, no) BPF_JUMP(BPF_JMP | (test) | BPF_K, (value), (yes), (no))
@@ -155,8 +155,7 @@ static const struct {
     [WORKER_THREAD] = { of_workers, sizeof of_workers / sizeof *of_workers },
 };
 
-_Static_assert(sizeof of_frames / sizeof *of_frames <= CALLS_MAX, "the list of calls is too long");
-_Static_assert(sizeof of_journal / sizeof *of_journal <= CALLS_MAX, "the list of calls is too long");
+_Static_assert(sizeof of_journal <= sizeof of_frames && sizeof of_workers <= sizeof of_frames, "a list is too long");
 
 int confine_calls(enum thread thread) {
     struct sock_filter program[BEFORE + CALLS_MAX + AFTER];

@@ -90,9 +90,6 @@ bool answer_line(struct text *t, macsec_endpoint *e, const char *line, size_t le
 void answer_numbers(struct text *t, const struct device *d);
 /* The counters, with those of the endpoints from which this one has taken over, and what the device counts. */
 void answer_counters(struct text *t, const struct device *d);
-/* Adds the line of one association. Returns the library's status. */
-uint32_t answer_tx_number(struct text *t, const macsec_endpoint *e, uint8_t an);
-uint32_t answer_rx_number(struct text *t, const macsec_endpoint *e, const uint8_t sci[8], uint8_t an);
 void answer_link(struct text *t, const struct device *d);
 /* All counters as one JSON object, and in the text format of Prometheus. */
 void answer_json(struct text *t, const struct device *d);
@@ -120,8 +117,7 @@ struct waiting {
     size_t length; /* of the answer; 0: there is none */
     char answer[KEPT_ANSWER];
     uint64_t ticket;
-    int64_t until;  /* in milliseconds */
-    bool unwatched; /* does the loop not read its requests? */
+    int64_t until; /* in milliseconds */
 };
 
 struct waits {
@@ -134,8 +130,8 @@ struct waits {
 bool waits_keep(struct device *d, int client, const char *answer, size_t length);
 /* Does the client wait for an answer? Its next requests are read after that. */
 bool waits_for(const struct device *d, int client);
-/* Sends the answers whose records are on the disk, and those that have waited too long. */
-void waits_send(struct device *d);
+/* Sends a client's answer if its records are on the disk, or if it has waited too long. Returns true if so. */
+bool waits_send(struct device *d, int client);
 /* How many milliseconds the loop may wait; -1: for ever. */
 int waits_left(const struct device *d);
 void waits_client_gone(struct device *d, int client);

@@ -123,31 +123,24 @@ static int on_clock(struct device *d) {
     return rtnetlink_tick(d) ? watch_listener(d, EPOLLIN) : ENDS_FAILED;
 }
 
-/* While a client's answer waits, its next request is not read. */
-static int watch_client(struct device *d, int index) {
-    bool waits = waits_for(d, index);
-    if (waits == d->waits.clients[index].unwatched || d->control.clients[index] < 0)
-        return 0;
-    d->waits.clients[index].unwatched = waits;
-    return watch(d, EPOLL_CTL_MOD, d->control.clients[index], waits ? 0 : EPOLLIN, CLIENT + (uint32_t)index);
+static int watch_client(struct device *d, int index, int operation, uint32_t events) {
+    return watch(d, operation, d->control.clients[index], events, CLIENT + (uint32_t)index);
 }
 
-/* A connection that has ended needs no answer. */
+/* While a client's answer waits, its next request is not read. A connection that has ended needs no answer. */
 static int on_client(struct device *d, int index, uint32_t events) {
     if (d->control.clients[index] < 0 || (waits_for(d, index) && (events & (EPOLLERR | EPOLLHUP)) == 0))
         return 0;
     waits_client_gone(d, index);
     (void)control_answer(d, index);
-    return watch_client(d, index);
+    return waits_for(d, index) ? watch_client(d, index, EPOLL_CTL_MOD, 0) : 0;
 }
 
 /* Sends answers whose time has come. */
 static int send_answers(struct device *d) {
-    if (d->waits.answers == 0)
-        return 0;
-    waits_send(d);
-    for (int i = 0; i < CLIENTS; i++)
-        RETURN_IF_FAILED(watch_client(d, i));
+    for (int i = 0; i < CLIENTS && d->waits.answers > 0; i++)
+        if (waits_send(d, i))
+            RETURN_IF_FAILED(watch_client(d, i, EPOLL_CTL_MOD, EPOLLIN));
     return 0;
 }
 
@@ -155,8 +148,7 @@ static int on_listener(struct device *d) {
     int index = control_accept(d);
     if (index < 0)
         return watch_listener(d, 0);
-    d->waits.clients[index].unwatched = false;
-    return watch(d, EPOLL_CTL_ADD, d->control.clients[index], EPOLLIN, CLIENT + (uint32_t)index);
+    return watch_client(d, index, EPOLL_CTL_ADD, EPOLLIN);
 }
 
 /* What is no frame finds no job under way. */

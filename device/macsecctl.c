@@ -114,27 +114,18 @@ static int ask_words(int file, int count, char **words) {
 
 /* ---- All lines or none ---- */
 
-/* Reads lines after what the request has already. Returns the length of the request, or 0 after a message. */
-static size_t read_lines(int file, size_t length) {
-    ssize_t count = 1;
-    while (count != 0 && length < sizeof request) {
-        count = TEMP_FAILURE_RETRY(read(file, request + length, sizeof request - length));
-        if (count < 0)
-            return (size_t)fail("the lines", 0);
-        length += (size_t)count;
-    }
-    return length < sizeof request ? length : WRONG(0, "the lines have more than %d octets\n", REQUEST - 5);
-}
-
 static int load(int file, int lines) {
-    size_t length;
-    memcpy(request, "load\n", 5);
-    length = read_lines(lines, 5);
-    if (length == 0) {
-        explicit_bzero(request, sizeof request);
-        return 2;
+    size_t length = 5;
+    ssize_t count = 1;
+    memcpy(request, "load\n", length);
+    while (count > 0 && length < sizeof request) {
+        count = TEMP_FAILURE_RETRY(read(lines, request + length, sizeof request - length));
+        length += count > 0 ? (size_t)count : 0;
     }
-    return ask_and_print(file, length);
+    if (count == 0)
+        return ask_and_print(file, length);
+    explicit_bzero(request, sizeof request);
+    return count < 0 ? fail("the lines", 2) : WRONG(2, "the lines have more than %d octets\n", REQUEST - 5);
 }
 
 static int load_file(int file, const char *path) {

@@ -5,7 +5,8 @@
 #include <stdarg.h>
 #include <time.h>
 
-enum { LONGEST = 1024 };
+/* The most octets of a line. A text has half of them. */
+enum { LONGEST = 2048 };
 
 /* Of each form so many messages are printed in so many seconds; and how many forms there are at most. */
 enum { OFTEN = 10, SECONDS = 60, FORMS = 128 };
@@ -102,24 +103,17 @@ static void print_line(char line[LONGEST], size_t end) {
 }
 
 static void print(const char *form, va_list arguments, int error) {
-    char line[LONGEST];
+    char line[LONGEST], text[LONGEST / 2], more[40] = "";
     unsigned left_out;
-    int length, more;
-    size_t end;
+    int length;
     if (!may_print(form, &left_out))
         return;
-    length = snprintf(line, sizeof line, "macsecd%s%s: ", device_name[0] == '\0' ? "" : " ", device_name);
-    more = vsnprintf(line + length, sizeof line - (size_t)length, form, arguments);
-    end = more < 0 ? (size_t)length : (size_t)length + (size_t)more;
-    if (error != 0 && end < sizeof line) {
-        more = snprintf(line + end, sizeof line - end, ": %s", strerror(error));
-        end += more < 0 ? 0 : (size_t)more;
-    }
-    if (left_out > 0 && end < sizeof line) {
-        more = snprintf(line + end, sizeof line - end, " (%u times more before)", left_out);
-        end += more < 0 ? 0 : (size_t)more;
-    }
-    print_line(line, end);
+    (void)vsnprintf(text, sizeof text, form, arguments); /* it may be cut */
+    if (left_out > 0)
+        snprintf(more, sizeof more, " (%u times more before)", left_out);
+    length = snprintf(line, sizeof line, "macsecd%s%s: %s%s%s%s", device_name[0] == '\0' ? "" : " ", device_name, text,
+                      error == 0 ? "" : ": ", error == 0 ? "" : strerror(error), more);
+    print_line(line, (size_t)length);
 }
 
 void message(const char *form, ...) {

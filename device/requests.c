@@ -4,18 +4,29 @@
 /* Adds the line of one association. The library reads `numbers tx AN` and `numbers rx SCI AN` as the lines `A txon AN`
  * and `A rxon SCI AN`, which are written over the request. */
 static void answer_one_number(struct device *d, struct text *t, const struct words *w, char *request, size_t length) {
-    const char *start = words_is(w, 1, "tx") ? "A txon" : "A rxon";
-    size_t at = (size_t)(w->at[1] + strlen("tx") - request) - strlen(start);
+    bool sends = words_is(w, 1, "tx");
+    size_t at = (size_t)(w->at[1] + strlen("tx") - request) - strlen("A txon");
+    char sci[SCI_TEXT], begin[SCI_TEXT + 8], *line;
     macsec_command c;
+    macsec_tx_sa tx;
+    macsec_rx_sa rx;
     uint32_t status;
-    memcpy(request + at, start, strlen(start));
+    memcpy(request + at, sends ? "A txon" : "A rxon", strlen("A txon"));
     status = macsec_parse_line((const uint8_t *)request + at, length - at, &c);
-    if (status == MACSEC_OK && c.kind == MACSEC_COMMAND_TX_ON)
-        status = answer_tx_number(t, d->endpoint, c.an);
-    else if (status == MACSEC_OK)
-        status = answer_rx_number(t, d->endpoint, c.sci, c.an);
-    if (status != MACSEC_OK)
+    if (status == MACSEC_OK)
+        status = sends ? macsec_get_tx_sa(d->endpoint, c.an, &tx) : macsec_get_rx_sa(d->endpoint, c.sci, c.an, &rx);
+    if (status != MACSEC_OK) {
         answer_result(t, result_of(status));
+        return;
+    }
+    sci_text(c.sci, sci);
+    snprintf(begin, sizeof begin, "%s%s %u ", sends ? "tx" : "rx ", sends ? "" : sci, c.an);
+    answer_numbers(t, d);
+    line = memmem(t->octets, t->length, begin, strlen(begin));
+    if (line == NULL)
+        return; /* the answer says that memory ran out */
+    t->length = (size_t)((char *)memchr(line, '\n', t->length - (size_t)(line - t->octets)) + 1 - line);
+    memmove(t->octets, line, t->length);
 }
 
 static void answer_port(struct text *t, const struct device *d) {

@@ -53,14 +53,13 @@ int messages_flush_output(void);
 /* ---- service.c: the service manager ---- */
 
 struct service {
-    int socket;      /* -1: there is no service manager */
-    bool owes_ready; /* is READY=1 to be sent again? */
+    int socket; /* -1: there is no service manager */
 };
 
 /* Connects to the service manager's socket, if there is one. Returns 0, or the exit status after a message. */
 int service_open(struct service *s);
 /* Sends it an assignment, such as READY=1. */
-void service_notify(struct service *s, const char *assignment);
+void service_notify(const struct service *s, const char *assignment);
 
 /* ---- memory.c: memory that is not swapped ---- */
 

@@ -38,15 +38,13 @@ void waits_client_gone(struct device *d, int client) {
     d->waits.clients[client].length = 0;
 }
 
-void waits_send(struct device *d) {
-    for (int client = 0; client < CLIENTS; client++) {
-        struct waiting *w = &d->waits.clients[client];
-        size_t length = w->length;
-        if (length == 0 || (!numbers_is_written(d->numbers, w->ticket) && now() < w->until))
-            continue;
-        waits_client_gone(d, client);
-        control_send(d, client, w->answer, length);
-    }
+bool waits_send(struct device *d, int client) {
+    struct waiting *w = &d->waits.clients[client];
+    size_t length = w->length;
+    if (length == 0 || (!numbers_is_written(d->numbers, w->ticket) && now() < w->until))
+        return false;
+    waits_client_gone(d, client);
+    return control_send(d, client, w->answer, length);
 }
 
 int waits_left(const struct device *d) {
