@@ -11,8 +11,7 @@ struct numbers;
 
 /* Allocates locked memory for one key of each number. Returns 0, or the exit status after a message. */
 int keys_open(macsec_sak **keys);
-/* To be called when a command was carried out: keeps a new key, and wipes a retired one. */
-void keys_note(macsec_sak *keys, const macsec_command *c);
+void keys_retire(macsec_sak *keys, size_t number);
 /* Is there a key of this number that is not retired? */
 bool keys_has(const macsec_sak *keys, size_t number);
 void keys_wipe(macsec_sak *keys);
@@ -41,8 +40,8 @@ void totals_own(const struct device *d, uint64_t own[OWN_COUNTERS], uint64_t tx[
 uint32_t totals_rx(const struct device *d, const uint8_t sci[8], int an, uint64_t values[RX_COUNTERS]);
 /* Keeps the counters of the endpoint, which ends, so that the next one's are added to them. */
 void totals_carry(struct device *d);
-/* To be called when a command was carried out: a channel or an association that was deleted counts no more. */
-void totals_note(struct totals *t, const macsec_command *c);
+/* A channel that was deleted, or an association if `an` is not -1, counts no more. */
+void totals_end(struct totals *t, const uint8_t sci[8], int an);
 
 /* ---- endpoint.c: the endpoint, by the lines of requests and of the configuration ---- */
 

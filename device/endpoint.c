@@ -7,16 +7,30 @@
 static void note(struct device *d, const macsec_command *c, bool passes) {
     workers_forget(d->workers);
     floods_end(d);
-    keys_note(d->keys, c);
-    totals_note(&d->totals, c);
-    if (c->kind == MACSEC_COMMAND_KEY)
+    switch (lines_effect(c->kind)) {
+    case NO_EFFECT:
+        break;
+    case KEEPS_KEY:
+        d->keys[c->key] = c->sak;
         numbers_note_key(d->numbers, c->key, passes);
-    if (c->kind == MACSEC_COMMAND_RETIRE)
+        break;
+    case WIPES_KEY:
+        keys_retire(d->keys, c->key);
         numbers_note_retired(d->numbers, c->key, passes);
-    if (c->kind == MACSEC_COMMAND_TX_SA)
+        break;
+    case BEGINS_SENDING:
         numbers_reserve(d->numbers, d->endpoint);
-    if (c->kind == MACSEC_COMMAND_RX_SA)
+        break;
+    case BEGINS_ACCEPTING:
         numbers_accept(d->numbers, d->endpoint);
+        break;
+    case ENDS_ASSOCIATION:
+        totals_end(&d->totals, c->sci, c->an);
+        break;
+    case ENDS_CHANNEL:
+        totals_end(&d->totals, c->sci, -1);
+        break;
+    }
 }
 
 struct result result_of(uint32_t status) {

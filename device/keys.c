@@ -21,11 +21,8 @@ bool keys_has(const macsec_sak *keys, size_t number) {
     return keys[number].length != 0;
 }
 
-void keys_note(macsec_sak *keys, const macsec_command *c) {
-    if (c->kind == MACSEC_COMMAND_RETIRE)
-        explicit_bzero(&keys[c->key], sizeof *keys);
-    if (c->kind == MACSEC_COMMAND_KEY)
-        keys[c->key] = c->sak;
+void keys_retire(macsec_sak *keys, size_t number) {
+    explicit_bzero(&keys[number], sizeof *keys);
 }
 
 void keys_wipe(macsec_sak *keys) {

@@ -56,12 +56,46 @@ static uint32_t begin_above(macsec_endpoint *e, const macsec_command *c, uint64_
     return status == MACSEC_E_PN_RANGE ? MACSEC_E_PN_FLOOR : status; /* no packet number is left to the key */
 }
 
+/* There is no `default`: the compiler reports a kind that is not here. */
+enum effect lines_effect(uint32_t kind) {
+    switch ((enum macsec_command_kind)kind) {
+    case MACSEC_COMMAND_KEY:
+        return KEEPS_KEY;
+    case MACSEC_COMMAND_RETIRE:
+        return WIPES_KEY;
+    case MACSEC_COMMAND_TX_SA:
+        return BEGINS_SENDING;
+    case MACSEC_COMMAND_RX_SA:
+        return BEGINS_ACCEPTING;
+    case MACSEC_COMMAND_RX_DEL:
+        return ENDS_ASSOCIATION;
+    case MACSEC_COMMAND_RX_SC_DEL:
+        return ENDS_CHANNEL;
+    case MACSEC_COMMAND_NONE:
+    case MACSEC_COMMAND_PROTECT:
+    case MACSEC_COMMAND_VALIDATE:
+    case MACSEC_COMMAND_REPLAY:
+    case MACSEC_COMMAND_TAG:
+    case MACSEC_COMMAND_TX_ON:
+    case MACSEC_COMMAND_TX_OFF:
+    case MACSEC_COMMAND_TX_DEL:
+    case MACSEC_COMMAND_RX_SC:
+    case MACSEC_COMMAND_RX_ON:
+    case MACSEC_COMMAND_RX_OFF:
+    case MACSEC_COMMAND_RX_LOW:
+        break;
+    }
+    return NO_EFFECT;
+}
+
 uint32_t lines_carry_out(struct numbers *n, macsec_endpoint *e, const macsec_command *c, uint64_t *raised) {
-    bool begins = c->kind == MACSEC_COMMAND_TX_SA || c->kind == MACSEC_COMMAND_RX_SA;
+    enum effect effect = lines_effect(c->kind);
     uint32_t status;
     *raised = 0;
-    if (c->kind == MACSEC_COMMAND_RX_DEL || c->kind == MACSEC_COMMAND_RX_SC_DEL)
+    if (effect == ENDS_ASSOCIATION || effect == ENDS_CHANNEL)
         numbers_note_accepted(n, e, c->sci);
     status = macsec_carry_out(e, c);
-    return status == MACSEC_E_PN_FLOOR && begins ? begin_above(e, c, raised) : status;
+    if (status != MACSEC_E_PN_FLOOR || (effect != BEGINS_SENDING && effect != BEGINS_ACCEPTING))
+        return status;
+    return begin_above(e, c, raised);
 }

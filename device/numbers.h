@@ -199,6 +199,10 @@ void numbers_close(struct numbers *n, macsec_endpoint *e);
 
 /* ---- lines.c: commands that begin and end associations ---- */
 
+/* What a command that is carried out means for the device beside its endpoint. */
+enum effect { NO_EFFECT, KEEPS_KEY, WIPES_KEY, BEGINS_SENDING, BEGINS_ACCEPTING, ENDS_ASSOCIATION, ENDS_CHANNEL };
+enum effect lines_effect(uint32_t kind);
+
 /* Carries out a command. If an association begins above the command's packet number, since lower ones may have been
  * used, `raised` is where; else it is 0. */
 uint32_t lines_carry_out(struct numbers *n, macsec_endpoint *e, const macsec_command *c, uint64_t *raised);
