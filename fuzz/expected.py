@@ -203,7 +203,6 @@ class Endpoint:
         self.protects, self.mode, self.replay, self.window = True, "strict", True, 0
         self.keys, self.tx, self.channels = {}, {}, []
         self.counters = dict.fromkeys(SECY_COUNTERS, 0)
-        self.seal, self.open_sealed = seal, open_sealed
 
     # Commands. Each tests its refusals in the order of their numbers.
 
@@ -363,7 +362,7 @@ class Endpoint:
             tag += self.sci
         clear = min(key.offset, len(data)) if sa.conf else len(data)
         head = frame[:12] + tag + data[:clear]
-        sealed = self.seal(key.octets, self.iv(key, self.sci, key.ssci, pn), head, data[clear:])
+        sealed = seal(key.octets, self.iv(key, self.sci, key.ssci, pn), head, data[clear:])
         name = "Encrypted" if sa.conf else "Protected"
         self.count("OutPkts" + name)
         self.count("OutOctets" + name, len(data))
@@ -435,7 +434,7 @@ class Endpoint:
         self.count("InOctetsDecrypted" if is_encrypted else "InOctetsValidated", len(data))
         clear = min(key.offset, len(data)) if is_encrypted else len(data)
         head = frame[: 12 + read["tag_length"] + clear]
-        text = self.open_sealed(key.octets, self.iv(key, sci, sa.ssci, pn), head, data[clear:], read["icv"])
+        text = open_sealed(key.octets, self.iv(key, sci, sa.ssci, pn), head, data[clear:], read["icv"])
         return None if text is None else data[:clear] + text
 
     # What the lines `counters` and `numbers` print.
@@ -563,14 +562,14 @@ def lines_told(world, number, keyword, end, values):
     return [f"{number} {world.result(keyword, end, values)}"]
 
 
-def run_script(script, make_world=World):
+def run_script(script):
     """The exit status, the text and the line on standard error."""
     try:
         lines = parse(script, is_config=False)
     except ScriptFault as fault:
         return 2, b"", f"macsec: {fault}\n".encode()
     ends = {values[0]: Endpoint(*values[1:]) for _, keyword, _, values in lines if keyword == "end"}
-    world, text = make_world(ends), []
+    world, text = World(ends), []
     for line in lines[2:]:
         text += lines_told(world, *line)
     return 0, text_of(text), b""

@@ -10,11 +10,10 @@ share the work; --only N runs that one and prints it.
 
 Of each input it asks: the program ends within some seconds, by itself and not by a signal; status, standard output,
 standard error and OUT are those expected, and no other file is created or changed; standard error is nothing or one of
-the lines that the documents name, with its status; OUT is an empty file, or a header and whole records; and the run of
-a script keeps the promises of docs/LINK.md (promises.py).
+the lines that the documents name, with its status; and OUT is an empty file, or a header and whole records.
 
-From 2,000 inputs on, the inputs must also have met each kind of input, each verdict, each refusal, the premises of each
-promise, and the faults listed below (EXPECTED). The status is 1 if one was not met, and its name is printed.
+From 2,000 inputs on, the inputs must also have met each kind of input, each verdict, each refusal, and the faults
+listed below (EXPECTED). The status is 1 if one was not met, and its name is printed.
 """
 
 from __future__ import annotations
@@ -32,7 +31,6 @@ import time
 
 sys.dont_write_bytecode = True
 import captures
-import promises
 import tables
 from inputs import ROOT, Corpus, case_of
 
@@ -65,7 +63,6 @@ EXPECTED = {
     "refusal": [f"refused {number} {name}" for number, name in enumerate(tables.REFUSALS, 1)],
     "fault": ["fault 1 Short", "fault 2 NoFrame", "fault 4 AlterRange", "fault 5 Short"],
     "outcome": ["done", "frame", "link", "partial", *(f"dropped {it}" for it in tables.DROPS)],
-    "promise": promises.PROMISES,
 }
 
 
@@ -138,24 +135,21 @@ class Tally:
 
     def __init__(self):
         self.count, self.findings = 0, []
-        self.answers, self.outcomes, self.met, self.meeting = (collections.Counter() for _ in range(4))
+        self.answers, self.outcomes = collections.Counter(), collections.Counter()
 
     def add(self, case):
         self.count += 1
         self.answers[case.kind, told_of(case)] += 1
         self.outcomes.update(OUTCOME.findall(case.answer[1]))
-        self.met.update(case.met)
-        self.meeting.update(it for it, many in case.met.items() if many)
 
     def merge(self, other):
         self.count += other.count
         self.findings += other.findings
-        for name in ("answers", "outcomes", "met", "meeting"):
-            getattr(self, name).update(getattr(other, name))
+        self.answers.update(other.answers)
+        self.outcomes.update(other.outcomes)
 
     def unmet(self):
-        met = {it for it, many in self.meeting.items() if many} | {it.decode() for it in self.outcomes}
-        met |= {it for answer in self.answers for it in answer}
+        met = {it.decode() for it in self.outcomes} | {it for answer in self.answers for it in answer}
         return [f"{what} `{it}`" for what, names in EXPECTED.items() for it in names if it not in met]
 
 
@@ -170,11 +164,7 @@ def run_share(share):
     tally = Tally()
     with tempfile.TemporaryDirectory() as folder:
         for number in share:
-            try:
-                case = case_of(SEED, number, CORPUS)
-            except promises.Broken as broken:
-                tally.findings.append((number, "expected.py", str(broken)))
-                continue
+            case = case_of(SEED, number, CORPUS)
             tally.add(case)
             for program in BUILDS:
                 what = complaint(case, answer_of(program, case, pathlib.Path(folder)))
@@ -194,10 +184,7 @@ def report(options, tally, seconds):
     print(f"{sum(tally.outcomes.values()):9,}  lines of commands, events and records in the texts expected, of which")
     for outcome, many in sorted(tally.outcomes.items()):
         print(f"{many:9,}  {outcome.decode()}")
-    for promise in promises.PROMISES:
-        many, scripts = tally.met[promise], tally.meeting[promise]
-        print(f"{many:9,}  events in {scripts:,} scripts that met the premises of promise `{promise}`")
-    print(f"{len(tally.findings):9,}  answers other than expected, or promises broken")
+    print(f"{len(tally.findings):9,}  answers other than expected")
     for number, program, what in sorted(tally.findings)[:20]:
         print(f"input {number}, {program}: {what}")
     unmet = tally.unmet() if options.inputs >= options.met_from else []
@@ -207,11 +194,7 @@ def report(options, tally, seconds):
 
 
 def show(options):
-    try:
-        case = case_of(options.seed, options.only, Corpus())
-    except promises.Broken as broken:
-        print(f"expected.py: {broken}, in the script\n{broken.script.decode(errors='backslashreplace')}")
-        return 1
+    case = case_of(options.seed, options.only, Corpus())
     print(f"words: {case.words}\nstandard input: {case.stdin!r}")
     for name, octets in case.files.items():
         print(f"{name}: {octets!r}")

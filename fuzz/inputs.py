@@ -16,7 +16,6 @@ import blocks
 import captures
 import expected
 import made
-import promises
 
 ROOT = pathlib.Path(__file__).resolve().parent.parent
 DATA = ROOT / "examples/scripts"
@@ -31,9 +30,9 @@ class Case:
     changed.
     """
 
-    def __init__(self, kind, words, answer, stdin=b"", files=(), met=None, out="out"):
-        self.kind, self.words, self.answer, self.stdin, self.files = kind, words, answer, stdin, dict(files)
-        self.met, self.out = met or {}, out
+    def __init__(self, kind, words, answer, stdin=b"", files=(), out="out"):
+        self.kind, self.words, self.answer, self.stdin = kind, words, answer, stdin
+        self.files, self.out = dict(files), out
 
     def files_after(self):
         return self.files if self.answer[3] is None else {**self.files, self.out: self.answer[3]}
@@ -318,16 +317,16 @@ def script_case(rng, corpus):
         lines = script.split(b"\n")
         script = b"\n".join(lines[: rng.randrange(len(lines) + 1)] + other[rng.randrange(len(other)) :])
     script = of_text(rng, corpus, script)
-    answer, met = promises.checked_run(script)
+    answer = (*expected.run_script(script), None)
     if rng.randrange(4) == 0:
-        return Case("run", ["run", "script"], (*answer, None), files={"script": script}, met=met)
-    return Case("run -", ["run", "-"], (*answer, None), script, met=met)
+        return Case("run", ["run", "script"], answer, files={"script": script})
+    return Case("run -", ["run", "-"], answer, script)
 
 
 def made_case(rng, _corpus):
     """A script without a fault, for two ends that have SAs in both directions, with any events."""
-    script, text, met = made.made_script(rng)
-    return Case("made", ["run", "-"], (0, text, b"", None), script, met=met)
+    script, text = made.made_script(rng)
+    return Case("made", ["run", "-"], (0, text, b"", None), script)
 
 
 def capture_case(rng, corpus):

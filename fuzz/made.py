@@ -10,7 +10,6 @@ from __future__ import annotations
 import copy
 
 import expected
-import promises
 
 ADDRESSES = ("020000000001", "020000000002")
 SIZES = (0, 0, 1, 2, 18, 27, 28, 29, 30, 31, 45, 46, 46, 47, 48, 49, 50, 51, 60)
@@ -22,9 +21,9 @@ class Maker:
     def __init__(self, rng):
         self.rng, self.lines, self.text, self.ends, self.clients = rng, [], [], {}, []
         self.create_ends()
-        self.watch = promises.Watch(self.ends)
-        self.link = self.watch.world.link
-        self.suites = {}
+        self.world = expected.World(self.ends)
+        # What ends have protected, and which end each time; the link may have padded it.
+        self.link, self.senders, self.suites = self.world.link, {}, {}
         self.offsets = dict(zip("AB", self.both(0.15, lambda: rng.choice((0, 0, 30, 50)))))
         self.salts = dict(zip("AB", self.both(0.1, lambda: rng.choice((bytes(12), rng.randbytes(12))).hex())))
         self.sscis = {"A": "00000001", "B": rng.choice(["00000002"] * 12 + ["00000001"])}
@@ -42,10 +41,11 @@ class Maker:
         if keyword == "end":
             self.ends[values[0]] = expected.Endpoint(*values[1:])
         else:
-            self.text += expected.lines_told(self.watch, len(self.lines), keyword, end, values)
-
-    def script(self):
-        return "".join(it + "\n" for it in self.lines).encode()
+            count = len(self.link)
+            self.text += expected.lines_told(self.world, len(self.lines), keyword, end, values)
+            if keyword == "send" and len(self.link) > count and self.ends[end].protects:
+                for frame in (self.link[-1], self.link[-1].ljust(60, b"\0")):
+                    self.senders.setdefault(frame, end)
 
     # The initial ends.
 
@@ -186,9 +186,9 @@ class Maker:
 
     def deliver(self):
         number, end = self.frame_number(), self.end()
-        sent = self.watch.on_link.get(self.link[number]) if number < len(self.link) else None
-        if sent and self.rng.randrange(6):
-            end = self.other(sent[0].end)
+        sender = self.senders.get(self.link[number]) if number < len(self.link) else None
+        if sender and self.rng.randrange(6):
+            end = self.other(sender)
         self.add(f"{end} deliver {number}")
 
     def deliver_last(self):
@@ -233,7 +233,7 @@ class Maker:
     def forged(self, end):
         """A frame made by someone who has an end's key, or None."""
         clone = copy.copy(self.ends[end])
-        clone.seal, clone.counters = expected.seal, dict(clone.counters)
+        clone.counters = dict(clone.counters)
         clone.keys = {number: copy.copy(key) for number, key in clone.keys.items()}
         if not clone.tx:
             return None
@@ -442,14 +442,10 @@ WEIGHTS = {
 
 
 def made_script(rng):
-    """A script without a fault, its text, and how often the premises of each promise were met in its run."""
+    """A script without a fault, and its text."""
     maker = Maker(rng)
-    try:
-        for act in rng.choices(list(WEIGHTS), list(WEIGHTS.values()), k=rng.randrange(1, 40)):
-            act(maker)
-        for line in ("A numbers", "A counters", "B numbers", "B counters"):
-            maker.add(line)
-    except promises.Broken as broken:
-        broken.script = maker.script()
-        raise
-    return maker.script(), expected.text_of(maker.text), maker.watch.met
+    for act in rng.choices(list(WEIGHTS), list(WEIGHTS.values()), k=rng.randrange(1, 40)):
+        act(maker)
+    for line in ("A numbers", "A counters", "B numbers", "B counters"):
+        maker.add(line)
+    return "".join(it + "\n" for it in maker.lines).encode(), expected.text_of(maker.text)

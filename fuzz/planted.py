@@ -5,9 +5,9 @@ The rules are expected.py and captures.py.
 
     python3 fuzz/planted.py [--inputs N] [--seed TEXT]
 
-So it is seen that a program with that mistake would not get past `make fuzz`; and, of the mistakes that break a promise
-of docs/LINK.md, that promises.py finds it broken. No program is run here. The status is 1 if a mistake was not shown,
-if there are fewer mistakes than COUNT says, or if a copy without a mistake seems to have one. """
+So it is seen that a program with that mistake would not get past `make fuzz`. No program is run here. The status is 1
+if a mistake was not shown, if there are fewer mistakes than COUNT says, or if a copy without a mistake seems to have
+one. """
 
 from __future__ import annotations
 
@@ -20,34 +20,32 @@ import types
 
 sys.dont_write_bytecode = True
 import inputs
-import promises
 
-# The mistake, a text that occurs once in the rules, the text that replaces it, and the promise that it breaks, if any.
+# The mistake, a text that occurs once in the rules, and the text that replaces it.
 # fmt: off
 PLANTED = [
     ("a late frame is one at the lowest acceptable number too", "is_late = pn < sa.lowest",
-     "is_late = pn <= sa.lowest", "acceptance"),
+     "is_late = pn <= sa.lowest"),
     ("after a frame is accepted its own number stays acceptable",
      "        sa.lowest = max(sa.lowest, sa.next - self.window)\n",
-     "        sa.lowest = max(sa.lowest, pn - self.window)\n", "order"),
+     "        sa.lowest = max(sa.lowest, pn - self.window)\n"),
     ("an invalid frame moves the numbers on", "        if opened is None:\n",
      "        sa.next = max(sa.next, pn + 1)\n        if opened is None:\n"),
-    ("a replay command leaves the lowest numbers", "sa.lowest = max(sa.lowest, sa.next - window)", "pass", "window"),
+    ("a replay command leaves the lowest numbers", "sa.lowest = max(sa.lowest, sa.next - window)", "pass"),
     ("the lowest number falls where the window grows", "sa.lowest = max(sa.lowest, sa.next - window)",
      "sa.lowest = sa.next - window"),
-    ("an extended number keeps the upper half of the lowest one", "            upper += 1\n", "            pass\n",
-     "acceptance"),
+    ("an extended number keeps the upper half of the lowest one", "            upper += 1\n", "            pass\n"),
     ("an extended number is recovered from the next one", "divmod(sa.lowest, 2**32)", "divmod(sa.next, 2**32)"),
     ("the IV has 32 bits of an extended number", 'ssci + struct.pack(">Q", pn)',
-     'ssci + struct.pack(">Q", pn % 2**32)', "seals"),
+     'ssci + struct.pack(">Q", pn % 2**32)'),
     ("a transmit association begins below the key's first unused number", 'refuse("PnFloor", pn < key.first_unused)',
-     "pass", "ivs"),
+     "pass"),
     ("a retired key's octets are taken again", "it.octets == octets for it",
-     "it.octets == octets and not it.retired for it", "ivs"),
+     "it.octets == octets and not it.retired for it"),
     ("a key of another transmit association is taken",
-     'refuse("KeyInUse", any(sa.key == number for sa in self.tx.values()))', "pass", "ivs"),
-    ("a receive channel of the own SCI", 'refuse("OwnSci", sci == self.sci)', "pass", "origin"),
-    ("a receive association of the own SSCI", 'refuse("SsciOwn", key.is_xpn and ssci == key.ssci)', "pass", "origin"),
+     'refuse("KeyInUse", any(sa.key == number for sa in self.tx.values()))', "pass"),
+    ("a receive channel of the own SCI", 'refuse("OwnSci", sci == self.sci)', "pass"),
+    ("a receive association of the own SSCI", 'refuse("SsciOwn", key.is_xpn and ssci == key.ssci)', "pass"),
     ("an exhausted association is enabled", 'refuse("Exhausted", self.is_exhausted(self.tx[an]))', "pass"),
     ("a number is used by a frame that is too long",
      '24) > self.max_frame:\n            self.count("OutPktsTooLong")\n',
@@ -55,16 +53,16 @@ PLANTED = [
     ("another association stays enabled", "sa.on = number == an", "sa.on = sa.on or number == an"),
     ("SL 48 is taken", "short >= 48", "short >= 49"),
     ("a frame with SL 0 has 47 octets of data", "else 64)", "else 63)"),
-    ("padding is taken for data", "size = short or len(rest) - 16\n", "size = len(rest) - 16\n", "acceptance"),
+    ("padding is taken for data", "size = short or len(rest) - 16\n", "size = len(rest) - 16\n"),
     ("an SCI beside ES", "(tci & 0x20 and tci & 0x50)", "(tci & 0x20 and tci & 0x10)"),
     ("ES before SCB", 'if read["tci"] & 0x10:', 'if read["tci"] & 0x10 and not read["tci"] & 0x40:'),
     ("number 0 under a key of 32-bit ones", "return low or None", "return low"),
     ("by the endpoint's suite number 0 is a fault of the SecTAG", 'if read == "Bad":',
      'if read == "Bad" or (read["pn"] == 0 and not SUITES[self.suite][1]):'),
     ("the IV is that of the endpoint's suite", 'if not key.is_xpn:\n            return sci + struct.pack(">I", pn)',
-     'if not SUITES[self.suite][1]:\n            return sci + struct.pack(">I", pn % 2**32)', "seals"),
+     'if not SUITES[self.suite][1]:\n            return sci + struct.pack(">I", pn % 2**32)'),
     ("no number is extended where those of the endpoint's suite are not", "if not self.keys[sa.key].is_xpn:",
-     "if not (self.keys[sa.key].is_xpn and SUITES[self.suite][1]):", "acceptance"),
+     "if not (self.keys[sa.key].is_xpn and SUITES[self.suite][1]):"),
     ("a 32-bit number is extended where those of the endpoint's suite are", "return low or None",
      "return None if SUITES[self.suite][1] and low < 2**31 <= sa.lowest % 2**32 else low or None"),
     ("no number is above the last one of the endpoint's suite", "return sa.next > self.keys[sa.key].last",
@@ -85,8 +83,7 @@ PLANTED = [
     ("a key has the length of the endpoint's suite", 'refuse("KeyLength", len(octets) != key_length)',
      'refuse("KeyLength", len(octets) != SUITES[self.suite][0])'),
     ("the offset counts for frames of integrity only",
-     "clear = min(key.offset, len(data)) if is_encrypted else len(data)", "clear = min(key.offset, len(data))",
-     "acceptance"),
+     "clear = min(key.offset, len(data)) if is_encrypted else len(data)", "clear = min(key.offset, len(data))"),
     ("an encrypted invalid frame is delivered", 'if c or self.mode == "strict" else ("Invalid"',
      'if self.mode == "strict" else ("Invalid"'),
     ("a frame is counted by its channel alone", "for it in counting or (self,):",
@@ -135,71 +132,48 @@ PLANTED = [
     ("a simple packet has more octets than the snap length", "min(original, snap or original)", "original"),
     ("a block is skipped without its last four octets", "file[place + 8 : end - 4], end\n",
      "file[place + 8 : end - 4], end - 4 * (kind not in LEAST)\n"),
-]
-# fmt: on
-
-
-# The promise that is broken, the mistake, and the two texts: of those above, and of some that only break a promise.
-# fmt: off
-BREAKING = [(promise, *rule) for *rule, promise in (it for it in PLANTED if len(it) == 4)] + [
-    ("seals", "the key does not note that a number is used", "sa.next, key.first_unused = pn + 1, pn + 1",
-     "sa.next = pn + 1"),
-    ("seals", "the last octet of a frame is not what was sealed", "        return head + sealed\n",
+    ("the key does not note that a number is used", "sa.next, key.first_unused = pn + 1, pn + 1", "sa.next = pn + 1"),
+    ("the last octet of a frame is not what was sealed", "        return head + sealed\n",
      '        return head + sealed[:-1] + b"\\0"\n'),
-    ("origin", "a strict end delivers an invalid frame of integrity only",
+    ("a strict end delivers an invalid frame of integrity only",
      'if c or self.mode == "strict" else ("Invalid"', 'if c else ("Invalid"'),
-    ("order", "a strict end delivers late frames", "if self.replay and is_late",
+    ("a strict end delivers late frames", "if self.replay and is_late",
      'if self.replay and is_late and self.mode != "strict"'),
-    ("window", "the window is one wider than it is set", "        sa.lowest = max(sa.lowest, sa.next - self.window)\n",
+    ("the window is one wider than it is set", "        sa.lowest = max(sa.lowest, sa.next - self.window)\n",
      "        sa.lowest = max(sa.lowest, sa.next - self.window - 1)\n"),
-    ("acceptance", "data are delivered as they were received", "frame[:12] + opened, counting", "plain, counting"),
+    ("data are delivered as they were received", "frame[:12] + opened, counting", "plain, counting"),
 ]
 # fmt: on
 # How many mistakes there are, so that one that is missing is noticed.
-COUNT = 84
+COUNT = 70
 
-# No mistake: a text that takes its own place. The first inputs must not show it, nor see a promise broken.
-TEXT = "is_late = pn < sa.lowest"
-SAME = [(None, "no mistake", TEXT, TEXT), ("ivs", "no mistake", TEXT, TEXT)]
+# No mistake: a text that takes its own place. The first inputs must not show it.
+SAME = ("no mistake", *["is_late = pn < sa.lowest"] * 2)
 SAME_INPUTS = 100
 
 
 class Plant:
-    """A copy of the rules with a wrong one, and the promise that the rule breaks or None."""
+    """A copy of the rules with a wrong one."""
 
-    def __init__(self, promise, mistake, old, new):
-        self.promise, self.mistake = promise, mistake
+    def __init__(self, mistake, old, new):
         texts = [(inputs.ROOT / "fuzz" / name).read_text() for name in ("expected.py", "captures.py")]
         assert sum(it.count(old) for it in texts) == 1, mistake
         self.model, rules = (module_of(it.replace(old, new)) for it in texts)
         self.model.captures = rules
 
     def is_shown(self, case):
-        """Is the answer to an input another one; or is the promise seen to be broken?"""
+        """Is the answer to an input another one?"""
         if case.kind == "words":
             return False
-        if self.promise:
-            return case.words[0] == "run" and case.answer[0] == 0 and self.breaks(script_of(case))
         if case.words[0] == "run":
-            return self.model.run_script(script_of(case)) != case.answer[:3]
+            return self.model.run_script(case.stdin or case.files.get("script", b"")) != case.answer[:3]
         return self.model.run_capture(case.words[0], case.files["config"], case.files["in"]) != case.answer
-
-    def breaks(self, script):
-        try:
-            promises.checked_run(script, self.model)
-        except promises.Broken as broken:
-            return broken.args[0] == self.promise
-        return False
 
 
 def module_of(text):
     module = types.ModuleType("planted")
     exec(compile(text, "planted", "exec"), module.__dict__)
     return module
-
-
-def script_of(case):
-    return case.stdin or case.files.get("script", b"")
 
 
 def first_shown(job):
@@ -223,28 +197,26 @@ def main():
     parser.add_argument("--jobs", type=int, default=os.cpu_count(), help="how many processes")
     options = parser.parse_args()
     began, shown = time.monotonic(), {}
-    rules = list(enumerate([(None, *rule[:3]) for rule in PLANTED] + BREAKING))
-    same = list(enumerate(SAME, len(rules)))
+    rules, same = list(enumerate(PLANTED)), (len(PLANTED), SAME)
     jobs = [(rules[it :: options.jobs], options.seed, options.inputs) for it in range(options.jobs)]
     with concurrent.futures.ProcessPoolExecutor(options.jobs) as pool:
-        for found in pool.map(first_shown, [*jobs, (same, options.seed, SAME_INPUTS)]):
+        for found in pool.map(first_shown, [*jobs, ([same], options.seed, SAME_INPUTS)]):
             shown.update(found)
-    return report(rules, same, shown, time.monotonic() - began)
+    return report([*rules, same], shown, time.monotonic() - began)
 
 
-def report(rules, same, shown, seconds):
-    """Prints which input showed which rule first. The status is 1 if it is not as it should be."""
-    for place, (promise, mistake, *_) in [*rules, *same]:
-        what = f"breaks `{promise}`: {mistake}" if promise else mistake
-        print(f"{shown[place] + 1:9,} inputs  {what}" if place in shown else f"      not shown  {what}")
-    found = [place for place, _ in rules if place in shown]
-    print(f"{len(found)} of {len(rules)} mistakes are shown, in {seconds:.0f} seconds")
-    wrong = [f"a copy without a mistake: input {shown[place]} shows one" for place, _ in same if place in shown]
-    if len(rules) != COUNT:
-        wrong.append(f"there are {len(rules)} mistakes, and not {COUNT}")
+def report(rules, shown, seconds):
+    """Prints which input showed which rule first. The last one is right. The status is 1 if that is not so."""
+    for place, (mistake, *_) in rules:
+        print(f"{shown[place] + 1:9,} inputs  {mistake}" if place in shown else f"      not shown  {mistake}")
+    same = shown.pop(len(rules) - 1, None)
+    print(f"{len(shown)} of {len(rules) - 1} mistakes are shown, in {seconds:.0f} seconds")
+    wrong = [] if same is None else [f"a copy without a mistake: input {same} shows one"]
+    if len(rules) - 1 != COUNT:
+        wrong.append(f"there are {len(rules) - 1} mistakes, and not {COUNT}")
     for what in wrong:
         print(f"WRONG: {what}")
-    return 1 if wrong or len(found) < len(rules) else 0
+    return 1 if wrong or len(shown) < len(rules) - 1 else 0
 
 
 if __name__ == "__main__":
