@@ -13,9 +13,7 @@ from unittest import mock
 
 from macsec import Suite, capture
 from macsec.cli import decrypt, why
-from macsec.frames import read_tag
-from macsec.ivs import UsedIvs, lines_of
-from macsec.trial import Key
+from macsec.ivs import lines_of
 
 from .frames import altered, client_frames, protected, vlan, with_fcs
 from .helpers import KEYS, LONG_KEY, OTHER, RECEIVER, SALT, SENDER, InFolder, main_of
@@ -277,16 +275,6 @@ class Rekeys(Case):
         made = self.decrypt(frames, "--json", *Link().words(), "--key", KEYS[1].hex())
         rows = [(records, f"key {key + 1}", SENDER, pn) for records, key, pn in expected]
         self.assertEqual((made[0], self.used_twice(made[1])), (3, rows))
-
-    def test_a_thousand_keys(self) -> None:
-        ivs = UsedIvs()
-        for number, frame in enumerate(client_frames(250) * 4):
-            key = Key(number.to_bytes(16, "big"), Suite.gcm128, name=f"key {number}")
-            (link,) = protected([frame], key=key.octets)
-            tag = read_tag(link)
-            assert tag is not None
-            self.assertIsNone(ivs.add(number, key, bytes.fromhex(SENDER), 0, 1, link, tag))
-        self.assertEqual(ivs.twice, [])
 
     def test_many_rekeys_of_a_capture(self) -> None:
         """And the first key once more."""

@@ -11,13 +11,8 @@ import unittest
 import macsec
 from macsec import Fate, Mode, SecY, Verdict
 
-from .frames import altered, client_frames, protected, sender
+from .frames import client_frames, protected, sender
 from .helpers import KEYS, OTHER, RECEIVER, SENDER
-
-try:
-    from scapy.all import Ether, raw
-except ImportError:
-    Ether = None
 
 
 def receiver() -> SecY:
@@ -45,13 +40,6 @@ class Frames(unittest.TestCase):
                 self.assertRaises(TypeError, a.send, wrong)
                 self.assertRaises(TypeError, a.receive, wrong)
 
-    @unittest.skipIf(Ether is None, "scapy is not installed")
-    def test_a_packet_of_scapy(self) -> None:
-        packet = Ether(dst="02:00:00:00:00:0f", src="02:00:00:00:00:01", type=0x88B5) / (b"\x01" * 50)
-        with sender() as a, receiver() as b:
-            link = Ether(a.send(packet).frame)
-            self.assertEqual(b.receive(link).frame, raw(packet))
-
     def test_answers_are_kept(self) -> None:
         frames = client_frames(2)
         with sender() as a:
@@ -72,11 +60,6 @@ class Frames(unittest.TestCase):
             self.assertEqual(a.send_uncontrolled(bytes(14)), bytes(14))
             self.assertEqual(a.counters()["OutPktsEncrypted"], 0)
 
-    def test_dropped(self) -> None:
-        with SecY(SENDER) as a:
-            self.assertEqual(a.send(bytes(14)), (Fate.NoSA, None, None))
-            self.assertEqual(a.receive(bytes(14)), (Verdict.NoTag, None, None, None, None))
-
 
 class Errors(unittest.TestCase):
     def test_a_refusal_has_number_and_name(self) -> None:
@@ -93,26 +76,6 @@ class Errors(unittest.TestCase):
                 self.assertEqual(octets.exception.name, "NoSuchKeyOctets")
             self.assertRaises(macsec.NotFound, a.rx_counters, OTHER)
             self.assertRaises(LookupError, a.tx_sa, 1)
-
-    def test_configure_names_the_line(self) -> None:
-        for text, line, name in (
-            ("#\nend A gcm128 00 1546 sci\n", 2, "Hex"),
-            (f"end A gcm128 {SENDER} 1546 sci\nA txon 0\n", 2, "NoSa"),
-        ):
-            with self.assertRaises(macsec.MacsecError) as why:
-                SecY.configure(text)
-            self.assertEqual((why.exception.line, why.exception.name), (line, name))
-
-    def test_creation(self) -> None:
-        for words, name in (
-            ((SENDER, 9), "NoSuchSuite"),
-            ((SENDER, 1, 9), "NoSuchForm"),
-            ((SENDER, 1, 1, 63), "NewMaxFrame"),
-            ((SENDER, 1, "scb"), "NewSciForm"),
-        ):
-            with self.assertRaises(macsec.MacsecError) as why:
-                SecY(*words)  # type: ignore[arg-type]
-            self.assertEqual(why.exception.name, name)
 
     def test_numbers_are_never_cut(self) -> None:
         """An argument of C is narrower than Python's numbers: 256 must not become association 0."""
@@ -163,26 +126,6 @@ class Journals(unittest.TestCase):
         self.assertRaises(ValueError, lambda: SecY.configure(config, ahead=True))
         self.assertRaises(TypeError, lambda: SecY(RECEIVER, 1, 1, 1546, b"", True))  # type: ignore[misc]
         self.assertRaises(macsec.JournalFault, lambda: SecY(RECEIVER, journal=b"", ahead=True))
-
-
-class Ahead(unittest.TestCase):
-    def test_numbers_are_reserved_before_they_are_accepted(self) -> None:
-        frames, sci, journal = (client_frames(6), bytes.fromhex(SENDER), macsec.journal_header(bytes(range(24))))
-        links = protected(frames)
-        lines = f"A key 0 {KEYS[0].hex()} 0\nA rxsc {SENDER}\nA rxsa {SENDER} 0 0 1\nA rxon {SENDER} 0\n"
-        with SecY.configure(f"end A gcm128 {RECEIVER} 1546 sci\n{lines}", journal, ahead=True) as b:
-            before = b.counters(), b.rx_counters(SENDER), b.rx_sa(SENDER, 0)
-            for _ in range(2):
-                self.assertEqual(b.receive(links[1]), (Verdict.NoReservation, None, sci, 0, 2))
-            self.assertEqual((b.counters(), b.rx_counters(SENDER), b.rx_sa(SENDER, 0)), before)
-            record = b.reserve_to_accept(SENDER, 0, 2, 2)
-            assert record is not None
-            b.reserve_granted(record)
-            self.assertIsNone(b.reserve_to_accept(SENDER, 0, 2, 2))
-            self.assertIsNone(b.reserve_to_accept(SENDER, 1, 2))
-            self.assertEqual(b.receive(links[1]), (Verdict.OK, frames[1], sci, 0, None))
-            self.assertEqual(b.receive(links[4]), (Verdict.NoReservation, None, sci, 0, 5))
-            self.assertEqual(b.receive(altered(links[4])), (Verdict.NotValid, None, sci, 0, None))
 
 
 class Options(unittest.TestCase):

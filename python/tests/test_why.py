@@ -4,17 +4,15 @@ from __future__ import annotations
 
 import json
 
-from macsec import SecY, Suite
 from macsec.cli.why import main
 
 from .frames import altered, client_frames, protected, with_fcs
-from .helpers import CAPTURES, KEYS, RECEIVER, SALT, SENDER, InFolder, main_of
+from .helpers import CAPTURES, KEYS, RECEIVER, SENDER, InFolder, main_of
 
 
-def config(suite: str = "gcm128", key: bytes = KEYS[0], more: str = "") -> str:
-    salt, ssci = (f" 0000000f {SALT.hex()}", " 00000001") if suite.startswith("xpn") else ("", "")
-    lines = (f"end A {suite} {RECEIVER} 1546 sci", f"A key 0 {key.hex()} 0{salt}", f"A rxsc {SENDER}")
-    return "\n".join([*lines, f"A rxsa {SENDER} 0 0 1{ssci}", f"A rxon {SENDER} 0", more])
+def config(key: bytes = KEYS[0], more: str = "") -> str:
+    lines = (f"end A gcm128 {RECEIVER} 1546 sci", f"A key 0 {key.hex()} 0", f"A rxsc {SENDER}")
+    return "\n".join([*lines, f"A rxsa {SENDER} 0 0 1", f"A rxon {SENDER} 0", more])
 
 
 class Planted(InFolder):
@@ -34,20 +32,12 @@ class Planted(InFolder):
         self.link = protected(self.frames)
 
     def test_key(self) -> None:
-        other = f"A key 1 {KEYS[0].hex()} 0"
-        self.assertEqual(self.causes(config(key=KEYS[1], more=other), self.link), {"key"})
-        self.assertEqual(self.causes(config(key=KEYS[1]), self.link, "--key", KEYS[0].hex()), {"key"})
         path = self.put("KEYS", f"# more\n{KEYS[2].hex()}\n{KEYS[0].hex()}\n")
         self.assertEqual(self.causes(config(key=KEYS[1]), self.link, "--keys", path), {"key"})
         self.assertIn(
             "key 2 of ",
             main_of(main, self.put("CONFIG", config(key=KEYS[1])), self.put("IN", self.link), "--keys", path)[1],
         )
-
-    def test_suite_of_a_key(self) -> None:
-        key = f"{KEYS[0].hex()} 0"
-        text = config(more=f"A key 1 {KEYS[1].hex()} 0").replace(key, f"{key} 00000009 {SALT.hex()}")
-        self.assertIn("suite", self.causes(text, protected(self.frames, suite=Suite.xpn128)))
 
     def test_rekey(self) -> None:
         later = protected(client_frames(4), key=KEYS[1], pn=9)
@@ -112,19 +102,3 @@ class Untouched(InFolder):
         self.assertEqual(main_of(main, text, self.put("TEXT", "no capture"))[0], 1)
         self.assertEqual(main_of(main, text, "/nowhere/IN")[0], 1)
         self.assertEqual(main_of(main, text)[0], 2)
-
-
-class Search(InFolder):
-    def test_library_is_asked(self) -> None:
-        """What is named is what opens: the setting that is found opens the frame, and needs no other."""
-        link = protected(client_frames(1), suite=Suite.xpn128, pn=0x2_0000_0007, ssci=3)
-        with SecY(RECEIVER, Suite.xpn128) as b:
-            b.install_key(0, KEYS[0], ssci=9, salt=SALT)
-            b.add_rx_sc(SENDER)
-            b.add_rx_sa(SENDER, 0, 0, 0x2_0000_0001, ssci=3)
-            b.enable_rx_sa(SENDER, 0)
-            self.assertEqual(b.receive(link[0]).verdict.name, "OK")
-        text = self.put("CONFIG", config(suite="xpn128"))
-        _, out, _ = main_of(main, text, self.put("IN", link))
-        self.assertIn("upper half 2 ", out)
-        self.assertIn("SSCI 00000003", out)
