@@ -7,16 +7,36 @@
 struct device;
 struct numbers;
 
-/* ---- keys.c: the keys that an endpoint has, for one that takes over from it ---- */
+/* ---- endpoint.c: the endpoint, by the lines of requests and of the configuration ---- */
 
-/* Allocates locked memory for one key of each number. Returns 0, or the exit status after a message. */
+/* What became of a line. */
+struct result {
+    const char *fault; /* NULL, or why macsecd did not give it to the endpoint */
+    uint32_t status;   /* the library's */
+    uint64_t raised;   /* as of lines_carry_out */
+    uint32_t kind;     /* MACSEC_COMMAND_.. */
+};
+
+struct result result_of(uint32_t status);
+/* Creates the endpoint of a configuration's text, or none if the text has no line. Returns the status of the first line
+ * that fails, and its number. */
+uint32_t endpoint_configure(struct device *d, const char *text, size_t length, uint32_t *line);
+bool endpoint_is_open(const struct device *d);
+/* Creates an endpoint without keys by `open SCI SUITE FORM`; the present one ends. */
+struct result endpoint_open(struct device *d, const struct words *w);
+void endpoint_close(struct device *d);
+struct result endpoint_command(struct device *d, const char *line, size_t length);
+/* Carries out all lines of a text, or none. Adds the answer. */
+void endpoint_load(struct device *d, struct text *t, const char *lines, size_t length);
+
+/* ---- handover.c: a second endpoint, and the keys and counters that pass to it ---- */
+
+/* Allocates locked memory for one key of each number. */
 int keys_open(macsec_sak **keys);
 void keys_retire(macsec_sak *keys, size_t number);
 /* Is there a key of this number that is not retired? */
 bool keys_has(const macsec_sak *keys, size_t number);
 void keys_wipe(macsec_sak *keys);
-
-/* ---- totals.c: counters over all endpoints that have taken over from each other ---- */
 
 /* made: counts-of-counters of tools/families.json */
 enum { OWN_COUNTERS = 11, TX_COUNTERS = 4, RX_COUNTERS = 6 };
@@ -42,30 +62,6 @@ uint32_t totals_rx(const struct device *d, const uint8_t sci[8], int an, uint64_
 void totals_carry(struct device *d);
 /* A channel that was deleted, or an association if `an` is not -1, counts no more. */
 void totals_end(struct totals *t, const uint8_t sci[8], int an);
-
-/* ---- endpoint.c: the endpoint, by the lines of requests and of the configuration ---- */
-
-/* What became of a line. */
-struct result {
-    const char *fault; /* NULL, or why macsecd did not give it to the endpoint */
-    uint32_t status;   /* the library's */
-    uint64_t raised;   /* as of lines_carry_out */
-    uint32_t kind;     /* MACSEC_COMMAND_.. */
-};
-
-struct result result_of(uint32_t status);
-/* Creates the endpoint of a configuration's text, or none if the text has no line. Returns the status of the first line
- * that fails, and its number. */
-uint32_t endpoint_configure(struct device *d, const char *text, size_t length, uint32_t *line);
-bool endpoint_is_open(const struct device *d);
-/* Creates an endpoint without keys by `open SCI SUITE FORM`; the present one ends. */
-struct result endpoint_open(struct device *d, const struct words *w);
-void endpoint_close(struct device *d);
-struct result endpoint_command(struct device *d, const char *line, size_t length);
-/* Carries out all lines of a text, or none. Adds the answer. */
-void endpoint_load(struct device *d, struct text *t, const char *lines, size_t length);
-
-/* ---- handover.c: a second endpoint ---- */
 
 /* How many milliseconds to wait for the reservations of new transmit associations, while no frame is read. */
 enum { HANDOVER_WAITS = 50 };
@@ -148,8 +144,7 @@ struct control {
     char answer[256 * 1024];
 };
 
-/* Opens the socket. It stays when macsecd ends, and the next start replaces it. Returns 0, or the exit status after a
- * message. */
+/* Opens the socket. It stays when macsecd ends, and the next start replaces it. */
 int control_open(struct control *k, const char *name, const struct config *c);
 /* Accepts a connection, for which an idle one may end. Returns its index, or -1. If the system has no descriptor for
  * it, the connection is held up. */

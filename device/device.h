@@ -19,7 +19,6 @@ struct device {
     struct history history;
     struct link link;
     struct floods floods;
-    struct drop_message drop_messages[DROPS];
     struct held_frames held_frames;
     struct tap tap;
     struct rtnetlink rtnetlink;
@@ -34,9 +33,9 @@ struct device {
 
 /* ---- loop.c: waiting ---- */
 
-/* Blocks the signals that end macsecd. To be called first. Returns 0, or the exit status after a message. */
+/* Blocks the signals that end macsecd. To be called first. */
 int loop_block_signals(struct device *d);
-/* Opens what the loop waits for. Returns 0, or the exit status after a message. */
+/* Opens what the loop waits for. */
 int loop_open(struct device *d);
 /* Runs until a signal ends it. Returns the exit status. */
 int loop_run(struct device *d);

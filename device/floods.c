@@ -1,6 +1,7 @@
-/* Floods of LINK: frames that the endpoint drops unopened, many in a second. The system then drops the next ones before
- * it copies them, so that the other frames get through. No counter of the endpoint has them. So this is done only while
- * the endpoint is strict, and ends after a second, and when a line may have changed the endpoint. */
+/* Frames of LINK that are dropped. Floods are those that the endpoint drops unopened, many in a second. The system then
+ * drops the next ones before it copies them, so that the other frames get through. No counter of the endpoint has them.
+ * So this is done only while the endpoint is strict, and ends after a second, and when a line may have changed the
+ * endpoint. */
 #include "device.h"
 #include <linux/filter.h>
 
@@ -11,7 +12,7 @@ enum { FLOOD = 4096 };
 enum { TYPE_AT = 12, TYPE = 0x88e5, TCI_AT = 14, SC = 0x20, SCI_AT = 20, SCI = 8 };
 
 /* Instructions of the program: before the channels, of a channel, and after them. */
-enum { BEFORE = 12, EACH = 5, AFTER = 1, PROGRAM = BEFORE + EACH * MACSEC_RX_CHANNEL_COUNT + AFTER };
+enum { BEFORE = 8, EACH = 5, AFTER = 1, PROGRAM = BEFORE + EACH * MACSEC_RX_CHANNEL_COUNT + AFTER };
 
 /* Does the endpoint drop each frame that has no SecTAG, or an SCI of no channel? */
 static bool is_strict(const struct device *d) {
@@ -36,17 +37,13 @@ static unsigned short make_program(const struct device *d, struct sock_filter pr
         BPF_STMT(BPF_LD | BPF_B | BPF_ABS, TCI_AT),
         BPF_JUMP(BPF_JMP | BPF_JSET | BPF_K, SC, 1, 0),
         BPF_STMT(BPF_RET | BPF_K, UINT32_MAX),
-        BPF_STMT(BPF_LD | BPF_W | BPF_ABS, SCI_AT),
-        BPF_STMT(BPF_ST, 0),
-        BPF_STMT(BPF_LD | BPF_W | BPF_ABS, SCI_AT + 4),
-        BPF_STMT(BPF_ST, 1),
     };
     struct sock_filter *at = (struct sock_filter *)memcpy(program, before, sizeof before) + BEFORE;
     uint8_t sci[SCI];
     for (size_t i = 0; i < MACSEC_RX_CHANNEL_COUNT && macsec_get_rx_sc(d->endpoint, i, sci) == MACSEC_OK; i++) {
         const struct sock_filter each[EACH] = {
-            BPF_STMT(BPF_LD | BPF_MEM, 0),         BPF_JUMP(BPF_JMP | BPF_JEQ | BPF_K, word(sci), 0, 3),
-            BPF_STMT(BPF_LD | BPF_MEM, 1),         BPF_JUMP(BPF_JMP | BPF_JEQ | BPF_K, word(sci + 4), 0, 1),
+            BPF_STMT(BPF_LD | BPF_W | BPF_ABS, SCI_AT),     BPF_JUMP(BPF_JMP | BPF_JEQ | BPF_K, word(sci), 0, 3),
+            BPF_STMT(BPF_LD | BPF_W | BPF_ABS, SCI_AT + 4), BPF_JUMP(BPF_JMP | BPF_JEQ | BPF_K, word(sci + 4), 0, 1),
             BPF_STMT(BPF_RET | BPF_K, UINT32_MAX),
         };
         at = (struct sock_filter *)memcpy(at, each, sizeof each) + EACH;
@@ -78,4 +75,28 @@ void floods_end(struct device *d) {
     if (d->floods.filtered && setsockopt(d->link.socket, SOL_SOCKET, SO_DETACH_FILTER, &none, sizeof none) == 0)
         d->floods.filtered = false;
     d->floods.frames = 0;
+}
+
+/* ---- Frames that are dropped for their packet numbers alone ---- */
+
+/* Another message comes after so many seconds without such a frame. */
+enum { SILENCE = 60 };
+
+static const char *const texts[DROPS] = {
+    "frames of LINK are dropped (LinkNoReservation): their packet numbers are not reserved yet. They come faster than "
+    "before, or the journal can't be written in time",
+    "frames of LINK are dropped (LinkEarlierRun): an earlier run may have delivered them. Somebody has recorded them, "
+    "or the peer has not reached the packet number from which this run delivers",
+};
+
+void floods_say(struct device *d) {
+    const uint64_t counts[DROPS] = { d->counts.link_no_reservation, d->counts.link_earlier_run };
+    for (int i = 0; i < DROPS; i++) {
+        unsigned *silence = &d->floods.silence[i];
+        bool more = counts[i] != d->floods.drops[i];
+        if (more && *silence == 0)
+            message("%s", texts[i]);
+        *silence = more ? SILENCE : *silence - (*silence > 0);
+        d->floods.drops[i] = counts[i];
+    }
 }

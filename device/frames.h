@@ -85,7 +85,7 @@ enum outcome { DONE, BUSY, GONE };
 /* Reads the address and the MTU of a network device, by any socket of its namespace. Returns its type, ARPHRD_.., or -1
  * after an error. */
 int link_type(int any, const char *name, uint8_t address[6], uint32_t *mtu);
-/* Opens LINK, in the namespace that the process is in. Returns 0, or the exit status after a message. */
+/* Opens LINK, in the namespace that the process is in. */
 int link_open(struct link *l, const char *name);
 /* Reads at most BATCH frames. A VLAN tag that the system took out of a frame is in it again. */
 enum outcome link_read(struct link *l, struct unfinished frames[BATCH], unsigned *count);
@@ -136,7 +136,7 @@ uint32_t tap_mtu(uint32_t link_mtu, uint32_t max_frame);
  * neither root nor this user, macsecd's, has TAP, or if TAP has another type and is up. */
 int tap_own(const struct config *c, uid_t user);
 /* Attaches the file to TAP, which gets its owner, LINK's address and this MTU. An isolated LINK's TAP has the MTU
- * already. Returns 0, or the exit status after a message. */
+ * already. */
 int tap_open(struct tap *t, const struct config *c, const struct link *l);
 /* Reads a frame. It is there until the next call. */
 enum outcome tap_read(struct tap *t, struct frame *frame);
@@ -158,8 +158,7 @@ bool holder_say(const struct tap *t, uid_t user);
 enum { NAMESPACE_PATH = sizeof "/run/netns/macsec-" + IF_NAMESIZE };
 void namespace_path(char path[NAMESPACE_PATH], const char *name);
 /* Opens TAP's file in the host's namespace, enters LINK's unless LINK is shared, and gives up CAP_SYS_ADMIN. To be
- * called before the journal is read and a socket of a device is opened. Returns 0, or the exit status after a
- * message. */
+ * called before the journal is read and a socket of a device is opened. */
 int namespace_enter(struct tap *t, const struct config *c, const char *name);
 
 /* ---- rtnetlink.c: LINK goes up and down, changes and ends; TAP gets another address ---- */
@@ -171,9 +170,9 @@ struct rtnetlink {
     _Alignas(uint64_t) char buffer[32768];
 };
 
-/* Opens the socket. Returns 0, or the exit status after a message. */
+/* Opens the socket. */
 int rtnetlink_open(struct device *d);
-/* Gives TAP LINK's carrier. Returns 0, or the exit status after a message. */
+/* Gives TAP LINK's carrier. */
 int rtnetlink_begin(struct device *d);
 /* Reads what the system reports. Returns false, after a message, if LINK is gone. */
 bool rtnetlink_read(struct device *d);
@@ -247,22 +246,16 @@ unsigned held_frames_count(const struct device *d);
 /* To be called each second: drops the kept frames that have waited too long. */
 void held_frames_tick(struct device *d);
 
-/* ---- drop_messages.c: frames of LINK that are dropped for their packet numbers alone ---- */
+/* ---- floods.c: frames of LINK that are dropped ---- */
 
-/* Two kinds: packet numbers that are not reserved yet, and numbers that an earlier run had reserved. */
+/* Kinds of frames that are dropped for their packet numbers alone: not reserved yet, or reserved by an earlier run. */
 enum { DROPS = 2 };
-struct drop_message {
-    uint64_t count;
-    unsigned silence; /* for so many seconds no message is made */
-};
-/* To be called each second: says when such frames begin. */
-void drop_messages_tick(struct device *d);
-
-/* ---- floods.c: frames of LINK that the endpoint drops unopened, many in a second ---- */
 
 struct floods {
     unsigned frames; /* that had no SecTAG or no association, in this second */
     bool filtered;   /* does the system drop such frames? */
+    uint64_t drops[DROPS];
+    unsigned silence[DROPS]; /* for so many seconds no message is made */
 };
 
 void floods_note(struct device *d, uint32_t verdict);
@@ -270,5 +263,7 @@ void floods_note(struct device *d, uint32_t verdict);
 void floods_stop(struct device *d);
 /* Reads all frames again: to be called each second, and when the endpoint may have other channels or options. */
 void floods_end(struct device *d);
+/* To be called each second: says when frames begin to be dropped for their packet numbers alone. */
+void floods_say(struct device *d);
 
 #endif

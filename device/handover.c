@@ -11,7 +11,103 @@
  * it can send and receive nothing. */
 #include "device.h"
 #include "workers.h"
-#include <string.h>
+#include <sys/mman.h>
+
+/* ---- The keys that are not retired ---- */
+
+/* No call of the library shows a key. They are in separate memory, which is locked, is in no core file and in no forked
+ * child. */
+int keys_open(macsec_sak **keys) {
+    const size_t octets = MACSEC_KEY_COUNT * sizeof **keys;
+    void *memory = mmap(NULL, octets, PROT_READ | PROT_WRITE, MAP_PRIVATE | MAP_ANONYMOUS, -1, 0);
+    if (memory == MAP_FAILED)
+        return message_of_errno("memory for keys");
+    *keys = memory;
+    if (mlock(memory, octets) != 0)
+        message_of_errno("memory for keys can't be locked, so it may be swapped");
+    if (madvise(memory, octets, MADV_DONTDUMP) == 0 && madvise(memory, octets, MADV_WIPEONFORK) == 0)
+        return 0;
+    return message_of_errno("memory for keys");
+}
+
+bool keys_has(const macsec_sak *keys, size_t number) {
+    return keys[number].length != 0;
+}
+
+void keys_note(macsec_sak *keys, const macsec_command *c) {
+    if (c->kind == MACSEC_COMMAND_RETIRE)
+        explicit_bzero(&keys[c->key], sizeof *keys);
+    if (c->kind == MACSEC_COMMAND_KEY)
+        keys[c->key] = c->sak;
+}
+
+void keys_wipe(macsec_sak *keys) {
+    if (keys != NULL)
+        explicit_bzero(keys, MACSEC_KEY_COUNT * sizeof *keys);
+}
+
+/* ---- Counters over the endpoints of a run: a second one begins to count at 0 ---- */
+
+static void add(uint64_t *to, const uint64_t *values, size_t count) {
+    for (size_t i = 0; i < count; i++)
+        to[i] += values[i];
+}
+
+/* The index of a channel, or that after the last one. */
+static size_t index_of(const struct totals *t, const uint8_t sci[8]) {
+    size_t i = 0;
+    while (i < t->count && memcmp(t->channels[i].sci, sci, sizeof t->channels[i].sci) != 0)
+        i++;
+    return i;
+}
+
+void totals_own(const struct device *d, uint64_t own[OWN_COUNTERS], uint64_t tx[TX_COUNTERS]) {
+    macsec_counters all = { 0 };
+    macsec_tx_counters sent = { 0 };
+    (void)macsec_get_counters(d->endpoint, &all); /* MACSEC_E_EMPTY leaves 0 */
+    (void)macsec_get_tx_counters(d->endpoint, &sent);
+    memcpy(own, &all, OWN_COUNTERS * sizeof *own);
+    memcpy(tx, &sent, TX_COUNTERS * sizeof *tx);
+    add(own, d->totals.own, OWN_COUNTERS);
+    add(tx, d->totals.tx, TX_COUNTERS);
+}
+
+uint32_t totals_rx(const struct device *d, const uint8_t sci[8], int an, uint64_t values[RX_COUNTERS]) {
+    const macsec_endpoint *e = d->endpoint;
+    size_t i = index_of(&d->totals, sci);
+    macsec_rx_counters shown = { 0 };
+    uint32_t status;
+    status = an < 0 ? macsec_get_rx_counters(e, sci, &shown) : macsec_get_rx_sa_counters(e, sci, (uint8_t)an, &shown);
+    memcpy(values, &shown, RX_COUNTERS * sizeof *values);
+    if (i < d->totals.count)
+        add(values, an < 0 ? d->totals.channels[i].all : d->totals.channels[i].of_sa[an], RX_COUNTERS);
+    return status;
+}
+
+void totals_carry(struct device *d) {
+    struct totals sum = { .count = 0 };
+    while (sum.count < MACSEC_RX_CHANNEL_COUNT &&
+           macsec_get_rx_sc(d->endpoint, sum.count, sum.channels[sum.count].sci) == MACSEC_OK) {
+        struct channel_totals *c = &sum.channels[sum.count++];
+        (void)totals_rx(d, c->sci, -1, c->all); /* the channel is there */
+        for (int an = 0; an < MACSEC_AN_COUNT; an++)
+            if (totals_rx(d, c->sci, an, c->of_sa[an]) != MACSEC_OK)
+                memset(c->of_sa[an], 0, sizeof c->of_sa[an]);
+    }
+    totals_own(d, sum.own, sum.tx);
+    d->totals = sum;
+}
+
+void totals_note(struct totals *t, const macsec_command *c) {
+    bool ends = c->kind == MACSEC_COMMAND_RX_SC_DEL;
+    size_t i = ends || c->kind == MACSEC_COMMAND_RX_DEL ? index_of(t, c->sci) : t->count;
+    if (i == t->count)
+        return;
+    if (ends)
+        t->channels[i] = t->channels[--t->count];
+    else
+        memset(t->channels[i].of_sa[c->an], 0, sizeof t->channels[i].of_sa[c->an]); /* the channel's include them */
+}
 
 /* ---- Up to where the first endpoint has sent ---- */
 

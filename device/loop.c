@@ -9,13 +9,10 @@
 /* What an event is about. Clients are numbered from CLIENT on. */
 enum { TAP, LINK, SIGNALS, CLOCK, RTNETLINK, LISTENER, JOURNAL, WORKERS, CLIENT };
 
-/* The most events of a wait. */
 enum { EVENTS = CLIENT + CLIENTS };
 
 /* What handling an event gives beside an exit status: 0, and the loop goes on; or this, and macsecd ends with 0. */
 enum { ENDS_WELL = -1 };
-
-/* ---- Opening ---- */
 
 int loop_block_signals(struct device *d) {
     /* SIGXFSZ: else a journal above a limit ends macsecd, where a write can fail */
@@ -30,7 +27,6 @@ int loop_block_signals(struct device *d) {
     return d->signals < 0 ? message_of_errno("signals") : 0;
 }
 
-/* Has the loop wait for events of a file. */
 static int watch(const struct device *d, int operation, int file, uint32_t events, uint32_t about) {
     struct epoll_event event = { .events = events, .data.u32 = about };
     return epoll_ctl(d->events, operation, file, &event) == 0 ? 0 : message_of_errno("epoll");
@@ -54,8 +50,6 @@ int loop_open(struct device *d) {
     RETURN_IF_FAILED(watch(d, EPOLL_CTL_ADD, numbers_file(d->numbers), EPOLLIN, JOURNAL));
     return d->workers == NULL ? 0 : watch(d, EPOLL_CTL_ADD, workers_file(d->workers), EPOLLIN, WORKERS);
 }
-
-/* ---- Events ---- */
 
 /* While frames wait for LINK, none is read from TAP, so that its queue fills and the client slows down. */
 static int watch_ports(struct device *d, bool *blocked) {
@@ -115,7 +109,7 @@ static int on_clock(struct device *d) {
     d->history.seconds += times;
     numbers_tick(d->numbers, d->endpoint);
     held_frames_tick(d);
-    drop_messages_tick(d);
+    floods_say(d);
     link_count_lost(&d->link, &d->counts);
     floods_end(d);
     port_tick(d);
@@ -136,7 +130,6 @@ static int on_client(struct device *d, int index, uint32_t events) {
     return waits_for(d, index) ? watch_client(d, index, EPOLL_CTL_MOD, 0) : 0;
 }
 
-/* Sends answers whose time has come. */
 static int send_answers(struct device *d) {
     for (int i = 0; i < CLIENTS && d->waits.answers > 0; i++)
         if (waits_send(d, i))

@@ -22,7 +22,8 @@
 #include <unistd.h>
 
 /* Exit statuses: the system refused something, or LINK or TAP is gone; the arguments or the configuration are wrong.
- * And of --own-tap: only the deletion of TAP takes it from another user. */
+ * And of --own-tap: only the deletion of TAP takes it from another user. A call that opens, enters, starts or confines
+ * something returns 0, or the exit status after a message. */
 enum { ENDS_FAILED = 1, ENDS_WRONG = 2, ENDS_TAKEN = 3 };
 
 /* Makes a call that gives 0 or an exit status. Then the caller returns this status. */
@@ -33,7 +34,12 @@ enum { ENDS_FAILED = 1, ENDS_WRONG = 2, ENDS_TAKEN = 3 };
             return ends_with;                                                                                          \
     } while (0)
 
-/* ---- messages.c: what macsecd says, on standard error ---- */
+/* Are these the same file, folder or namespace? */
+static inline bool is_same_file(const struct stat *a, const struct stat *b) {
+    return a->st_dev == b->st_dev && a->st_ino == b->st_ino;
+}
+
+/* ---- messages.c: what macsecd says, on standard error and to the service manager ---- */
 
 /* Names the device in the messages that follow. */
 void messages_name(const char *name);
@@ -47,16 +53,14 @@ int message_wrong(const char *form, ...) __attribute__((format(printf, 1, 2)));
 /* The same of a call that failed, with the text of errno after it. Returns ENDS_FAILED. */
 int message_of_errno(const char *form, ...) __attribute__((format(printf, 1, 2)));
 int message_of_memory(void);
-/* Writes what was printed to standard output. Returns 0, or the exit status after a message. */
+/* Writes what was printed to standard output. */
 int messages_flush_output(void);
-
-/* ---- service.c: the service manager ---- */
 
 struct service {
     int socket; /* -1: there is no service manager */
 };
 
-/* Connects to the service manager's socket, if there is one. Returns 0, or the exit status after a message. */
+/* Connects to the service manager's socket, if there is one. */
 int service_open(struct service *s);
 /* Sends it an assignment, such as READY=1. */
 void service_notify(const struct service *s, const char *assignment);
@@ -71,13 +75,13 @@ void memory_lock(void);
 
 /* No core files, and no access to the memory by other processes of the same user: to be called before keys are read. */
 int confine_memory(void);
-/* No CAP_SYS_ADMIN: to be called when LINK's namespace was entered. Returns 0, or the exit status after a message. */
+/* No CAP_SYS_ADMIN: to be called when LINK's namespace was entered. */
 int confine_namespace(void);
 /* The user of the journal's folder if it is root, no capabilities, no new privileges, and no files except in the folder
  * of the journal: to be called before keys are used and the thread of the journal is started. Without Landlock it
- * fails, unless the configuration allows that. All return 0, or the exit status after a message. */
+ * fails, unless the configuration allows that. */
 int confine_rights(int state, bool unconfined);
-/* Allows only the system calls that this thread needs. Returns 0, or the exit status after a message. */
+/* Allows only the system calls that this thread needs. */
 enum thread { ENDPOINT_THREAD, JOURNAL_THREAD, WORKER_THREAD };
 int confine_calls(enum thread thread);
 
