@@ -174,7 +174,7 @@ build/macsecd-x86-64-v3: build/$(HWCAPS)/libmacsec.a
 build/macsecd-x86-64-v2 build/macsecd-x86-64-v3: $(DEVICE_SOURCES) $(wildcard device/*.h)
 	$(CC) $(DEVICE_FLAGS) -o $@ $(filter %.c %.a,$^)
 
-build/macsecctl: device/macsecctl.c
+build/macsecctl: device/macsecctl.c device/system.h
 	$(CC) $(DEVICE_FLAGS) -o $@ $<
 
 # The same for processors with vectors of 256 bits, where the loader looks for it first.

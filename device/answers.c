@@ -26,7 +26,6 @@ static const char *const rx_names[RX] = {
 };
 /* end */
 
-/* In the order of the members of struct counts. */
 /* made: device-counters of tools/families.json */
 static const char *const device_names[COUNT_OF_COUNTS] = {
     "LinkIn",
@@ -125,7 +124,6 @@ static void add_lines(struct text *t, const char *before, const char *const *nam
         text_add(t, "%s%s %" PRIu64 "\n", before, names[i], values[i]);
 }
 
-/* The lines of a receive channel and of its associations. */
 static void add_channel_lines(struct text *t, const struct device *d, const uint8_t sci[8]) {
     char name[SCI_TEXT], before[SCI_TEXT + 4];
     uint64_t values[RX];
@@ -271,7 +269,6 @@ static void add_plain_metrics(struct text *t, const char *device, const char *pr
     }
 }
 
-/* The samples of one counter of all receive channels, or of all receive associations. */
 static void add_rx_metrics(struct text *t, const struct device *d, int counter, bool of_sas) {
     char metric[METRIC], name[SCI_TEXT];
     uint64_t values[RX];

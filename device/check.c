@@ -34,7 +34,6 @@ struct check {
 
 /* ---- What is printed ---- */
 
-/* Prints what was found. Line 0 is the whole file. */
 __attribute__((format(printf, 3, 4))) static void say(struct check *c, enum kind kind, const char *form, ...) {
     va_list arguments;
     if (c->line == 0)
@@ -49,7 +48,6 @@ __attribute__((format(printf, 3, 4))) static void say(struct check *c, enum kind
     c->found[kind]++;
 }
 
-/* Takes what is wrong, or NULL. */
 static bool is_right(struct check *c, const char *wrong) {
     if (wrong != NULL)
         say(c, FAULT, "%s", wrong);
@@ -58,7 +56,6 @@ static bool is_right(struct check *c, const char *wrong) {
 
 /* ---- What the library says of a line ---- */
 
-/* What a status says, and what to do. */
 struct meaning {
     uint32_t status;
     const char *text, *remedy;
@@ -97,7 +94,6 @@ static const struct meaning meanings[] = {
 };
 /* end */
 
-/* How the commands are written. */
 /* made: usages of tools/families.json */
 static const char *const usages[] = {
     "A protect on|off",
@@ -152,7 +148,6 @@ static void say_status(struct check *c, uint32_t status) {
     say(c, FAULT, "%s%s", kind, macsec_status_name(status));
 }
 
-/* Takes the status of a line. Returns true if the line is good. */
 static bool is_good(struct check *c, uint32_t status) {
     if (status == MACSEC_E_MEMORY)
         c->is_failed = true;
@@ -188,7 +183,6 @@ static bool create(struct check *c, const struct commands *it, macsec_config *en
 #define NOT_ENABLED_RX "this association is never enabled, so it receives nothing: A rxon %s %u"
 /* end */
 
-/* Is there a line that enables this receive association? */
 static bool is_enabled(const struct check *c, const macsec_command *of) {
     struct commands it = { .text = (const char *)c->config.text, .left = c->config.length };
     bool found = false;
@@ -245,7 +239,6 @@ static void look_at_mode(struct check *c, const macsec_command *it) {
         say(c, HINT, "frames that were recorded within this window can be delivered again: write 0%s", refused);
 }
 
-/* Compares the SCI and MAX of the `end` line with LINK's address and MTU. */
 static void look_at_end(struct check *c, const macsec_config *end) {
     uint32_t fitting = link_max_frame(c->mtu);
     char right[SCI_TEXT];
@@ -325,7 +318,6 @@ static void look_ahead(struct check *c) {
     }
 }
 
-/* Checks a line for the endpoint. */
 static void check_command(struct check *c, const struct commands *it) {
     macsec_config end;
     uint32_t status = it->status;

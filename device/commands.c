@@ -2,10 +2,14 @@
 #include "text.h"
 
 bool commands_next(struct commands *c) {
-    c->line = words_line(&c->text, &c->left, &c->length);
+    const char *feed = c->left == 0 ? NULL : memchr(c->text, '\n', c->left);
     macsec_clear_command(&c->command);
-    if (c->line == NULL)
+    if (c->left == 0)
         return false;
+    c->line = c->text;
+    c->length = feed == NULL ? c->left : (size_t)(feed - c->text);
+    c->text += c->length + (feed != NULL);
+    c->left -= c->length + (feed != NULL);
     c->number++;
     c->status = macsec_parse_line((const uint8_t *)c->line, c->length, &c->command);
     return true;

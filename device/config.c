@@ -8,8 +8,6 @@
 /* The most octets of a configuration, as the library has it. */
 enum { LONGEST = 1048576 };
 
-/* ---- Where files are ---- */
-
 bool config_is_name(const char *name) {
     size_t length = strlen(name);
     if (length == 0 || length >= IF_NAMESIZE || name[0] == '.' || name[0] == '-')
@@ -29,8 +27,6 @@ bool config_path(char *path, size_t room, const char *variable, const char *othe
     length = snprintf(path, room, "%s/%s%s", folder, name, suffix);
     return length > 0 && (size_t)length < room;
 }
-
-/* ---- The file ---- */
 
 /* Keys are in the file, so only its owner may read it. A credential is guarded by the service manager. Returns what is
  * wrong with the file, or NULL. */
@@ -65,22 +61,20 @@ static int read_text(struct config *c, int file, size_t size) {
 /* Opens NAME.conf: the service manager's credential of this name if there is one, else the file. A name with a slash is
  * the path of the file. */
 static int open_file(struct config *c, const char *name, bool *is_credential) {
-    int file = -1;
+    const int flags = O_RDONLY | O_CLOEXEC | O_NOFOLLOW | O_NONBLOCK;
+    int file;
     *is_credential = false;
     if (strchr(name, '/') != NULL && snprintf(c->path, sizeof c->path, "%s", name) < (int)sizeof c->path)
-        return open(c->path, O_RDONLY | O_CLOEXEC | O_NOFOLLOW | O_NONBLOCK);
+        return open(c->path, flags);
     *is_credential = getenv("CREDENTIALS_DIRECTORY") != NULL &&
                      config_path(c->path, sizeof c->path, "CREDENTIALS_DIRECTORY", "", name, ".conf");
-    if (*is_credential)
-        file = open(c->path, O_RDONLY | O_CLOEXEC | O_NOFOLLOW | O_NONBLOCK);
-    if (file >= 0 || (*is_credential && errno != ENOENT))
+    if (*is_credential && ((file = open(c->path, flags)) >= 0 || errno != ENOENT))
         return file;
     *is_credential = false;
-    if (!config_path(c->path, sizeof c->path, "CONFIGURATION_DIRECTORY", "/etc/macsec", name, ".conf")) {
-        errno = ENAMETOOLONG;
-        return -1;
-    }
-    return open(c->path, O_RDONLY | O_CLOEXEC | O_NOFOLLOW | O_NONBLOCK);
+    if (config_path(c->path, sizeof c->path, "CONFIGURATION_DIRECTORY", "/etc/macsec", name, ".conf"))
+        return open(c->path, flags);
+    errno = ENAMETOOLONG;
+    return -1;
 }
 
 int config_look(struct config *c, const char *name, const char **fault) {
@@ -99,8 +93,6 @@ int config_look(struct config *c, const char *name, const char **fault) {
         config_wipe(c);
     return result;
 }
-
-/* ---- The lines of the device ---- */
 
 static bool take_name(char *to, const struct words *w) {
     char name[IF_NAMESIZE];
@@ -139,7 +131,6 @@ static bool take_workers(struct config *c, const struct words *w) {
     return true;
 }
 
-/* Takes a line that switches something on. Returns false if it is another one. */
 static bool take_switch(struct config *c, const struct words *w) {
     const struct {
         const char *words;
@@ -212,21 +203,21 @@ const char *config_zero(const char *line, size_t length) {
 
 /* Takes the lines of the device, and makes comments of them, so that the others keep their numbers. */
 static int take_lines(struct config *c) {
-    const char *text = (const char *)c->text, *line, *wrong = config_take_mark(c);
-    size_t left = c->length, length;
-    for (unsigned number = 1; (line = words_line(&text, &left, &length)) != NULL; number++) {
+    struct commands it = { .text = (const char *)c->text, .left = c->length };
+    const char *wrong = NULL;
+    while (wrong == NULL && commands_next(&it)) {
         struct words w;
-        words_split(&w, line, length);
+        words_split(&w, it.line, it.length);
+        wrong = it.number == 1 ? config_take_mark(c) : NULL;
         if (wrong == NULL)
-            wrong = config_zero(line, length);
+            wrong = config_zero(it.line, it.length);
         if (wrong == NULL && words_is(&w, 0, "device")) {
             wrong = config_take(c, &w);
             c->text[w.at[0] - (const char *)c->text] = '#';
         }
-        if (wrong != NULL)
-            return message_wrong("%s: line %u: %s", c->path, number, wrong);
     }
-    return 0;
+    macsec_clear_command(&it.command);
+    return wrong == NULL ? 0 : message_wrong("%s: line %u: %s", c->path, it.number, wrong);
 }
 
 /* A line that lets frames pass without MACsec must not be hidden by another one, nor hide it. */

@@ -20,8 +20,6 @@ int confine_memory(void) {
     return message_of_errno("core files can't be forbidden");
 }
 
-/* ---- Capabilities ---- */
-
 int confine_namespace(void) {
     struct __user_cap_header_struct header = { _LINUX_CAPABILITY_VERSION_3, 0 };
     struct __user_cap_data_struct sets[2];
@@ -71,31 +69,26 @@ static int drop_capabilities(void) {
 #define MACSECD_UNFILTERED 0
 #endif
 
-/* ---- Files ---- */
-
-static int allow(int set, int folder, uint64_t access) {
-    const struct landlock_path_beneath_attr rule = { .allowed_access = access, .parent_fd = folder };
-    return (int)syscall(SYS_landlock_add_rule, set, LANDLOCK_RULE_PATH_BENEATH, &rule, 0);
-}
-
 /* From now on files can be opened and removed in the journal's folder alone. Other instances of macsecd have the folder
  * of the control socket too. */
 static int restrict_files(int state, bool unconfined) {
     const struct landlock_ruleset_attr all = { .handled_access_fs = (LANDLOCK_ACCESS_FS_MAKE_SYM << 1) - 1 };
-    const uint64_t journal = LANDLOCK_ACCESS_FS_READ_FILE | LANDLOCK_ACCESS_FS_WRITE_FILE |
-                             LANDLOCK_ACCESS_FS_MAKE_REG | LANDLOCK_ACCESS_FS_REMOVE_FILE;
+    const struct landlock_path_beneath_attr journal = {
+        .allowed_access = LANDLOCK_ACCESS_FS_READ_FILE | LANDLOCK_ACCESS_FS_WRITE_FILE | LANDLOCK_ACCESS_FS_MAKE_REG |
+                          LANDLOCK_ACCESS_FS_REMOVE_FILE,
+        .parent_fd = state,
+    };
     int set = (int)syscall(SYS_landlock_create_ruleset, &all, sizeof all, 0);
     if (set < 0 && (errno == ENOSYS || errno == EOPNOTSUPP)) {
         message("this system has no Landlock: files can't be restricted%s",
                 unconfined ? "" : ". `device landlock optional` goes on without it");
         return unconfined ? 0 : ENDS_WRONG;
     }
-    if (set >= 0 && allow(set, state, journal) == 0 && syscall(SYS_landlock_restrict_self, set, 0) == 0)
+    if (set >= 0 && syscall(SYS_landlock_add_rule, set, LANDLOCK_RULE_PATH_BENEATH, &journal, 0) == 0 &&
+        syscall(SYS_landlock_restrict_self, set, 0) == 0)
         return close(set);
     return message_of_errno("files can't be restricted");
 }
-
-/* ---- System calls ---- */
 
 /* The calls of the thread that has the endpoint: for frames, control, reports, signals, the clock, the journal's thread
  * and standard error, and from SYS_brk on for memory and the end. It opens no file and writes to none. */
@@ -145,7 +138,6 @@ static unsigned short make_filter(struct sock_filter *program, const unsigned *c
     return (unsigned short)(next - program);
 }
 
-/* The list of each thread. */
 static const struct {
     const unsigned *calls;
     unsigned count;

@@ -2,29 +2,21 @@
 #include "device.h"
 #include <sys/un.h>
 
-/* ---- Opening ---- */
-
-/* Makes the folder of the socket, if it is not there. */
-static int make_folder(char *path) {
-    char *slash = strrchr(path, '/');
-    int result;
-    *slash = '\0';
-    result = mkdir(path, 0755) == 0 || errno == EEXIST ? 0 : message_of_errno("%s", path);
-    *slash = '/';
-    return result;
-}
-
 /* An earlier run has left its socket: macsecd may remove no file of this folder when it ends, since other instances
  * have sockets there too. The lock on the journal says that the earlier one runs no more. Nobody can connect before the
  * socket has its owner and its mode: listen is the last call. */
 int control_open(struct control *k, const char *name, const struct config *c) {
     struct sockaddr_un address = { .sun_family = AF_UNIX };
-    char *path = address.sun_path;
+    char *path = address.sun_path, *slash;
     for (int i = 0; i < CLIENTS; i++)
         k->clients[i] = -1;
     if (!config_path(path, sizeof address.sun_path, "RUNTIME_DIRECTORY", "/run/macsec", name, ".sock"))
         return message_wrong("the path of the control socket is too long");
-    RETURN_IF_FAILED(make_folder(path));
+    slash = strrchr(path, '/');
+    *slash = '\0';
+    if (mkdir(path, 0755) != 0 && errno != EEXIST)
+        return message_of_errno("%s", path);
+    *slash = '/';
     k->listener = socket(AF_UNIX, SOCK_SEQPACKET | SOCK_NONBLOCK | SOCK_CLOEXEC, 0);
     if (k->listener >= 0 && (unlink(path) == 0 || errno == ENOENT) &&
         bind(k->listener, (const struct sockaddr *)&address, sizeof address) == 0 &&
@@ -34,8 +26,6 @@ int control_open(struct control *k, const char *name, const struct config *c) {
     return message_of_errno("the control socket %s", path);
 }
 
-/* ---- Clients ---- */
-
 static void close_client(struct device *d, int index) {
     (void)close(d->control.clients[index]); /* this also takes it out of what the loop waits for */
     d->control.clients[index] = -1;
@@ -43,7 +33,6 @@ static void close_client(struct device *d, int index) {
     port_client_gone(d, index);
 }
 
-/* Is the client root? */
 static bool is_root(int client) {
     struct ucred who;
     socklen_t length = sizeof who;
@@ -91,8 +80,6 @@ int control_accept(struct device *d) {
     k->used[at] = ++k->uses;
     return at;
 }
-
-/* ---- Requests ---- */
 
 bool control_send(struct device *d, int index, const char *octets, size_t length) {
     ssize_t sent = TEMP_FAILURE_RETRY(send(d->control.clients[index], octets, length, MSG_DONTWAIT | MSG_NOSIGNAL));

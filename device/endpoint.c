@@ -83,7 +83,6 @@ struct result endpoint_open(struct device *d, const struct words *w) {
 
 /* ---- The configuration ---- */
 
-/* Carries out a line after the `end` line. */
 static uint32_t configure_line(struct device *d, const struct commands *it) {
     uint64_t raised = 0;
     uint32_t status = it->status;
@@ -145,7 +144,6 @@ static struct result carry_out(struct device *d, macsec_endpoint *e, uint32_t st
     return r;
 }
 
-/* Carries out the command for a key at a second endpoint. */
 static struct result command_of_next(struct device *d, const macsec_command *c) {
     macsec_endpoint *e = handover_begin(d);
     struct result r;

@@ -29,14 +29,6 @@ uint32_t frames_send(struct device *d, const struct frame *frame) {
     return sent.fate;
 }
 
-/* Delivers a frame, while the controlled port is on. The endpoint has judged it in any case. */
-static enum outcome deliver(struct device *d, const macsec_received *got) {
-    if (!d->port.off)
-        return tap_write(&d->tap, got->frame, got->length, &d->counts);
-    d->counts.port_in++;
-    return DONE;
-}
-
 void frames_note_fate(struct device *d, struct client_batch *b, uint32_t fate) {
     d->counts.tap_in++;
     b->used += fate == MACSEC_FATE_PROTECTED;
@@ -59,9 +51,14 @@ enum outcome frames_from_client(struct device *d) {
     return left;
 }
 
-/* What follows from the answer of the endpoint. */
+/* What follows from the answer of the endpoint: a frame is delivered while the controlled port is on. It is noted
+ * afterwards, since the client waits. */
 static enum outcome received(struct device *d, const macsec_received *got) {
-    enum outcome outcome = got->delivered ? deliver(d, got) : DONE; /* before it is noted, since the client waits */
+    enum outcome outcome = DONE;
+    if (got->delivered && d->port.off)
+        d->counts.port_in++;
+    else if (got->delivered)
+        outcome = tap_write(&d->tap, got->frame, got->length, &d->counts);
     d->counts.link_in++;
     count_fault(got->status, &d->counts.link_too_short, &d->counts.link_too_long);
     d->counts.no_endpoint += got->status == MACSEC_E_EMPTY;

@@ -7,10 +7,8 @@
 #include <linux/sockios.h>
 #include <sys/syscall.h>
 
-/* Octets of a path, and of what is read of a file. */
 enum { PATH = 64, TEXT = 512 };
 
-/* Reads the beginning of a file, with a zero after it. */
 static bool read_text(const char *path, char text[TEXT]) {
     int file = open(path, O_RDONLY | O_CLOEXEC);
     ssize_t length = file < 0 ? -1 : read(file, text, TEXT - 1);
@@ -41,7 +39,7 @@ static bool is_elsewhere(int process, int number, const struct tap *t) {
         files[2] = ioctl(files[1], TUNGETDEVNETNS);
         files[3] = ioctl(t->file, SIOCGSKNS);
         is_other = files[2] >= 0 && files[3] >= 0 && fstat(files[2], &there) == 0 && fstat(files[3], &here) == 0 &&
-                   (there.st_dev != here.st_dev || there.st_ino != here.st_ino);
+                   !is_same_file(&there, &here);
     }
     for (size_t i = 0; i < sizeof files / sizeof *files; i++)
         if (files[i] >= 0)

@@ -1,21 +1,13 @@
 /* The journals of the host: where the one of a NAME is, whether its file system keeps it, and whether another one has
  * packet numbers of a key under which this NAME sends. No two devices compare at one time: the folders of the journals
  * are locked until the own records are on the disk. Whoever can open a folder can lock it. */
-#define _GNU_SOURCE
 #include "numbers.h"
 #include "text.h"
 #include <dirent.h>
-#include <errno.h>
-#include <fcntl.h>
 #include <linux/magic.h>
 #include <poll.h>
-#include <stdio.h>
-#include <stdlib.h>
-#include <string.h>
 #include <sys/file.h>
-#include <sys/stat.h>
 #include <sys/statfs.h>
-#include <unistd.h>
 
 #define SUFFIX ".journal"
 #define FOLDER "/var/lib/macsec"
@@ -103,25 +95,27 @@ static int compare(const struct config *c, const char *path, const uint8_t *octe
 
 /* ---- The other journals ---- */
 
-/* Reads an open file. Returns its octets, which are to be freed, or NULL. */
-static uint8_t *read_file(int file, size_t *length) {
+/* Reads a journal. Returns its octets, which are to be freed, or NULL. */
+static uint8_t *read_file(const char *path, size_t *length) {
+    int file = open(path, O_RDONLY | O_CLOEXEC | O_NOFOLLOW | O_NONBLOCK | O_NOCTTY);
     struct stat about;
-    uint8_t *octets;
+    uint8_t *octets = NULL;
     *length = 0;
-    if (fstat(file, &about) != 0 || !S_ISREG(about.st_mode) || about.st_size > (off_t)JOURNAL_MAX)
-        return NULL;
-    octets = malloc((size_t)about.st_size + 1);
-    for (ssize_t count = 1; octets != NULL && count > 0 && *length < (size_t)about.st_size; *length += (size_t)count) {
-        count = TEMP_FAILURE_RETRY(pread(file, octets + *length, (size_t)about.st_size - *length, (off_t)*length));
+    if (file >= 0 && fstat(file, &about) == 0 && S_ISREG(about.st_mode) && about.st_size <= (off_t)JOURNAL_MAX)
+        octets = malloc((size_t)about.st_size + 1);
+    for (ssize_t count = 1; octets != NULL && count > 0; *length += (size_t)count) {
+        count = TEMP_FAILURE_RETRY(read(file, octets + *length, (size_t)about.st_size - *length));
         if (count < 0) {
             free(octets);
-            return NULL;
+            octets = NULL;
+            count = 0;
         }
     }
+    if (file >= 0)
+        (void)close(file); /* it was only read */
     return octets;
 }
 
-/* What is wrong with the octets of a journal, or NULL. */
 static const char *fault_of_octets(const uint8_t *octets, size_t length) {
     static char text[160];
     uint8_t left[MACSEC_RECORD_LENGTH];
@@ -154,12 +148,12 @@ static const char *fault_of_owner(const struct stat *about, const char *path) {
                : "belongs to another user than its folder, so macsecd can't write it: chown";
 }
 
-static const char *fault_of_file(int file, const char *path) {
+const char *journals_fault(const char *path) {
     struct stat about;
     const char *fault;
     uint8_t *octets;
     size_t length;
-    if (fstat(file, &about) != 0)
+    if (lstat(path, &about) != 0)
         return NULL;
     if (!S_ISREG(about.st_mode))
         return "is not a regular file";
@@ -169,19 +163,9 @@ static const char *fault_of_file(int file, const char *path) {
         return "has another name too";
     if (about.st_size > (off_t)JOURNAL_MAX)
         return "is too long";
-    octets = read_file(file, &length);
+    octets = read_file(path, &length);
     fault = octets == NULL ? NULL : fault_of_octets(octets, length);
     free(octets);
-    return fault;
-}
-
-const char *journals_fault(const char *path) {
-    int file = open(path, O_RDONLY | O_CLOEXEC | O_NOFOLLOW | O_NONBLOCK | O_NOCTTY);
-    const char *fault;
-    if (file < 0)
-        return errno == ELOOP ? "is not a regular file" : NULL;
-    fault = fault_of_file(file, path);
-    (void)close(file); /* it was only read */
     return fault;
 }
 
@@ -190,19 +174,16 @@ static int compare_file(const struct config *c, const char *folder, const char *
     char path[PATH_MAX];
     uint8_t *octets;
     size_t length, record;
-    int result = 0, file;
+    int result = 0;
     if (snprintf(path, sizeof path, "%s/%s", folder, name) >= (int)sizeof path)
         return 0;
-    file = open(path, O_RDONLY | O_CLOEXEC | O_NOFOLLOW | O_NONBLOCK | O_NOCTTY);
-    octets = file < 0 ? NULL : read_file(file, &length);
+    octets = read_file(path, &length);
     if (octets == NULL)
         message("%s can't be read, so keys are not compared with it", path);
     else if ((result = compare(c, path, octets, length)) == 0 &&
              journal_find_damage(octets, length, &record) == MACSEC_OK && record != 0)
         message("%s has damage in record %zu, so not all its keys are compared", path, record);
     free(octets);
-    if (file >= 0)
-        (void)close(file); /* it was only read */
     return result;
 }
 
@@ -288,18 +269,15 @@ static struct {
 static bool is_locked(const struct stat *about) {
     struct stat other;
     for (size_t i = 0; i < locks.count; i++)
-        if (fstat(locks.files[i], &other) == 0 && about->st_dev == other.st_dev && about->st_ino == other.st_ino)
+        if (fstat(locks.files[i], &other) == 0 && is_same_file(about, &other))
             return true;
     return false;
 }
 
-/* Locks an open folder. Returns 0, or the exit status after a message. */
 static int lock_file(int file, const char *path, bool is_private) {
     int waits = is_private ? WAITS : WAITS_FOR_ANYONE;
     while (flock(file, LOCK_EX | LOCK_NB) != 0) {
-        if (errno == EINTR)
-            continue;
-        if (errno != EWOULDBLOCK) {
+        if (errno != EWOULDBLOCK && errno != EINTR) {
             message_of_errno("%s can't be locked, so devices with one key that start together are not noticed", path);
             return 0;
         }

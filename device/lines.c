@@ -2,29 +2,23 @@
  * key, or accepted, whether in this run or in an earlier one. */
 #include "numbers.h"
 
-/* Carries out the command with another packet number. */
 static uint32_t begin_at(macsec_endpoint *e, const macsec_command *c, uint64_t number) {
     macsec_command other = *c;
     other.pn = number;
     return macsec_carry_out(e, &other);
 }
 
-/* Would the endpoint refuse to send from this packet number on, because it may have been used? An association that the
- * test begins is deleted again: it was never enabled, so it has sent nothing. */
-static bool is_used(macsec_endpoint *e, const macsec_command *c, uint64_t number) {
-    uint32_t status = begin_at(e, c, number);
-    if (status != MACSEC_OK)
-        return status == MACSEC_E_PN_FLOOR;
-    (void)macsec_delete_tx_sa(e, c->an); /* it is there */
-    return false;
-}
-
-/* Finds the lowest packet number above `used` that was not used, by halves. If there is none, it is the greatest. */
+/* Finds the lowest packet number above `used` that the endpoint does not refuse since it may have been used, by halves.
+ * If there is none, it is the greatest. An association that a test begins is deleted again: it was never enabled, so it
+ * has sent nothing. */
 static uint64_t first_unused(macsec_endpoint *e, const macsec_command *c, uint64_t used) {
     uint64_t unused = UINT64_MAX;
     while (unused - used > 1) {
         uint64_t middle = used + (unused - used) / 2;
-        if (is_used(e, c, middle))
+        uint32_t status = begin_at(e, c, middle);
+        if (status == MACSEC_OK)
+            (void)macsec_delete_tx_sa(e, c->an); /* it is there */
+        if (status == MACSEC_E_PN_FLOOR)
             used = middle;
         else
             unused = middle;

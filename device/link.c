@@ -13,8 +13,6 @@ enum { BUFFER = 4 << 20 };
 /* The longest frame that the system makes of segments, and VIRTIO_NET_HDR_GSO_UDP_L4, which older headers lack. */
 enum { WHOLE = LINK_BUFFER - TAG - 1, UDP_SEGMENTS = 5 };
 
-/* ---- Opening ---- */
-
 static int set(const struct link *l, int option, const void *value, socklen_t length, const char *what) {
     return setsockopt(l->socket, SOL_PACKET, option, value, length) == 0 ? 0 : message_of_errno("LINK: %s", what);
 }
@@ -55,17 +53,10 @@ static int read_properties(struct link *l) {
     return type == ARPHRD_ETHER ? 0 : message_wrong("LINK %s is not an Ethernet device", l->name);
 }
 
-/* The socket has no protocol until it is bound, so that it gets no frame of another device. */
-static int bind_socket(const struct link *l) {
-    struct sockaddr_ll address = { .sll_family = AF_PACKET, .sll_protocol = htons(ETH_P_ALL), .sll_ifindex = l->index };
-    if (bind(l->socket, (const struct sockaddr *)&address, sizeof address) == 0)
-        return 0;
-    return message_of_errno("LINK %s: bind", l->name);
-}
-
 int link_open(struct link *l, const char *name) {
+    struct sockaddr_ll address = { .sll_family = AF_PACKET, .sll_protocol = htons(ETH_P_ALL) };
     const int one = 1;
-    memcpy(l->name, name, IF_NAMESIZE);
+    memcpy(l->name, name, IF_NAMESIZE); /* no protocol before bind, and so no frame of another device */
     l->socket = socket(AF_PACKET, SOCK_RAW | SOCK_NONBLOCK | SOCK_CLOEXEC, 0);
     if (l->socket < 0)
         return message_of_errno("LINK %s: packet socket", name);
@@ -78,7 +69,10 @@ int link_open(struct link *l, const char *name) {
     RETURN_IF_FAILED(set(l, PACKET_VNET_HDR, &one, sizeof one, "what frames lack"));
     RETURN_IF_FAILED(set(l, PACKET_IGNORE_OUTGOING, &one, sizeof one, "ignoring sent frames"));
     RETURN_IF_FAILED(join(l, PACKET_MR_ALLMULTI, "all multicast frames"));
-    return bind_socket(l);
+    address.sll_ifindex = l->index;
+    if (bind(l->socket, (const struct sockaddr *)&address, sizeof address) == 0)
+        return 0;
+    return message_of_errno("LINK %s: bind", name);
 }
 
 uint32_t link_max_frame(uint32_t mtu) {
@@ -91,8 +85,6 @@ void link_make_promiscuous(struct link *l) {
     l->promiscuous = true;
     message("LINK %s passes frames to any address now, since TAP has another address than LINK", l->name);
 }
-
-/* ---- Receiving ---- */
 
 /* Reads the data about a frame. Returns false if the system took no VLAN tag out of it. */
 static bool vlan_tag(struct msghdr *header, uint8_t tag[TAG]) {
@@ -129,7 +121,6 @@ static struct unfinished unfinished(struct received *r, size_t length) {
     return u;
 }
 
-/* The frame with its VLAN tag. */
 static struct unfinished frame_of(struct received *r, size_t length, struct msghdr *header) {
     uint8_t tag[TAG];
     struct unfinished frame = unfinished(r, length);
@@ -194,8 +185,6 @@ void link_count_lost(struct link *l, struct counts *c) {
     l->unreadable = 0;
 }
 
-/* ---- Sending ---- */
-
 unsigned link_waiting(const struct link *l) {
     return l->waiting;
 }
@@ -211,7 +200,6 @@ void link_append(struct link *l, const uint8_t *octets, size_t length, struct co
     l->waiting++;
 }
 
-/* Removes the first frames that wait. */
 static void remove_waiting(struct link *l, unsigned count) {
     l->first = (l->first + count) % BATCH;
     l->waiting -= count;

@@ -1,17 +1,9 @@
 /* Requests to a running macsecd: `help` lists them, and man/macsecctl.8 has the manual. The exit status is 0, 1 if
  * macsecd can't be reached, or 2 if a request is refused or at fault. */
-#define _GNU_SOURCE
+#include "system.h"
 #include <ctype.h>
-#include <errno.h>
-#include <fcntl.h>
 #include <inttypes.h>
-#include <stdbool.h>
-#include <stdio.h>
-#include <stdlib.h>
-#include <string.h>
-#include <sys/socket.h>
 #include <sys/un.h>
-#include <unistd.h>
 
 /* The longest request is `load` with its lines. */
 enum { REQUEST = 128 * 1024, ANSWER = 512 * 1024 };
@@ -25,7 +17,6 @@ static int fail(const char *what, int status) {
     return WRONG(status, "%s: %s\n", what, strerror(errno));
 }
 
-/* Connects. Returns -1 after a message. */
 static int connected(const char *path, const char *name) {
     struct sockaddr_un address = { .sun_family = AF_UNIX };
     int length = path != NULL ? snprintf(address.sun_path, sizeof address.sun_path, "%s", path)
@@ -90,7 +81,6 @@ static void explain(void) {
             fprintf(stderr, "macsecctl: %s: %s\n", faults[i].name, faults[i].means);
 }
 
-/* Sends the request and prints the answer. Returns the exit status. */
 static int ask_and_print(int file, size_t length) {
     if (!ask(file, length))
         return 1;
@@ -112,8 +102,6 @@ static int ask_words(int file, int count, char **words) {
     return ask_and_print(file, length);
 }
 
-/* ---- All lines or none ---- */
-
 static int load(int file, int lines) {
     size_t length = 5;
     ssize_t count = 1;
@@ -122,22 +110,12 @@ static int load(int file, int lines) {
         count = TEMP_FAILURE_RETRY(read(lines, request + length, sizeof request - length));
         length += count > 0 ? (size_t)count : 0;
     }
+    (void)close(lines); /* it was only read */
     if (count == 0)
         return ask_and_print(file, length);
     explicit_bzero(request, sizeof request);
     return count < 0 ? fail("the lines", 2) : WRONG(2, "the lines have more than %d octets\n", REQUEST - 5);
 }
-
-static int load_file(int file, const char *path) {
-    int result, lines = open(path, O_RDONLY | O_CLOEXEC);
-    if (lines < 0)
-        return fail(path, 2);
-    result = load(file, lines);
-    (void)close(lines); /* it was only read */
-    return result;
-}
-
-/* ---- Watching ---- */
 
 /* The line after this one. The last line may have no line feed. */
 static char *next_line(char *line) {
@@ -202,9 +180,8 @@ static const char help[] = "A COMMAND ..            a command of macsec(5) for e
                            "show                    the whole state, for people\n"
                            "watch                   each second the counters that have changed\n";
 
-/* Carries out the words after NAME. Returns the exit status. */
 static int run(const char *path, const char *name, int count, char **words) {
-    int file;
+    int file, lines;
     if (count == 1 && strcmp(words[0], "help") == 0) {
         (void)fputs(help, stdout); /* main looks at what was written */
         return 0;
@@ -214,8 +191,10 @@ static int run(const char *path, const char *name, int count, char **words) {
         return 1;
     if (count == 0)
         return load(file, STDIN_FILENO);
-    if (count == 2 && strcmp(words[0], "load") == 0)
-        return load_file(file, words[1]);
+    if (count == 2 && strcmp(words[0], "load") == 0) {
+        lines = open(words[1], O_RDONLY | O_CLOEXEC);
+        return lines < 0 ? fail(words[1], 2) : load(file, lines);
+    }
     return count == 1 && strcmp(words[0], "watch") == 0 ? watch(file) : ask_words(file, count, words);
 }
 

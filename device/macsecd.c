@@ -89,14 +89,6 @@ static int run(struct device *d) {
     return result;
 }
 
-/* Where LINK is: alone in a network namespace, there with the devices below it, or in the host's. */
-static const char *way_of(const struct config *c) {
-    if (c->shared)
-        return "shared";
-    return c->alone ? "alone" : "isolated";
-}
-
-/* Reads the lines of the device alone. */
 static int read_device(struct config *c, const char *name) {
     RETURN_IF_FAILED(confine_memory());
     RETURN_IF_FAILED(config_read(c, name));
@@ -108,8 +100,10 @@ static int read_device(struct config *c, const char *name) {
  * TAP is. */
 static int print_settings(const char *name) {
     struct config c;
+    const char *way;
     RETURN_IF_FAILED(read_device(&c, name));
-    printf("%s %s %u %s %u\n", c.link, c.tap, (unsigned)c.max_frame, way_of(&c), (unsigned)c.user);
+    way = c.alone ? "alone" : "isolated";
+    printf("%s %s %u %s %u\n", c.link, c.tap, (unsigned)c.max_frame, c.shared ? "shared" : way, (unsigned)c.user);
     return messages_flush_output();
 }
 

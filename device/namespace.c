@@ -22,24 +22,17 @@ static int open_tun(void) {
     return fcntl(PASSED, F_SETFD, FD_CLOEXEC) == 0 && fcntl(PASSED, F_SETFL, O_NONBLOCK) == 0 ? PASSED : -1;
 }
 
-/* Is it the same namespace? */
-static bool is_same(const struct stat *a, const struct stat *b) {
-    return a->st_dev == b->st_dev && a->st_ino == b->st_ino;
-}
-
 /* TAP must be in another namespace than LINK. It is not if its file was opened in LINK's, or if the namespace of this
  * name is the host's. */
 static int check_tun(int tun, const char *path, const struct stat *wanted) {
     struct stat status;
-    int file = ioctl(tun, SIOCGSKNS), result = file < 0 ? -1 : fstat(file, &status);
-    if (result != 0)
-        message_of_errno("the network namespace of /dev/net/tun");
+    int file = ioctl(tun, SIOCGSKNS), result = 0;
+    if (file < 0 || fstat(file, &status) != 0)
+        result = message_of_errno("the network namespace of /dev/net/tun");
     if (file >= 0)
         (void)close(file); /* it was only looked at */
-    if (result != 0)
-        return ENDS_FAILED;
-    if (!is_same(&status, wanted))
-        return 0;
+    if (result != 0 || !is_same_file(&status, wanted))
+        return result;
     return message_wrong("%s is the network namespace of /dev/net/tun too: start macsecd in that of the host", path);
 }
 
@@ -51,7 +44,7 @@ static int enter(int file, const char *path, const char *name, struct stat *want
         return ENDS_FAILED;
     }
     if (fstat(file, wanted) == 0 && stat("/proc/self/ns/net", &own) == 0 &&
-        (is_same(wanted, &own) || setns(file, CLONE_NEWNET) == 0))
+        (is_same_file(wanted, &own) || setns(file, CLONE_NEWNET) == 0))
         return 0;
     return message_of_errno("LINK's network namespace %s can't be entered", path);
 }

@@ -7,9 +7,6 @@
 #include "device.h"
 #include "workers.h"
 
-/* ---- Sending ---- */
-
-/* Sends sealed frames in their order, as far as LINK takes them. */
 static enum outcome send_finished(struct device *d) {
     struct ring *r = workers_ring(d->workers, SENDING);
     enum outcome outcome = DONE;
@@ -19,7 +16,7 @@ static enum outcome send_finished(struct device *d) {
             macsec_sent sent = { p->out, p->length, MACSEC_OK, p->fate, 0, { 0 } };
             d->counts.link_refused += p->length == 0; /* its packet number is used */
             frames_sent(d, &sent);
-            workers_remove(d->workers, SENDING);
+            ring_remove(r);
         }
         outcome = link_flush(&d->link, &d->counts);
         if (ring_first(r) == NULL)
@@ -104,8 +101,6 @@ enum outcome parallel_from_client(struct device *d) {
     return outcome;
 }
 
-/* ---- Receiving ---- */
-
 /* The members that both answers have. The library keeps their places in all versions. */
 _Static_assert(sizeof(macsec_received) == offsetof(macsec_received, length) + sizeof(macsec_finished) &&
                    offsetof(macsec_received, pn) == offsetof(macsec_received, length) + offsetof(macsec_finished, pn),
@@ -122,7 +117,7 @@ static enum outcome receive_first(struct device *d, struct ring_place *p) {
     (void)macsec_finish_receive(d->endpoint, &p->slot, out, sizeof out, &finished); /* as in macsec_receive */
     memcpy((uint8_t *)&got + offsetof(macsec_received, length), &finished, sizeof finished);
     outcome = frames_judged(d, &got, &p->frame);
-    workers_remove(d->workers, RECEIVING);
+    ring_remove(workers_ring(d->workers, RECEIVING));
     return outcome;
 }
 
@@ -135,7 +130,6 @@ enum outcome parallel_deliver(struct device *d) {
     return outcome;
 }
 
-/* Waits until there is a free place. */
 static enum outcome make_room(struct device *d) {
     enum outcome outcome = parallel_deliver(d);
     if (outcome == DONE && ring_free(workers_ring(d->workers, RECEIVING)) == NULL) {
@@ -162,8 +156,6 @@ enum outcome parallel_receive(struct device *d, const struct frame *frame, unsig
     workers_put(d->workers, RECEIVING, planned.job ? workers_copies(d->workers, d->endpoint, planned.key) : NULL);
     return DONE;
 }
-
-/* ---- Both ---- */
 
 enum outcome parallel_go_on(struct device *d) {
     enum outcome outcome;

@@ -18,20 +18,16 @@ void port_set_carrier(struct device *d) {
 }
 
 void port_set(struct device *d, bool on) {
-    bool had_no_carrier = d->port.ticks >= TICKS;
     d->port.off = !on;
-    if (on)
+    if (on) {
         d->port.ticks = 0;
-    if (on && had_no_carrier)
         port_set_carrier(d);
+    }
 }
 
+/* rtnetlink_tick sets the carrier. */
 void port_tick(struct device *d) {
-    if (!d->port.off || d->port.ticks >= TICKS)
-        return;
-    d->port.ticks++;
-    if (d->port.ticks == TICKS)
-        port_set_carrier(d);
+    d->port.ticks += d->port.off && d->port.ticks < TICKS;
 }
 
 bool port_may_change(const struct device *d, int client) {

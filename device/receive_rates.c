@@ -23,33 +23,28 @@ static bool is_of(const struct receive_rate *p, const uint8_t sci[8]) {
     return p->is_used && memcmp(p->sci, sci, sizeof p->sci) == 0;
 }
 
-/* The rate that is taken for a new channel: one that is not used, or the slowest one, of a channel that is gone. */
-static struct receive_rate *free_rate(struct receive_rates *p) {
-    struct receive_rate *found = &p->all[0];
-    for (size_t i = 0; i < MACSEC_RX_CHANNEL_COUNT; i++) {
-        if (!p->all[i].is_used)
-            return &p->all[i];
-        if (p->all[i].rate + p->all[i].frames < found->rate + found->frames)
-            found = &p->all[i];
-    }
+/* The index for a new channel: one that is not used, or the slowest one, of a channel that is gone. */
+static size_t free_index(const struct receive_rates *p) {
+    size_t found = 0;
+    for (size_t i = 0; i < MACSEC_RX_CHANNEL_COUNT && p->all[found].is_used; i++)
+        if (!p->all[i].is_used || p->all[i].rate + p->all[i].frames < p->all[found].rate + p->all[found].frames)
+            found = i;
     return found;
 }
 
 struct receive_rate *receive_rates_of(struct receive_rates *p, const uint8_t sci[8]) {
-    struct receive_rate *found;
-    if (is_of(&p->all[p->latest], sci))
-        return &p->all[p->latest];
-    for (size_t i = 0; i < MACSEC_RX_CHANNEL_COUNT; i++)
-        if (is_of(&p->all[i], sci)) {
-            p->latest = i;
-            return &p->all[i];
-        }
-    found = free_rate(p);
-    memset(found, 0, sizeof *found);
-    memcpy(found->sci, sci, sizeof found->sci);
-    found->is_used = true;
-    p->latest = (size_t)(found - p->all);
-    return found;
+    size_t i = p->latest;
+    if (is_of(&p->all[i], sci))
+        return &p->all[i];
+    for (i = 0; i < MACSEC_RX_CHANNEL_COUNT && !is_of(&p->all[i], sci); i++)
+        continue;
+    if (i == MACSEC_RX_CHANNEL_COUNT) {
+        i = free_index(p);
+        p->all[i] = (struct receive_rate){ .is_used = true };
+        memcpy(p->all[i].sci, sci, sizeof p->all[i].sci);
+    }
+    p->latest = i;
+    return &p->all[i];
 }
 
 uint64_t receive_rates_amount(struct receive_rate *p, double slow) {

@@ -41,7 +41,6 @@ static const struct {
     { "numbers", answer_numbers },   { "port", answer_port }, { "show", answer_show },
 };
 
-/* Answers a request that only reads. Returns false if it is another one. */
 static bool answer_reader(struct device *d, struct text *t, const struct words *w, char *line, size_t length) {
     for (size_t i = 0; i < sizeof readers / sizeof *readers; i++)
         if (words_are(w, 0, readers[i].request)) {
@@ -61,7 +60,6 @@ static struct result switch_port(struct device *d, bool on) {
     return result_of(MACSEC_OK);
 }
 
-/* Carries out a request of one line. */
 static struct result change(struct device *d, int client, const struct words *w, const char *line, size_t length) {
     if (words_are(w, 0, "own"))
         port_own(d, client);

@@ -21,8 +21,6 @@ void ring_close(struct ring *r) {
         macsec_slot_free(&r->places[i].slot);
 }
 
-/* ---- In the endpoint's thread ---- */
-
 unsigned ring_count(const struct ring *r) {
     return (unsigned)(atomic_load_explicit(&r->end, memory_order_relaxed) -
                       atomic_load_explicit(&r->first, memory_order_relaxed));
@@ -66,8 +64,6 @@ void ring_remove(struct ring *r) {
     atomic_store_explicit(&r->places[first % RING].state, FREE, memory_order_relaxed);
     atomic_store_explicit(&r->first, first + 1, memory_order_relaxed);
 }
-
-/* ---- In any thread ---- */
 
 bool ring_take_place(struct ring_place *p) {
     uint32_t state = PLANNED;

@@ -24,8 +24,6 @@ static int ask(const struct rtnetlink *f, int index) {
     return message_of_errno("rtnetlink");
 }
 
-/* ---- Reports ---- */
-
 static void note_link_up(struct device *d, unsigned flags) {
     bool up = (flags & IFF_UP) != 0 && (flags & IFF_RUNNING) != 0;
     if (up == d->link.up)
@@ -150,7 +148,5 @@ int rtnetlink_open(struct device *d) {
 }
 
 int rtnetlink_begin(struct device *d) {
-    if (ask(&d->rtnetlink, d->link.index) != 0)
-        return ENDS_FAILED;
-    return rtnetlink_read(d) ? 0 : ENDS_FAILED;
+    return ask(&d->rtnetlink, d->link.index) == 0 && rtnetlink_read(d) ? 0 : ENDS_FAILED;
 }

@@ -2,7 +2,6 @@
 #include "device.h"
 #include <inttypes.h>
 
-/* The octets of an age, and of a packet number. */
 enum { AGE = 40, NUMBER = 24 };
 
 /* "3 s ago", "2 min ago", "never". */
@@ -107,7 +106,6 @@ static void add_transmit(struct text *t, const struct device *d) {
     }
 }
 
-/* A counter of a receive association: its heading, and its place. */
 struct column {
     const char *heading;
     unsigned counter;
@@ -123,13 +121,6 @@ static const struct column columns[] = {
 
 enum { COLUMNS = sizeof columns / sizeof *columns };
 
-static void add_heading(struct text *t) {
-    text_add(t, "  AN   key  state          next PN       lowest PN");
-    for (size_t i = 0; i < COLUMNS; i++)
-        text_add(t, " %11s", columns[i].heading);
-    text_add(t, "\n");
-}
-
 static void add_associations(struct text *t, const struct device *d, const uint8_t sci[8]) {
     bool any = false;
     for (uint8_t an = 0; an < MACSEC_AN_COUNT; an++) {
@@ -138,8 +129,11 @@ static void add_associations(struct text *t, const struct device *d, const uint8
         char next[NUMBER], lowest[NUMBER];
         if (macsec_get_rx_sa(d->endpoint, sci, an, &sa) != MACSEC_OK || totals_rx(d, sci, an, values) != MACSEC_OK)
             continue;
-        if (!any)
-            add_heading(t);
+        if (!any) {
+            text_add(t, "  AN   key  state          next PN       lowest PN");
+            for (size_t i = 0; i < COLUMNS; i++)
+                text_add(t, " %11s%s", columns[i].heading, i + 1 < COLUMNS ? "" : "\n");
+        }
         any = true;
         number_text(sa.next, sa.next_high, next);
         number_text(sa.lowest, sa.lowest_high, lowest);

@@ -3,25 +3,20 @@
 #include "text.h"
 #include <limits.h>
 #include <linux/if_arp.h>
+#include <linux/if_ether.h>
 #include <linux/if_tun.h>
-
-/* Octets of an Ethernet header. */
-enum { HEADER = 14 };
 
 uint32_t tap_mtu(uint32_t link_mtu, uint32_t max_frame) {
     uint32_t most = link_max_frame(link_mtu), frame = max_frame < most ? max_frame : most;
-    return frame < HEADER + MACSEC_OVERHEAD_MAX ? 0 : frame - HEADER - MACSEC_OVERHEAD_MAX;
+    return frame < ETH_HLEN + MACSEC_OVERHEAD_MAX ? 0 : frame - ETH_HLEN - MACSEC_OVERHEAD_MAX;
 }
 
-/* A request of the system about TAP, without what is asked. */
 static struct ifreq request_of(const struct tap *t) {
     struct ifreq request;
     memset(&request, 0, sizeof request);
     memcpy(request.ifr_name, t->name, IF_NAMESIZE);
     return request;
 }
-
-/* ---- Whose it is ---- */
 
 /* Attaches the file to TAP, which is made if it is not there. Root and macsecd's user may have TAP. Another one has it
  * since it had no owner, and loses it only if it is deleted. */
@@ -101,8 +96,6 @@ int tap_own(const struct config *c, uid_t user) {
     (void)close(t.file); /* which detaches it */
     return result;
 }
-
-/* ---- What it is like ---- */
 
 /* Gives TAP LINK's address, as the system's own MACsec devices have it: a LINK that filters by address then passes the
  * frames for TAP. The MTU leaves space for what the endpoint adds. */

@@ -37,9 +37,6 @@ bool words_are(const struct words *w, unsigned index, const char *text);
 bool words_copy(const struct words *w, unsigned index, char *to, size_t room);
 /* Reads a decimal number; one that does not fit is UINT64_MAX. Returns false if the word is no decimal number. */
 bool words_number(const struct words *w, unsigned index, uint64_t *number);
-/* Takes the next line of a text, without its line feed. Returns NULL if there is none. */
-const char *words_line(const char **text, size_t *left, size_t *length);
-
 /* ---- commands.c: the lines of a text for the endpoint ---- */
 
 struct commands {
@@ -84,15 +81,13 @@ struct config {
     bool has_group;
     uid_t user; /* the owner of TAP; root if no line names another one */
     gid_t user_group;
-    bool persistent;  /* does a line say that TAP stays when macsecd ends? It does so unless it is transient. */
-    bool transient;   /* does TAP end with macsecd? */
-    bool isolated;    /* does a line say that LINK is in a separate network namespace? It is unless it is shared. */
-    bool alone;       /* are the devices below LINK not in that namespace? */
-    bool unconfined;  /* does macsecd go on without Landlock? */
-    bool shared;      /* is LINK in the host's network namespace? */
-    bool begins_off;  /* is the controlled port off at the start? */
-    bool has_workers; /* does a line say how many threads do the work of the cipher? */
-    unsigned workers; /* how many; 0: the thread that has the endpoint does it */
+    bool transient, persistent; /* does TAP end with macsecd, and does a line say that it stays? */
+    bool shared, isolated;      /* is LINK in the host's network namespace, and does a line say that it is not? */
+    bool alone;                 /* are the devices below LINK not in LINK's own namespace? */
+    bool unconfined;            /* does macsecd go on without Landlock? */
+    bool begins_off;            /* is the controlled port off at the start? */
+    bool has_workers;           /* does a line say how many threads do the work of the cipher? */
+    unsigned workers;           /* how many; 0: the thread that has the endpoint does it */
     struct limits limits;
     uint32_t max_frame; /* MAX of the `end` line */
     uint8_t *text;      /* the lines for the endpoint; those for the device are comments in it */
@@ -105,13 +100,12 @@ bool config_is_name(const char *name);
  * it is too long. */
 bool config_path(char *path, size_t room, const char *variable, const char *otherwise, const char *name,
                  const char *suffix);
-/* Reads the configuration of this name. Returns 0, or the exit status after a message. */
+/* Reads the configuration of this name. */
 int config_read(struct config *c, const char *name);
 /* Wipes and frees its text, which has keys. */
 void config_wipe(struct config *c);
 /* The parts of config_read, for a look at a configuration that has faults. config_look reads only the text, even of a
- * file that macsecd does not take: `fault` is why, or NULL. A name with a slash is a path. Returns 0, or the exit
- * status after a message. */
+ * file that macsecd does not take: `fault` is why, or NULL. A name with a slash is a path. */
 int config_look(struct config *c, const char *name, const char **fault);
 /* Takes a byte order mark out of the first line. Returns what is wrong with it, or NULL. */
 const char *config_take_mark(struct config *c);

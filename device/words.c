@@ -54,15 +54,3 @@ bool words_number(const struct words *w, unsigned index, uint64_t *number) {
     }
     return true;
 }
-
-const char *words_line(const char **text, size_t *left, size_t *length) {
-    const char *line = *text;
-    const char *feed;
-    if (*left == 0)
-        return NULL;
-    feed = memchr(line, '\n', *left);
-    *length = feed == NULL ? *left : (size_t)(feed - line);
-    *text += *length + (feed != NULL);
-    *left -= *length + (feed != NULL);
-    return line;
-}

@@ -24,7 +24,6 @@ enum { PAGE = 4096, STACK = 1024 * 1024, USED = 64 * 1024 };
 #define WORKERS_LOOKS 300
 #endif
 
-/* How many jobs wake a worker. */
 enum { LOOKS = WORKERS_LOOKS, WAKES = 8 };
 
 /* What the endpoint's thread waits for: nothing, any event of its loop, or one place. */
@@ -195,10 +194,7 @@ int workers_open(struct workers **w, unsigned count) {
     it->count = count;
     *w = it;
     it->events = eventfd(0, EFD_NONBLOCK | EFD_CLOEXEC);
-    if (it->events < 0)
-        return message_of_errno("workers");
-    errno = ENOMEM; /* if there is no memory for a ring */
-    if (ring_open(&it->rings[SENDING]) != MACSEC_OK || ring_open(&it->rings[RECEIVING]) != MACSEC_OK)
+    if (it->events < 0 || ring_open(&it->rings[SENDING]) != MACSEC_OK || ring_open(&it->rings[RECEIVING]) != MACSEC_OK)
         return message_of_errno("workers");
     return make_stacks(it);
 }
@@ -301,10 +297,6 @@ void workers_put(struct workers *w, enum direction direction, struct copies *cop
         return;
     if (++w->jobs % WAKES == 0 && ring_untaken(r) >= WAKES)
         ring_bell(w, 1);
-}
-
-void workers_remove(struct workers *w, enum direction direction) {
-    ring_remove(&w->rings[direction]);
 }
 
 bool workers_help(struct workers *w) {

@@ -67,10 +67,9 @@ enum direction { SENDING, RECEIVING };
 /* How many workers have a processor beside the endpoint's thread, at most WORKERS_MAX: one less than this process may
  * run on. To be called before confine_calls. */
 unsigned workers_fitting(void);
-/* Makes the rings, and memory for so many workers; if it is 0, there are none (NULL). To be called after memory_lock.
- * Returns 0, or the exit status after a message. */
+/* Makes the rings, and memory for so many workers; for 0 there are none (NULL). To be called after memory_lock. */
 int workers_open(struct workers **w, unsigned count);
-/* Starts the threads, which have their own list of system calls. Returns 0, or the exit status after a message. */
+/* Starts the threads, which have their own list of system calls. */
 int workers_start(struct workers *w);
 /* Waits for the jobs that are under way, ends the threads, and frees all. */
 void workers_close(struct workers *w);
@@ -87,8 +86,6 @@ struct copies *workers_copies(struct workers *w, const macsec_endpoint *e, uint1
 void workers_forget(struct workers *w);
 /* Puts the frame of the free place into the ring, with a job for a key, or without one if that is NULL. */
 void workers_put(struct workers *w, enum direction direction, struct copies *copies);
-/* Removes the first frame, which is finished. */
-void workers_remove(struct workers *w, enum direction direction);
 /* Does a job that no thread has taken. Returns false if there is none: none may be left when the loop waits, since no
  * worker may have been woken for it. */
 bool workers_help(struct workers *w);

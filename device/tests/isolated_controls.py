@@ -64,7 +64,7 @@ CONTROLS: dict[str, list[Control]] = {
                "    return !c->shared ? confine_namespace() : 0;", "shared, by root")],
     "names": [edited("LINK is not waited for", "macsec-link", "tries=30", "tries=1", "is not there")],
     "starts": [
-        edited("TAP may be in LINK's namespace", "namespace.c", "if (!is_same(&status, wanted))", "if (true)",
+        edited("TAP may be in LINK's namespace", "namespace.c", "|| !is_same_file(&status, wanted))", "|| true)",
                "the host's namespace", "inside LINK's namespace"),
         edited("a TAP is made", "tap.c", "    if (!c->shared) {\n", "    if (false) {\n", "without TAP"),
         edited("lines hide each other", "config.c", "c->shared && (c->isolated || c->alone)", "false", "exclude"),
@@ -81,7 +81,8 @@ CONTROLS: dict[str, list[Control]] = {
         edited("no release with `device shared`", "macsec-link", "release() {\n",
                'release() {\n    [ "$way" != shared ] || return 0\n', "life: release"),
         edited("TAP ends", "tap.c", "c->transient ||", "!c->transient ||", "TAP ended")],
-    "clients": [edited("the port is off", "frames.c", "if (!d->port.off)", "if (d->port.off)")],
+    "clients": [edited("the port is off", "frames.c", "d->port.off)\n        d->counts.port_in++",
+                       "!d->port.off)\n        d->counts.port_in++")],
     "users": [
         edited("TAP has no owner before the first start", "macsec-link", ' user "$user"\n', "\n",
                "before the first start: 1 times attached, 50 datagrams read, 50 sent as the peer", "is gone"),
