@@ -19,8 +19,7 @@ from house.reporting import Failed, call, until
 from macsecd_controls import replace_once
 
 SUITE = "bookworm"
-# libboost-regex is there since debootstrap does not know that it is a package of another name that gdb needs.
-INCLUDED = "systemd,systemd-sysv,udev,dbus,procps,iproute2,kmod,libssl3,gdb,libboost-regex1.74.0,python3,linux-image-cloud-amd64"
+INCLUDED = "systemd,systemd-sysv,udev,dbus,procps,iproute2,kmod,libssl3,python3,linux-image-cloud-amd64"
 GUEST = "/usr/local/lib/installed_guest.py"
 # The devices outside that the machine's cards are connected to, and the addresses and names of the cards.
 CARDS = {

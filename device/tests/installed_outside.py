@@ -13,7 +13,7 @@ import time
 
 from house.reporting import call, until
 from installed_machine import CARDS, SLOWER
-from macsecd_world import Background, Namespace, echo_request, inside, udp_socket
+from macsecd_world import Background, Namespace, echo_request, inside
 
 MACSEC, EAPOL, IPV4, ARP = b"\x88\xe5", b"\x88\x8e", b"\x08\x00", b"\x08\x06"
 PEERS = {"a": ("link0", 2, 1), "b": ("link1", 4, 2)}  # the device, the end of its address, and that of its network
@@ -181,22 +181,6 @@ class Outside:
         until(lambda: len(it.answered) > 1, seconds * SLOWER)
         it.stop()
         return it.answered[1] - began if len(it.answered) > 1 else float("inf")
-
-    def flood(self, frames: list[bytes], count: int) -> None:
-        """Sends frames to the machine on the first link, so many times each."""
-        with inside(self.namespace), socket.socket(socket.AF_PACKET, socket.SOCK_RAW, 0) as it:
-            it.bind(("link0", 3))
-            for _ in range(count):
-                for frame in frames:
-                    it.send(frame)
-                time.sleep(0.0005)
-
-    def datagrams(self, count: int) -> None:
-        """Sends datagrams to the machine through MACsec."""
-        with udp_socket(self.namespace) as it:
-            for _ in range(count):
-                it.sendto(b"valid", ("10.9.1.1", 5000))
-                time.sleep(0.001)
 
     def __exit__(self, *_: object) -> None:
         for peer in self.peers.values():
