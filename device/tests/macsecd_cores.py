@@ -1,4 +1,4 @@
-"""macsecd with workers beside macsecd without, in one run: UDP, TCP and echo requests, and the same without the cipher.
+"""macsecd with workers beside macsecd without, in one run: UDP, TCP and echo requests.
 
 UDP goes through one macsecd, whose frames nobody receives. There is one for each number of workers, and they take turns
 of half a second, so that other work on the machine's processors, which comes and goes, meets all of them. A gain is the
@@ -24,11 +24,6 @@ from macsecd_world import End, World, build, echo_request, inside, is_answered, 
 
 # The octets of a datagram whose Ethernet frame has 1,400.
 DATAGRAM = 1400 - 14 - 20 - 8
-# macsecd without the cipher.
-RELAYED = ["send_raw", "receive_raw", "slot_new", "slot_free_raw", "plan_send_raw", "seal_job_raw"]
-RELAYED += ["plan_receive_raw", "open_job", "finish_receive_raw"]
-RELAY = [*(f"-Wl,--wrap=macsec_{name}" for name in RELAYED), str(ROOT / "device/tests/macsecd_relay.c")]
-
 # What workers have to gain at least, by their number, and what an echo may lose, in microseconds.
 BARS_UDP, BARS_TCP, BAR_ECHO = {2: 2.2}, {2: 1.5}, 10.0
 
@@ -144,42 +139,34 @@ def joined(rows: list[Row]) -> Row:
     return Row([each for it in rows for each in it.udp], max(it.tcp for it in rows), min(it.echo for it in rows))
 
 
-def compare(what: str, rows: dict[int, Row], bars: bool) -> None:
+def compare(rows: dict[int, Row]) -> None:
     """Prints what counts of each number of workers, beside none, and whether the bars hold."""
     none = rows[0]
     for workers, row in rows.items():
         udp = statistics.median(it.each_second / other.each_second for it, other in zip(row.udp, none.udp))
         gains = udp, row.tcp.each_second / none.tcp.each_second
         later = row.echo - none.echo
-        print(f"cores: all of {what}, {workers} workers: {row.text()}", flush=True)
+        print(f"cores: all rounds, {workers} workers: {row.text()}", flush=True)
         print(f"cores: beside none: UDP {gains[0]:.2f}, TCP {gains[1]:.2f}, an echo {later:+.1f} us", flush=True)
-        if bars and workers > 0:
+        if workers > 0:
             least = BARS_UDP.get(workers, 0), BARS_TCP.get(workers, 0)
             report(gains[0] >= least[0], f"{workers} workers: UDP gains {gains[0]:.2f}, and not {least[0]}")
             report(gains[1] >= least[1], f"{workers} workers: TCP gains {gains[1]:.2f}, and not {least[1]}")
             report(later <= BAR_ECHO, f"{workers} workers: an echo takes {later:.1f} us longer")
 
 
-def measure_cores(
-    folder: pathlib.Path, library: pathlib.Path, numbers: list[int], short: bool = False, rounds: int = 5
-) -> None:
-    """Measures macsecd, and without `short` the same without the cipher, with each number of workers."""
-    device, sender = ROOT / "device", build_datagrams(folder)
-    programs = {"macsecd": build(folder / "full", library, [], device)}
-    if not short:
-        programs["relay"] = build(folder / "relay", library, [], device, RELAY)
-    rounds, turns, octets, echoes = (1, 4, 100 << 20, 300) if short else (rounds, 10, 400 << 20, 1000)
-    rows: dict[str, dict[int, list[Row]]] = {name: {workers: [] for workers in numbers} for name in programs}
+def measure_cores(folder: pathlib.Path, library: pathlib.Path, numbers: list[int], short: bool) -> None:
+    """Measures macsecd with each number of workers."""
+    programs, sender = build(folder / "full", library, [], ROOT / "device"), build_datagrams(folder)
+    rounds, turns, octets, echoes = (1, 4, 100 << 20, 300) if short else (5, 10, 400 << 20, 1000)
+    rows: dict[int, list[Row]] = {workers: [] for workers in numbers}
     for number in range(rounds):
         print(f"cores: round {number + 1}, load {os.getloadavg()[0]:.1f}", flush=True)
-        for name, each in programs.items():
-            udp = run_udp(folder / f"{name}{number}-udp", each, sender, numbers, turns)
-            for workers in numbers:
-                End.workers = workers
-                at = f"{name}{number}-{workers}"
-                speed = run_tcp(folder / f"{at}-tcp", each, octets)
-                row = Row(udp[workers], speed, run_echo(folder / f"{at}-echo", each, echoes))
-                rows[name][workers].append(row)
-                print(f"cores: {name}, {workers} workers: {row.text()}", flush=True)
-    for name in programs:
-        compare(name, {workers: joined(rows[name][workers]) for workers in numbers}, name == "macsecd")
+        udp = run_udp(folder / f"{number}-udp", programs, sender, numbers, turns)
+        for workers in numbers:
+            End.workers, at = workers, f"{number}-{workers}"
+            speed = run_tcp(folder / f"{at}-tcp", programs, octets)
+            row = Row(udp[workers], speed, run_echo(folder / f"{at}-echo", programs, echoes))
+            rows[workers].append(row)
+            print(f"cores: {workers} workers: {row.text()}", flush=True)
+    compare({workers: joined(found) for workers, found in rows.items()})
