@@ -252,7 +252,7 @@ static int read_end(struct config *c) {
 }
 
 int config_read(struct config *c, const char *name) {
-    const char *fault;
+    const char *fault = NULL;
     int result;
     memset(c, 0, sizeof *c);
     memcpy(c->tap, name, strlen(name));
