@@ -34,11 +34,8 @@ bool keys_has(const macsec_sak *keys, size_t number) {
     return keys[number].length != 0;
 }
 
-void keys_note(macsec_sak *keys, const macsec_command *c) {
-    if (c->kind == MACSEC_COMMAND_RETIRE)
-        explicit_bzero(&keys[c->key], sizeof *keys);
-    if (c->kind == MACSEC_COMMAND_KEY)
-        keys[c->key] = c->sak;
+void keys_retire(macsec_sak *keys, size_t number) {
+    explicit_bzero(&keys[number], sizeof *keys);
 }
 
 void keys_wipe(macsec_sak *keys) {
@@ -98,15 +95,12 @@ void totals_carry(struct device *d) {
     d->totals = sum;
 }
 
-void totals_note(struct totals *t, const macsec_command *c) {
-    bool ends = c->kind == MACSEC_COMMAND_RX_SC_DEL;
-    size_t i = ends || c->kind == MACSEC_COMMAND_RX_DEL ? index_of(t, c->sci) : t->count;
-    if (i == t->count)
-        return;
-    if (ends)
+void totals_end(struct totals *t, const uint8_t sci[8], int an) {
+    size_t i = index_of(t, sci);
+    if (i < t->count && an < 0)
         t->channels[i] = t->channels[--t->count];
-    else
-        memset(t->channels[i].of_sa[c->an], 0, sizeof t->channels[i].of_sa[c->an]); /* the channel's include them */
+    else if (i < t->count)
+        memset(t->channels[i].of_sa[an], 0, sizeof t->channels[i].of_sa[an]); /* the channel's include them */
 }
 
 /* ---- Up to where the first endpoint has sent ---- */

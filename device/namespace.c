@@ -26,13 +26,14 @@ static int open_tun(void) {
  * name is the host's. */
 static int check_tun(int tun, const char *path, const struct stat *wanted) {
     struct stat status;
-    int file = ioctl(tun, SIOCGSKNS), result = 0;
-    if (file < 0 || fstat(file, &status) != 0)
-        result = message_of_errno("the network namespace of /dev/net/tun");
+    int file = ioctl(tun, SIOCGSKNS);
+    bool found = file >= 0 && fstat(file, &status) == 0;
     if (file >= 0)
         (void)close(file); /* it was only looked at */
-    if (result != 0 || !is_same_file(&status, wanted))
-        return result;
+    if (!found)
+        return message_of_errno("the network namespace of /dev/net/tun");
+    if (!is_same_file(&status, wanted))
+        return 0;
     return message_wrong("%s is the network namespace of /dev/net/tun too: start macsecd in that of the host", path);
 }
 

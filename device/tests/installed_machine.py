@@ -66,7 +66,7 @@ def accelerators() -> list[str]:
     return ["kvm", "tcg"] if {"vmx", "svm"} & set(flags) else ["tcg"]
 
 
-# Programs of an emulated machine start some fifty times as slowly. So waiting takes at most so many times as long there.
+# Programs of an emulated machine start some fifty times as slowly: so waiting takes so many times as long at most.
 SLOWER = 1 if "kvm" in accelerators() else 5
 
 
@@ -177,8 +177,8 @@ class Guest:
         return words
 
     def start(self) -> None:
-        """Starts it, and waits until it carries out commands. An emulated one that gets no processor for some seconds can
-        lose its disk while its kernel starts: then it is started again."""
+        """Starts it, and waits until it carries out commands. An emulated one that gets no processor for some seconds
+        can lose its disk while its kernel starts: then it is started again."""
         for left in range(1 if SLOWER == 1 else 3)[::-1]:
             try:
                 self.start_once()

@@ -64,7 +64,7 @@ CONTROLS: dict[str, list[Control]] = {
                "    return !c->shared ? confine_namespace() : 0;", "shared, by root")],
     "names": [edited("LINK is not waited for", "macsec-link", "tries=30", "tries=1", "is not there")],
     "starts": [
-        edited("TAP may be in LINK's namespace", "namespace.c", "|| !is_same_file(&status, wanted))", "|| true)",
+        edited("TAP may be in LINK's namespace", "namespace.c", "if (!is_same_file(&status, wanted))", "if (true)",
                "the host's namespace", "inside LINK's namespace"),
         edited("a TAP is made", "tap.c", "    if (!c->shared) {\n", "    if (false) {\n", "without TAP"),
         edited("lines hide each other", "config.c", "c->shared && (c->isolated || c->alone)", "false", "exclude"),

@@ -169,7 +169,7 @@ CONTROLS: dict[str, list[tuple[str, str, str]]] = {
     "rights": [("confine.c", "    RETURN_IF_FAILED(leave_root(state));\n", "    (void)leave_root;\n"),
                ("confine.c", "return unconfined ? 0 : ENDS_WRONG;", "return 0;"),
                ("confine.c", "setrlimit(RLIMIT_CORE, &none) == 0 && ", "sizeof none > 0 && "),
-               ("handover.c", "explicit_bzero(&keys[c->key], sizeof *keys);", "keys[c->key].length = 0;"),
+               ("handover.c", "explicit_bzero(&keys[number], sizeof *keys);", "keys[number].length = 0;"),
                ("handover.c", "mlock(memory, octets) != 0", "false"),
                ("config.c", "        explicit_bzero(c->text, c->room);\n", "        c->text[0] = 0;\n"),
                ("confine.c", "syscall(SYS_capset, &header, none) != 0", "0"),
