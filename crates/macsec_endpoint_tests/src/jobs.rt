@@ -5,8 +5,8 @@ ghost use Rattle.macsec_secy.specs.Jobs.{OpensFrame, state_after};
 ghost use Rattle.macsec_secy.specs.Step.{Input};
 
 use crate::endpoint::{
-    CASES, Case, SENDER, Wanted, an, carry_out, endpoint, key_number, passed, receiver,
-    sending, set,
+    CASES, Case, SENDER, Wanted, an, carry_out, endpoint, key_number, passed, receiver, sending,
+    set,
 };
 use macsec_secy::laws::jobs_stay;
 use macsec_secy::{Command, OpenedFrame, Planned, Secy, open_frame};
