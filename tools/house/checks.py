@@ -148,7 +148,7 @@ CHECKS: list[Check] = [
           test="--short --library {library} --seed {seed}", gate="--seed {seed}", hand="--mistakes --seed {seed}"),
     Check("macsecd-workers", "passes frames through the device with no worker and with one", "device/tests/macsecd",
           ROOT_USER, 20, "the checks macsecd-controls and workers",
-          gate="--short --workers 0,1 --seed {seed} traffic rekey restart port losses",
+          gate="--short --workers 0,1 --seed {seed} traffic handover restart port losses",
           hand="--workers 0,1,3 --seed {seed}"),
     Check("controls", "sees that the checks report something wrong", "tests/program/controls", SHOWN, 60,
           "it is made of them", gate=""),
