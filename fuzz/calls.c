@@ -19,11 +19,12 @@
 #include <sys/mman.h>
 #include <unistd.h>
 
-enum { HANDLES = 4, KEYS = 3, SLOTS = 3, MOST_WORDS = 20, LONGEST_LINE = 524288, MOST_ROOMS = 4 };
+enum { HANDLES = 4, KEYS = 3, SLOTS = 3, FILES = 2, MOST_WORDS = 20, LONGEST_LINE = 524288, MOST_ROOMS = 4 };
 
 static macsec_endpoint handles[HANDLES];
 static macsec_key keys[KEYS];
 static macsec_slot slots[SLOTS];
+static macsec_journal files[FILES];
 static bool made[HANDLES];  /* whether they hold an endpoint */
 static int blocks[HANDLES]; /* and of how many blocks */
 static char line[LONGEST_LINE];
@@ -140,7 +141,7 @@ static const uint8_t *sealed_of(const char *word, size_t length) {
 static unsigned asked, refused; /* how often the library asked for memory, and which time it gets none, if not 0 */
 static bool refused_after;      /* whether it gets none after that time either */
 static int held;                /* how many blocks it holds */
-static int for_jobs;            /* how many of them are of a key or a slot that a call made or freed */
+static int for_jobs;            /* how many of them are of a key, a slot or a file that a call made or freed */
 
 #ifndef UNCOUNTED
 void *__real_malloc(size_t size);
@@ -169,14 +170,14 @@ void __wrap_free(void *block) {
     __real_free(block);
 }
 
-/* An endpoint has 14 blocks, and one more with a journal that has records; a key has one, and a slot three. Only the
- * calls that make one, a line and a journal ask for blocks; one that answers MACSEC_E_TAKEN or MACSEC_E_EMPTY does not.
- */
+/* An endpoint has 14 blocks, and one more with a journal that has records; a key has one, a slot three, and the file of
+ * a journal five. Only the calls that make one, a line and a journal ask for blocks; one that answers MACSEC_E_TAKEN or
+ * MACSEC_E_EMPTY does not. */
 enum { BLOCKS = 14 };
 
 static void check_blocks(const char *name, unsigned handle, bool held_before, uint32_t status) {
-    const char *reading[] = { "configure", "command_line", "parse_line",        "parse_end",
-                              "answer",    "reserve_open", "reserve_configure", "journal_compacted" };
+    const char *reading[] = { "configure",    "command_line",      "parse_line",        "parse_end",    "answer",
+                              "reserve_open", "reserve_configure", "journal_compacted", "journal_begin" };
     bool beside = strncmp(name, "reserve_", strlen("reserve_")) == 0, may_ask = false;
     for (size_t i = 0; i < sizeof reading / sizeof reading[0]; i++)
         may_ask = may_ask || strcmp(name, reading[i]) == 0;
@@ -267,7 +268,7 @@ static uint32_t receive(macsec_endpoint *e, const char *word) {
 
 static uint64_t place(const char *word, unsigned count) {
     if (number(word) >= count)
-        fail("there is no such key or slot");
+        fail("there is no such key, slot or file");
     return number(word);
 }
 
@@ -367,6 +368,52 @@ static uint32_t journal_compacted(const char *word) {
 
 static uint32_t show_octets(size_t count, uint32_t status) {
     print_octets(filled, count);
+    return status;
+}
+
+/* ---- A journal as a file ---- */
+
+#define FILE_AT(i) (&files[place(w[i], FILES)])
+
+static uint32_t free_file(macsec_journal *file) {
+    with_blocks(file->at == NULL ? 0 : -5, MACSEC_OK);
+    macsec_journal_free(file);
+    return MACSEC_OK;
+}
+
+/* Octets that are not so many whole records go to the library's part of the call. */
+static uint32_t journal_order(char **w) {
+    const uint8_t *records = sealed(w[1]);
+    size_t length = length_of(w[1]), count = length / MACSEC_RECORD_LENGTH;
+    bool anew = number(w[2]) != 0;
+    if (length % MACSEC_RECORD_LENGTH != 0)
+        return macsec_journal_order_raw(FILE_AT(0), records, length, anew);
+    return macsec_journal_order(FILE_AT(0), (const macsec_record *)(const void *)records, count, anew);
+}
+
+static uint32_t journal_next(char **w) {
+    size_t room = (size_t)number(w[1]);
+    macsec_journal_call *it = ROOM(macsec_journal_call, 7, 7, 7, 7, { 7, 7, 7, 7 });
+    uint8_t *out = room_of(room);
+    uint32_t status = macsec_journal_next(FILE_AT(0), out, room, it);
+    size_t shown = status == MACSEC_OK ? it->length : 0;
+    check_reserved(status, RESERVED_OF(*it));
+    check_rest(out, shown, room);
+    printf(" %u", (unsigned)it->step);
+    print_number(it->at);
+    print_number(it->end);
+    print_octets(out, shown);
+    return status;
+}
+
+static uint32_t journal_whole(char **w) {
+    size_t room = (size_t)number(w[1]), *written = ROOM(size_t, 7);
+    uint8_t *out = room_of(room);
+    uint32_t status = macsec_journal_whole(FILE_AT(0), out, room, written);
+    size_t shown = status == MACSEC_OK ? *written : 0;
+    check_rest(out, shown, room);
+    print_number(*written);
+    print_octets(out, shown);
     return status;
 }
 
@@ -555,6 +602,20 @@ static uint32_t command(macsec_endpoint *e, const char *name, char **w) {
     return 0;
 }
 
+static uint32_t file_call(macsec_endpoint *e, const char *name, char **w) {
+    CALL("journal_created", show_octets(128, macsec_journal_created(sealed_of(w[0], 24), filled = room_of(128))));
+    CALL("journal_begin", with_blocks(5, macsec_journal_begin(FILE_AT(0), OCTETS(1), (uint32_t)number(w[2]))));
+    CALL("journal_order", journal_order(w));
+    CALL("journal_next", journal_next(w));
+    CALL("journal_answered", macsec_journal_answered(FILE_AT(0), number(w[1]) != 0));
+    CALL("journal_shown", show_octets(64, macsec_journal_shown(FILE_AT(0), (size_t)number(w[1]), RECORD)));
+    CALL("journal_record", show_octets(64, macsec_journal_record(FILE_AT(0), (size_t)number(w[1]), RECORD)));
+    CALL("journal_let_go", macsec_journal_let_go(FILE_AT(0), sealed_of(w[1], 32)));
+    CALL("journal_whole", journal_whole(w));
+    CALL("journal_free", free_file(FILE_AT(0)));
+    return command(e, name, w);
+}
+
 static uint32_t call(macsec_endpoint *e, const char *name, char **w) {
     CALL("free", (macsec_free(e), MACSEC_OK));
     CALL("new", macsec_new(e, sealed_config(w)));
@@ -599,7 +660,7 @@ static uint32_t call(macsec_endpoint *e, const char *name, char **w) {
     CALL("reserve_rx_floor", show_floor(macsec_reserve_rx_floor(e, SCI(0), AN(1), NUMBER(2), ROOM(uint64_t, 7))));
     CALL("journal_header", show_octets(64, macsec_journal_header(sealed_of(w[0], 24), RECORD)));
     CALL("journal_compacted", journal_compacted(w[0]));
-    return command(e, name, w);
+    return file_call(e, name, w);
 }
 
 /* Makes the call of a line, and checks the blocks that it takes and gives back. */
@@ -643,8 +704,11 @@ int main(void) {
         macsec_key_free(&keys[i]);
     for (int i = 0; i < SLOTS; i++)
         macsec_slot_free(&slots[i]);
+    for (int i = 0; i < FILES; i++)
+        macsec_journal_free(&files[i]);
     macsec_free(NULL);
     macsec_key_free(NULL);
     macsec_slot_free(NULL);
+    macsec_journal_free(NULL);
     return fflush(stdout) == 0 && !ferror(stdout) ? 0 : 1;
 }

@@ -28,6 +28,7 @@ import sys
 sys.dont_write_bytecode = True
 import expected
 import journals
+from filed import Filed
 from handles import CALLS, CONSTANTS, ROOT, SUITES, hex_of, without_memory
 from rarely import Rarely
 
@@ -35,22 +36,26 @@ from rarely import Rarely
 # is refused twice its size may get a smaller one.
 ALLOCATING = {"new": "!", "reserve_open": "!", "journal_compacted": "!", "key_take": "!", "slot_new": "!"}
 ALLOCATING |= dict.fromkeys("configure reserve_configure command_line parse_line parse_end answer".split(), "?")
+ALLOCATING["journal_begin"] = "?"
 EVERY = 8
 # The calls that are made seldom, and often fail before they allocate: of these every one is first made so.
-SELDOM = {"reserve_open", "reserve_configure", "journal_compacted", "key_take", "slot_new"}
+SELDOM = {"reserve_open", "reserve_configure", "journal_compacted", "journal_begin", "key_take", "slot_new"}
 # A longer line is not among them: it would take its program too much time.
 MOST_REFUSED = 50_000
 
 # The calls that show a record.
 RECORDS = {"reserve_wanted", "reserve_to_accept", "reserve_to_save"}
-# The calls that the Python package does not make: those with keys and slots, and with commands as structs.
+# The calls that the Python package does not make: those with keys and slots, with commands as structs, and with a
+# journal as a file.
 IN_C_ALONE = {
     "parse_line", "parse_end", "carry_out", "clear_command", "key_take", "key_free", "slot_new", "slot_free",
-    "slot_clear", "plan_send", "seal_job", "plan_receive", "open_job", "finish_receive",
+    "slot_clear", "plan_send", "seal_job", "plan_receive", "open_job", "finish_receive", "journal_created",
+    "journal_begin", "journal_order", "journal_next", "journal_answered", "journal_shown", "journal_record",
+    "journal_let_go", "journal_whole", "journal_free",
 }  # fmt: skip
 
 
-class Calls(Rarely):
+class Calls(Filed, Rarely):
     """Random calls, each made when its turn has come: some depend on what the handles hold."""
 
     PNS = [0, 1, 1, 2, 3, 9, 2**31, 2**32 - 2, 2**32 - 1, 2**32, 2**63, 2**64 - 2, 2**64 - 1]
@@ -237,7 +242,11 @@ class Calls(Rarely):
         handle salt; journal_compacted 5 handle journal; seal 25 sealing; key_take 20 0,0,1,1,2 place NUMBERS; key_free
         4 0 place; slot_new 6 0 place; slot_free 4 0 place; slot_clear 3 0 place; plan_send 60 0,0,0,0,1,2 place
         client_frame; seal_job 80 0 place place 400,400,400,9248,0,23,60; plan_receive 80 1,1,1,1,0,2 place link_frame;
-        open_job 60 0 place place; finish_receive 80 1,1,1,1,0,2 place 9248,9248,9248,9248,9248,9248,9248,9248,9247,0"""
+        open_job 60 0 place place; finish_receive 80 1,1,1,1,0,2 place 9248,9248,9248,9248,9248,9248,9248,9248,9247,0;
+        journal_created 2 0 salt; journal_begin 6 0 0,1 file LIMITS; journal_order 10 0 0,1 orders 0,0,1; journal_next
+        20 0 0,1 16384,16384,8192,8191,0; journal_answered 20 0 0,1 0,1,1,1; journal_shown 6 0 0,1 0,0,1,2; journal_record
+        6 0 0,1 0,0,1,2,18446744073709551615; journal_let_go 3 0 0,1 name; journal_whole 4 0 0,1 16384,16384,64,63,0;
+        journal_free 3 0 0,1"""
     MADE_OF = {name: words for name, *words in map(str.split, GIVEN.split(";"))}
 
     def arguments(self, name):
@@ -394,14 +403,14 @@ class Calls(Rarely):
 
     def all(self, count):
         rarely = self.rarely_written, self.rarely_refused, self.rarely_made, self.rarely_reserved, self.rarely_forgotten
-        rarely += self.rarely_ahead, self.rarely_parsed
+        rarely += self.rarely_ahead, self.rarely_parsed, self.rarely_filed
         waiting = itertools.chain.from_iterable(it() for it in (self.crowded, *rarely))
         names, weights = list(self.MADE_OF), [int(weight) for weight, *_ in self.MADE_OF.values()]
         for _ in range(count):
             made = next(waiting, None)
             if made is None and self.random.random() < 0.025:
                 several = (self.paired, self.paired_by_texts, self.in_jobs, self.kept, self.configured, self.configured)
-                waiting = iter(self.pick((*several, self.received_beside, self.received_beside))())
+                waiting = iter(self.pick((*several, self.received_beside, self.received_beside, self.filed))())
                 made = next(waiting)
             if made is None:
                 name = self.random.choices(names, weights)[0]

@@ -9,6 +9,7 @@ import re
 import struct
 
 import expected
+import files
 import journals
 import tables
 from keeping import Dropped, Endpoint, NoReservation
@@ -24,6 +25,7 @@ FRAME_MIN, FRAME_MAX = CONSTANTS["FRAME_MIN"], CONSTANTS["FRAME_MAX"]
 
 HANDLES = 3
 KEYS = SLOTS = 3
+FILES = 2
 SUITES = {CONSTANTS[it]: name for it, name in tables.SUITE_CONSTANTS.items()}
 FORMS = {CONSTANTS["FORM_" + it.upper()]: it for it in expected.FORMS}
 MODES = {CONSTANTS["MODE_" + it.upper()]: it for it in expected.MODES}
@@ -31,7 +33,9 @@ MODES = {CONSTANTS["MODE_" + it.upper()]: it for it in expected.MODES}
 HANDLE_FREE = (
     "new", "configure", "reserve_open", "reserve_configure", "free", "journal_header", "journal_compacted", "seal",
     "answer", "parse_line", "parse_end", "clear_command", "key_take", "key_free", "slot_new", "slot_free", "slot_clear",
-    "plan_send", "seal_job", "plan_receive", "open_job", "finish_receive",
+    "plan_send", "seal_job", "plan_receive", "open_job", "finish_receive", "journal_created", "journal_begin",
+    "journal_order", "journal_next", "journal_answered", "journal_shown", "journal_record", "journal_let_go",
+    "journal_whole", "journal_free",
 )  # fmt: skip
 # The most octets of a frame that is sealed.
 MOST_SEALED = 2**36 - 32
@@ -221,6 +225,9 @@ UNSHOWN = {
     **dict.fromkeys(("plan_send", "plan_receive"), f" {CONSTANTS['FATE_NONE']} 0 0"),
     **dict.fromkeys(("receive", "finish_receive"), f" {CONSTANTS['VERDICT_NONE']} 0 {'00' * 8} 0 0 0 -"),
     **dict.fromkeys(("reserve_wanted", "reserve_to_accept", "reserve_to_save"), " " + "07" * journals.RECORD),
+    **dict.fromkeys(("journal_shown", "journal_record"), " " + "07" * journals.RECORD),
+    "journal_next": " 7 7 7 -",
+    "journal_whole": " 7 -",
     **dict.fromkeys(("reserve_tx_floor", "reserve_rx_floor", "keys_left"), " 7"),
     "get_options": " 7 7 7 0 0",
     "get_counters": " 7" * len(ALL_COUNTERS),
@@ -248,7 +255,7 @@ class Model:
 
     def __init__(self):
         self.ends = [None] * HANDLES
-        self.keys, self.slots = [None] * KEYS, [None] * SLOTS
+        self.keys, self.slots, self.files = [None] * KEYS, [None] * SLOTS, [None] * FILES
         # Each constant that was given or answered.
         self.met = collections.Counter({"OK": 0})
 
@@ -269,6 +276,8 @@ class Model:
             shown = told[0] if told else shown
         except expected.Refused as it:
             status = "E_" + constant_name(str(it))
+        except files.Refused as it:
+            status = str(it)
         self.met[status] += 1
         return f"{name}{shown} : {CONSTANTS[status]}"
 
@@ -316,6 +325,49 @@ class Model:
         status_if(not journals.is_journal(journal), "E_NOT_JOURNAL", f" 7 {hex_of(bytes([7]) * len(journal))}")
         shorter = journals.compacted(journal)
         return f" {len(shorter)} {hex_of(shorter + bytes([7]) * (len(journal) - len(shorter)))}"
+
+    # A journal as a file.
+
+    def file_of(self, place):
+        status_if(self.files[place] is None, "E_EMPTY")
+        return self.files[place]
+
+    def call_journal_created(self, handle, salt):
+        return f" {files.file_of(salt, {}).hex()}"
+
+    def call_journal_begin(self, handle, place, octets, limit):
+        status_if(self.files[place] is not None, "E_TAKEN")
+        self.files[place] = files.File(octets, limit)
+
+    def call_journal_order(self, handle, place, octets, anew):
+        self.file_of(place).order(octets, anew != 0)
+
+    def call_journal_next(self, handle, place, room):
+        it = self.file_of(place)
+        status_if(room < len(it.written()), "E_SPACE")
+        self.met["STEP_" + it.step] += 1
+        at = it.at if it.step == "APPENDING" else 0
+        return f" {CONSTANTS['STEP_' + it.step]} {at} {it.at} {hex_of(it.written())}"
+
+    def call_journal_answered(self, handle, place, good):
+        self.file_of(place).answer(good != 0)
+
+    def call_journal_shown(self, handle, place, index):
+        return f" {shown_record(dict(enumerate(self.file_of(place).shown)).get(index))[0]}"
+
+    def call_journal_record(self, handle, place, index):
+        return f" {shown_record(dict(enumerate(self.file_of(place).table.items())).get(index))[0]}"
+
+    def call_journal_let_go(self, handle, place, name):
+        self.file_of(place).let_go(name)
+
+    def call_journal_whole(self, handle, place, room):
+        octets = self.file_of(place).for_endpoint()
+        status_if(room < len(octets), "E_SPACE")
+        return f" {len(octets)} {octets.hex()}"
+
+    def call_journal_free(self, handle, place):
+        self.files[place] = None
 
     # Frames.
 

@@ -40,10 +40,10 @@
  * MEMORY     macsec_new allocates 14 blocks by malloc, 19.1 MB in all: four for 4,096 keys, two for a frame, eight for
  *            the rest. macsec_free frees them. macsec_configure allocates the same, and so do macsec_reserve_open and
  *            macsec_reserve_configure, with one more for a journal that has records. macsec_key_take allocates one
- *            block, and macsec_slot_new three. macsec_configure, macsec_reserve_configure, macsec_command_line,
- *            macsec_parse_line, macsec_parse_end and macsec_answer also allocate while they read their text,
- *            macsec_answer while it composes counters and packet numbers, and macsec_journal_compacted while it works,
- *            and free that before they return. No other call allocates, so no other call runs out of memory. malloc
+ *            block, macsec_slot_new three, and macsec_journal_begin five. macsec_configure, macsec_reserve_configure,
+ *            macsec_command_line, macsec_parse_line, macsec_parse_end and macsec_answer also allocate while they read
+ *            their text, macsec_answer while it composes counters and packet numbers, and macsec_journal_compacted and
+ *            macsec_journal_begin while they work, and free that before they return. No other call allocates, so no other call runs out of memory. malloc
  *            must align a block to each power of two up to 16 that divides its size, as all C libraries do. It must
  *            return: no exception may be thrown through the library, which has no unwinding tables. The library
  *            overwrites a block before it frees it. For blocks of 1 MB or more it asks the kernel for new pages
@@ -175,7 +175,10 @@ enum {
     MACSEC_E_JOB = 56,                /* the slot has no such job, or it has a frame already */
     MACSEC_E_OTHER_KEY = 57,          /* the key is not the one that the job needs */
     MACSEC_E_SPACE = 58,              /* the buffer is too small for the frame */
-    MACSEC_E_NO_SUCH_COMMAND = 59     /* a macsec_command means nothing: its kind, flag or key is wrong */
+    MACSEC_E_NO_SUCH_COMMAND = 59,    /* a macsec_command means nothing: its kind, flag or key is wrong */
+    MACSEC_E_JOURNAL_DAMAGED = 60,    /* the count of the journal is damaged, or does not agree with its entries */
+    MACSEC_E_JOURNAL_FULL = 61,       /* the entries of the journal would not fit into a file of its limit */
+    MACSEC_E_JOURNAL_BUSY = 62        /* an order to the journal is under way */
     /* end */
 };
 
@@ -443,6 +446,21 @@ typedef struct macsec_rx_sa {
 typedef struct macsec_record {
     uint8_t octets[MACSEC_RECORD_LENGTH];
 } macsec_record;
+
+/* A journal as a file, or none: what macsec_journal_begin has read of it, and which system call is next. */
+typedef struct macsec_journal {
+    void *at;
+} macsec_journal;
+#define MACSEC_JOURNAL_INIT { 0 }
+
+/* The system call that is next. */
+typedef struct macsec_journal_call {
+    uint64_t at;   /* where the octets are written, of MACSEC_STEP_APPENDING; else 0 */
+    uint64_t end;  /* how many octets the file has at least, of MACSEC_STEP_LOOKING_AFTER */
+    size_t length; /* how many octets are written, of MACSEC_STEP_APPENDING and _FILLING; else 0 */
+    uint32_t step; /* MACSEC_STEP_.. */
+    uint64_t reserved[4];
+} macsec_journal_call;
 
 /* ---- Creation and end ---- */
 
@@ -826,6 +844,111 @@ uint32_t macsec_reserve_rx_floor(const macsec_endpoint *e, const uint8_t sci[8],
  * has changed. */
 uint32_t macsec_reserve_granted(macsec_endpoint *e, const macsec_record *record);
 
+/* ---- A journal as a file ----
+ *
+ * These calls keep the file of a journal, in place of steps 1 and 5 to 7. They open no file and make no system call: a
+ * handle says which one is next, and is given its answer. Its caller makes the call, and says truly whether it
+ * succeeded. Then each record that macsec_journal_shown shows is on the disk, where a later run will read it, whatever
+ * fails and whenever the process or the system stops; crates/macsec_journal says what is proved, and of which disks.
+ *
+ *     macsec_journal j = MACSEC_JOURNAL_INIT; // octets: all of the locked file; buffer: of `limit` octets
+ *     macsec_journal_begin(&j, octets, length, limit);
+ *     macsec_journal_whole(&j, buffer, limit, &length); // for macsec_reserve_open
+ *
+ *     macsec_journal_call call;
+ *     macsec_journal_order(&j, records, count, false);
+ *     while (macsec_journal_next(&j, buffer, limit, &call) == MACSEC_OK && call.step != MACSEC_STEP_RESTING)
+ *         macsec_journal_answered(&j, carried_out(&call, buffer)); // the system call of this step
+ *     for (size_t i = 0; macsec_journal_shown(&j, i, &record) == MACSEC_OK; i++)
+ *         macsec_reserve_granted(&e, &record);
+ *
+ * A file begins with a header and a count of its entries, with a digest of them. Records are appended twice, in sectors
+ * of 4,096 octets of their own. So a file with one damaged sector is refused, or says all that it said before. The
+ * first order, and each after a failure, replaces the file by a new one with all that was read or ordered. A file with
+ * a header of macsec_journal_header is read too, and then replaced by one of the new form. Names are compared one with
+ * another: macsec_journal_begin makes n * n comparisons for n names, and an order of k records 2 * k * n. */
+
+/* The system call that is next. */
+enum {
+    MACSEC_STEP_RESTING = 0,        /* none: there is no order */
+    MACSEC_STEP_APPENDING = 1,      /* pwrite of the octets to the file, at `at`: succeeded once all are written */
+    MACSEC_STEP_SYNCING = 2,        /* fdatasync of the file */
+    MACSEC_STEP_LOOKING_AFTER = 3,  /* fstatat: the name leads to this file, and it has at least `end` octets */
+    MACSEC_STEP_LOOKING_BEFORE = 4, /* fstatat: the name leads to the file that the process has */
+    MACSEC_STEP_REMOVING = 5,       /* unlinkat of a new file that was left; succeeded too if there is none */
+    MACSEC_STEP_CREATING = 6,       /* openat of a new file beside it, with O_CREAT, O_EXCL and O_NOFOLLOW */
+    MACSEC_STEP_LOCKING = 7,        /* flock of the new file */
+    MACSEC_STEP_FILLING = 8,        /* pwrite of the octets to it, at 0: succeeded once all are written */
+    MACSEC_STEP_SYNCING_NEW = 9,    /* fsync of it */
+    MACSEC_STEP_RENAMING = 10,      /* renameat: it gets the journal's name, and is the journal from then on */
+    MACSEC_STEP_SYNCING_FOLDER = 11 /* fsync of the folder */
+};
+
+/* The octets of a new file with a salt of 24 random octets. Returns MACSEC_OK. */
+uint32_t macsec_journal_created(const uint8_t salt[24], uint8_t out[128]);
+
+uint32_t macsec_journal_begin_raw(macsec_journal *j, const uint8_t *octets, size_t length, uint32_t limit);
+/* Begins, in a handle that holds no journal, with all octets of a file that may have `limit` octets. It allocates all
+ * that later calls need: five blocks, of less than three times the limit. MACSEC_E_TAKEN; MACSEC_E_NOT_JOURNAL, and
+ * MACSEC_E_JOURNAL_DAMAGED: install new keys at both ends, and create another journal; MACSEC_E_JOURNAL_FULL: the
+ * entries do not fit into a file of the limit, which has 128 octets and 64 for each of its entries and one more;
+ * MACSEC_E_MEMORY. */
+static inline uint32_t macsec_journal_begin(macsec_journal *j, const uint8_t *octets, size_t length, uint32_t limit) {
+    return macsec_journal_begin_raw(j, macsec_octets(octets, length), length, limit);
+}
+
+uint32_t macsec_journal_order_raw(macsec_journal *j, const uint8_t *records, size_t length, bool anew);
+/* Orders that records be made durable. With `anew`, if the file is in doubt, or if they do not fit after its end, the
+ * file is replaced, also without records. The first that applies, and then nothing has changed:
+ * MACSEC_E_JOURNAL_BUSY (the step is not MACSEC_STEP_RESTING), MACSEC_E_JOURNAL_FULL (more than limit / 64 records),
+ * MACSEC_E_NOT_RECORD, MACSEC_E_JOURNAL_FULL (with an entry for each record they would not fit). */
+static inline uint32_t macsec_journal_order(macsec_journal *j, const macsec_record *records, size_t count, bool anew) {
+    const size_t length = MACSEC_RECORD_LENGTH * count;
+    return macsec_journal_order_raw(j, macsec_octets((const uint8_t *)records, length), length, anew);
+}
+
+uint32_t macsec_journal_next_raw(macsec_journal *j, uint8_t *out, size_t length, macsec_journal_call *call);
+/* Shows the system call that is next. What it writes is at the start of `out`, which has `room` octets: as many as the
+ * limit are enough. MACSEC_E_SPACE. */
+static inline uint32_t macsec_journal_next(macsec_journal *j, uint8_t *out, size_t room, macsec_journal_call *call) {
+    uint8_t none;
+    return macsec_journal_next_raw(j, room == 0 ? &none : out, room, call);
+}
+
+/* Did the system call succeed? If it did not, there is no order any more, and the file is in doubt: the next order
+ * replaces it by one with all that was read and ordered. Without an order, `false` says only that it is in doubt. */
+uint32_t macsec_journal_answered(macsec_journal *j, bool ok);
+
+/* The record at this index, from 0, of those that the last answer showed to be durable: those of an order that were
+ * appended, or all entries of a file that was replaced. They are shown until the next order, answer, or call of
+ * macsec_journal_let_go. MACSEC_E_NOT_FOUND after the last one. */
+uint32_t macsec_journal_shown(macsec_journal *j, size_t place, macsec_record *out);
+
+/* The entry at this index, from 0: the highest record of a name that was read or ordered. A new name is the last one.
+ * MACSEC_E_NOT_FOUND after the last one. */
+uint32_t macsec_journal_record(macsec_journal *j, size_t place, macsec_record *out);
+
+/* Lets a name go, the first 32 octets of its records: the next file that replaces the journal has no record of it.
+ * Let a name go only if no later endpoint will have its key: else it begins below numbers that were used.
+ * MACSEC_E_JOURNAL_BUSY as for macsec_journal_order. */
+uint32_t macsec_journal_let_go(macsec_journal *j, const uint8_t name[32]);
+
+uint32_t macsec_journal_whole_raw(macsec_journal *j, uint8_t *out, size_t length, size_t *written);
+/* Writes what an endpoint is made with (macsec_reserve_open): a header, and the records of all entries in their order,
+ * of 64 octets each. `length` is the number of these octets, and `out` has `room`: as many as the limit are enough.
+ * MACSEC_E_SPACE. */
+static inline uint32_t macsec_journal_whole(macsec_journal *j, uint8_t *out, size_t room, size_t *length) {
+    uint8_t none;
+    return macsec_journal_whole_raw(j, room == 0 ? &none : out, room, length);
+}
+
+/* Frees the journal of a handle, which holds none then. */
+void macsec_journal_free_raw(macsec_journal *j);
+static inline void macsec_journal_free(macsec_journal *j) {
+    if (j != NULL)
+        macsec_journal_free_raw(j);
+}
+
 /* ---- Frames for tests ---- */
 
 uint32_t macsec_seal_raw(const macsec_sak *key, const uint8_t sci[8], uint64_t pn, bool conf, size_t head,
@@ -905,6 +1028,9 @@ static inline const char *macsec_status_name(uint32_t status) {
         case MACSEC_E_OTHER_KEY: return "OtherKey";
         case MACSEC_E_SPACE: return "Space";
         case MACSEC_E_NO_SUCH_COMMAND: return "NoSuchCommand";
+        case MACSEC_E_JOURNAL_DAMAGED: return "JournalDamaged";
+        case MACSEC_E_JOURNAL_FULL: return "JournalFull";
+        case MACSEC_E_JOURNAL_BUSY: return "JournalBusy";
         /* end */
         default: return "unknown";
     }

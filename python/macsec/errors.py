@@ -56,6 +56,9 @@ MEANINGS = {
     Status.OtherKey: "the key is not the one that the job needs",
     Status.Space: "the buffer is too small for the frame",
     Status.NoSuchCommand: "the number names no kind of command",
+    Status.JournalDamaged: "the count of the journal is damaged, or does not agree with its entries",
+    Status.JournalFull: "the entries of the journal would not fit into a file of its limit",
+    Status.JournalBusy: "an order to the journal is under way",
     # end
 }
 

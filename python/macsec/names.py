@@ -77,6 +77,9 @@ class Status(_Number):
     OtherKey = 57
     Space = 58
     NoSuchCommand = 59
+    JournalDamaged = 60
+    JournalFull = 61
+    JournalBusy = 62
     # end
 
 

@@ -36,6 +36,8 @@ mod configuring;
 mod creating;
 mod endpoint;
 mod jobs;
+mod journal;
+mod journals;
 mod key;
 pub mod laws;
 mod loose;
