@@ -611,6 +611,7 @@ static uint32_t file_call(macsec_endpoint *e, const char *name, char **w) {
     CALL("journal_shown", show_octets(64, macsec_journal_shown(FILE_AT(0), (size_t)number(w[1]), RECORD)));
     CALL("journal_record", show_octets(64, macsec_journal_record(FILE_AT(0), (size_t)number(w[1]), RECORD)));
     CALL("journal_let_go", macsec_journal_let_go(FILE_AT(0), sealed_of(w[1], 32)));
+    CALL("journal_noted", show_octets(64, macsec_journal_noted(sealed_of(w[0], 32), number(w[1]), RECORD)));
     CALL("journal_whole", journal_whole(w));
     CALL("journal_free", free_file(FILE_AT(0)));
     return command(e, name, w);

@@ -45,13 +45,10 @@ MOST_REFUSED = 50_000
 
 # The calls that show a record.
 RECORDS = {"reserve_wanted", "reserve_to_accept", "reserve_to_save"}
-# The calls that the Python package does not make: those with keys and slots, with commands as structs, and with a
-# journal as a file.
+# The calls that the Python package does not make: those with keys and slots, and with commands as structs.
 IN_C_ALONE = {
     "parse_line", "parse_end", "carry_out", "clear_command", "key_take", "key_free", "slot_new", "slot_free",
-    "slot_clear", "plan_send", "seal_job", "plan_receive", "open_job", "finish_receive", "journal_created",
-    "journal_begin", "journal_order", "journal_next", "journal_answered", "journal_shown", "journal_record",
-    "journal_let_go", "journal_whole", "journal_free",
+    "slot_clear", "plan_send", "seal_job", "plan_receive", "open_job", "finish_receive",
 }  # fmt: skip
 
 
@@ -246,7 +243,7 @@ class Calls(Filed, Rarely):
         journal_created 2 0 salt; journal_begin 6 0 0,1 file LIMITS; journal_order 10 0 0,1 orders 0,0,1; journal_next
         20 0 0,1 16384,16384,8192,8191,0; journal_answered 20 0 0,1 0,1,1,1; journal_shown 6 0 0,1 0,0,1,2; journal_record
         6 0 0,1 0,0,1,2,18446744073709551615; journal_let_go 3 0 0,1 name; journal_whole 4 0 0,1 16384,16384,64,63,0;
-        journal_free 3 0 0,1"""
+        journal_noted 2 0 name PNS; journal_free 3 0 0,1"""
     MADE_OF = {name: words for name, *words in map(str.split, GIVEN.split(";"))}
 
     def arguments(self, name):

@@ -35,7 +35,7 @@ HANDLE_FREE = (
     "answer", "parse_line", "parse_end", "clear_command", "key_take", "key_free", "slot_new", "slot_free", "slot_clear",
     "plan_send", "seal_job", "plan_receive", "open_job", "finish_receive", "journal_created", "journal_begin",
     "journal_order", "journal_next", "journal_answered", "journal_shown", "journal_record", "journal_let_go",
-    "journal_whole", "journal_free",
+    "journal_noted", "journal_whole", "journal_free",
 )  # fmt: skip
 # The most octets of a frame that is sealed.
 MOST_SEALED = 2**36 - 32
@@ -360,6 +360,9 @@ class Model:
 
     def call_journal_let_go(self, handle, place, name):
         self.file_of(place).let_go(name)
+
+    def call_journal_noted(self, handle, name, number):
+        return f" {journals.record((name, number)).hex()}"
 
     def call_journal_whole(self, handle, place, room):
         octets = self.file_of(place).for_endpoint()

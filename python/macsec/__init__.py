@@ -23,12 +23,14 @@
 """
 
 from .errors import CaptureError, FrameFault, JournalFault, MacsecError, NotFound, Refused, TextFault, UsageError
+from .journal import Journal, Step, journal_created, journal_noted
 from .names import Fate, Form, Mode, Status, Suite, Verdict
 from .sealing import seal
 from .secy import Options, Received, RxSa, SecY, Sent, TxSa, journal_compacted, journal_header, version
 
 __all__ = [
-    "CaptureError", "Fate", "Form", "FrameFault", "JournalFault", "MacsecError", "Mode", "NotFound", "Options",
-    "Received", "Refused", "RxSa", "SecY", "Sent", "Status", "Suite", "TextFault", "TxSa", "UsageError", "Verdict",
-    "journal_compacted", "journal_header", "seal", "version",
+    "CaptureError", "Fate", "Form", "FrameFault", "Journal", "JournalFault", "MacsecError", "Mode", "NotFound",
+    "Options", "Received", "Refused", "RxSa", "SecY", "Sent", "Status", "Step", "Suite", "TextFault", "TxSa",
+    "UsageError", "Verdict", "journal_compacted", "journal_created", "journal_header", "journal_noted", "seal",
+    "version",
 ]  # fmt: skip

@@ -103,11 +103,21 @@ class Record(ctypes.Structure):
     _fields_ = [("octets", c_uint8 * 64)]
 
 
+class Journal(ctypes.Structure):
+    _fields_ = [("at", c_void_p)]
+
+
+class JournalCall(ctypes.Structure):
+    _fields_ = [
+        ("at", c_uint64), ("end", c_uint64), ("length", c_size_t), ("step", c_uint32), ("reserved", c_uint64 * 4),
+    ]  # fmt: skip
+
+
 # The structures by their names in the header without macsec_.
 STRUCTURES = {
     "endpoint": Endpoint, "config": Config, "sak": Sak, "command": Command, "sent": Sent, "received": Received,
     "options": Options, "counters": Counters, "tx_counters": TxCounters, "rx_counters": RxCounters, "tx_sa": TxSa,
-    "rx_sa": RxSa, "record": Record,
+    "rx_sa": RxSa, "record": Record, "journal": Journal, "journal_call": JournalCall,
 }  # fmt: skip
 
 # The arguments of each call after the handle. An SCI and a frame are octets that the call only reads.
@@ -157,12 +167,23 @@ CALLS = {
     "reserve_rx_floor": (_SCI, c_uint8, c_uint16, _TO_FILL),
     "answer_raw": (c_uint32, c_char_p, c_size_t, _TO_FILL, c_size_t, _TO_FILL),
 }
-# The calls without a handle.
+# The calls without an endpoint; the first argument of most with a journal is its handle.
 FREE_CALLS = {
     "parse_line_raw": (c_char_p, c_size_t, _TO_FILL),
     "parse_end_raw": (c_char_p, c_size_t, _TO_FILL),
     "journal_header": (c_char_p, _TO_FILL),
     "journal_compacted_raw": (c_char_p, c_size_t, _TO_FILL, c_size_t, _TO_FILL),
+    "journal_created": (c_char_p, _TO_FILL),
+    "journal_begin_raw": (_TO_FILL, c_char_p, c_size_t, c_uint32),
+    "journal_order_raw": (_TO_FILL, c_char_p, c_size_t, c_bool),
+    "journal_next_raw": (_TO_FILL, _TO_FILL, c_size_t, _TO_FILL),
+    "journal_answered": (_TO_FILL, c_bool),
+    "journal_shown": (_TO_FILL, c_size_t, _TO_FILL),
+    "journal_record": (_TO_FILL, c_size_t, _TO_FILL),
+    "journal_let_go": (_TO_FILL, c_char_p),
+    "journal_noted": (c_char_p, c_uint64, _TO_FILL),
+    "journal_whole_raw": (_TO_FILL, _TO_FILL, c_size_t, _TO_FILL),
+    "journal_free_raw": (_TO_FILL,),
     "seal_raw": (_TO_FILL, _SCI, c_uint64, c_bool, c_size_t, _TO_FILL, c_size_t),
 }
 
@@ -190,7 +211,7 @@ def load() -> ctypes.CDLL:
         if call is None:
             raise ImportError(f"{path()} has no macsec_{name}: it is older than this package")
         call.argtypes = list(arguments)
-        call.restype = None if name == "free_raw" else c_uint32
+        call.restype = None if name.endswith("free_raw") else c_uint32
     return library
 
 

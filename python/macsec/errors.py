@@ -84,7 +84,8 @@ class TextFault(MacsecError):
 
 
 class JournalFault(MacsecError):
-    """Octets are not a journal, or not a record of one (statuses 53 and 54)."""
+    """Octets are not a journal, or not a record of one, or a journal is damaged, full or busy (statuses 53, 54, 60 to
+    62)."""
 
 
 class FrameFault(MacsecError):
@@ -126,6 +127,6 @@ def error(status: int, line: int | None = None) -> MacsecError:
         return FrameFault(status, line)
     if Status.Word <= status <= Status.ScriptLong:
         return TextFault(status, line)
-    if status in (Status.NotJournal, Status.NotRecord):
+    if status in (Status.NotJournal, Status.NotRecord) or Status.JournalDamaged <= status <= Status.JournalBusy:
         return JournalFault(status, line or None)
     return (NotFound if status == Status.NotFound else MacsecError)(status, line)

@@ -9,7 +9,16 @@ import pathlib
 import sys
 from typing import Callable
 
-from macsec import MacsecError, SecY, journal_compacted, journal_header, sealing
+from macsec import (
+    Journal,
+    MacsecError,
+    SecY,
+    journal_compacted,
+    journal_created,
+    journal_header,
+    journal_noted,
+    sealing,
+)
 from macsec.errors import error
 from macsec.names import ENDPOINT_COUNTERS, RX_COUNTERS, TX_COUNTERS
 from macsec.secy import sak_of
@@ -20,7 +29,8 @@ from handles import UNSHOWN  # noqa: E402
 sys.path.pop(0)
 
 handles: list[SecY | None] = [None] * 4
-EMPTY, TAKEN, NOT_FOUND, MEMORY, ANSWER_LONG = 32, 33, 40, 41, 55
+files: list[Journal | None] = [None] * 2
+EMPTY, TAKEN, NOT_FOUND, MEMORY, ANSWER_LONG, SPACE = 32, 33, 40, 41, 55, 58
 
 
 def octets(word: str) -> bytes:
@@ -151,6 +161,8 @@ FREE_CALLS: dict[str, Callable[..., tuple[str, int]]] = {
     "seal": seal,
     "journal_header": lambda salt: (f" {journal_header(octets(salt)).hex()}", 0),
     "journal_compacted": compacted,
+    "journal_noted": lambda name, number: (f" {journal_noted(octets(name), int(number)).hex()}", 0),
+    "journal_created": lambda salt: (f" {journal_created(octets(salt)).hex()}", 0),
 }
 MAKES = ("new", "configure", "reserve_open", "reserve_configure")
 
@@ -189,7 +201,69 @@ def creation(name: str, handle: int, words: list[str]) -> tuple[str, int]:
     return line, 0
 
 
+def shown_at(records: list[bytes], index: str) -> str:
+    return shown_record(dict(enumerate(records)).get(int(index)))
+
+
+def next_call(it: Journal, room: str) -> str:
+    found = it.next()
+    if int(room) < len(found.octets):
+        raise error(SPACE)
+    return f" {int(found.step)} {found.at} {found.end} {hex_of(found.octets)}"
+
+
+def whole(it: Journal, room: str) -> str:
+    found = it.whole()
+    if int(room) < len(found):
+        raise error(SPACE)
+    return f" {len(found)} {found.hex()}"
+
+
+def order(it: Journal, records: str, anew: str) -> None:
+    """Octets that are not so many whole records go to the library as they are."""
+    given = octets(records)
+    if len(given) % 64 == 0:
+        it.order([given[at : at + 64] for at in range(0, len(given), 64)], anew != "0")
+    else:
+        it._checked(it._library.macsec_journal_order_raw(it._handle, given, len(given), anew != "0"))
+
+
+# The calls with a journal as a file.
+FILE_CALLS: dict[str, Callable[..., str | None]] = {
+    "journal_order": order,
+    "journal_next": next_call,
+    "journal_answered": lambda it, good: it.answered(good != "0"),
+    "journal_shown": lambda it, index: shown_at(it.shown(), index),
+    "journal_record": lambda it, index: shown_at(it.records(), index),
+    "journal_let_go": lambda it, name: it.let_go(octets(name)),
+    "journal_whole": whole,
+}
+
+
+def of_file(name: str, place: int, words: list[str]) -> tuple[str, int]:
+    """The answer of a call with a journal as a file."""
+    it = files[place]
+    if name == "journal_free":
+        if it is not None:
+            it.close()
+        files[place] = None
+        return "", 0
+    if name == "journal_begin" and it is not None:
+        return "", TAKEN
+    if name != "journal_begin" and it is None:
+        return UNSHOWN.get(name, ""), EMPTY
+    try:
+        if name == "journal_begin":
+            files[place] = Journal(octets(words[0]), int(words[1]))
+            return "", 0
+        return FILE_CALLS[name](it, *words) or "", 0
+    except MacsecError as why:
+        return UNSHOWN.get(name, ""), why.number
+
+
 def answer(name: str, handle: int, words: list[str]) -> tuple[str, int]:
+    if name in (*FILE_CALLS, "journal_begin", "journal_free"):
+        return of_file(name, int(words[0]), words[1:])
     if name in (*MAKES, "free"):
         return creation(name, handle, words)
     if name in FREE_CALLS:

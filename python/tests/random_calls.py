@@ -5,7 +5,7 @@ from __future__ import annotations
 
 import sys
 
-from .answers import CALLS, FREE_CALLS, MAKES
+from .answers import CALLS, FILE_CALLS, FREE_CALLS, MAKES
 from .helpers import ROOT
 
 sys.path.insert(0, str(ROOT / "fuzz"))
@@ -13,7 +13,7 @@ import calls  # noqa: E402
 
 sys.path.remove(str(ROOT / "fuzz"))
 
-HAS = {*CALLS, *FREE_CALLS, *MAKES, "free", "answer"}
+HAS = {*CALLS, *FILE_CALLS, *FREE_CALLS, *MAKES, "free", "answer", "journal_begin", "journal_free"}
 
 
 def main(count: int, seed: str) -> None:

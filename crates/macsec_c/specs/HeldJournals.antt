@@ -1,6 +1,7 @@
 -- The calls with the handle of a journal. An empty handle is refused first.
 use Rattle.std.specs.Prelude.{◌≡◌, ℕ, List, Bool, slice_get, Option, Some, None, Ok, Err}
 use Rattle.macsec_reserve.specs.declared.reservation.Reservation.{Reservation}
+use Rattle.macsec_reserve.specs.Journal.{record_of}
 use Rattle.macsec_journal.specs.declared.writer.BeginFault.{BeginFault}
 use Rattle.macsec_journal.specs.Machine.{Journal, answered, shown}
 use Rattle.macsec_c_calls.specs.declared.journals.JournalCall.{JournalCall}
@@ -42,3 +43,7 @@ durable_at place j = slice_get (shown j) place
 
 abbrev pub entry_at : ℕ → Journal → Option Reservation
 entry_at place j = slice_get j.table place
+
+-- the octets of the record with this name and number
+abbrev pub record_with : List ℕ → ℕ → List ℕ
+record_with name last = record_of (record { name = name; last = last })

@@ -7,7 +7,7 @@ ghost use Rattle.macsec_journal.specs.Machine.{for_endpoint};
 ghost use Rattle.macsec_c_calls.specs.Journals.{let_go, ordered};
 ghost use Rattle.macsec_c_calls.specs.Statuses.{done_status};
 ghost use Rattle.macsec_c.specs.Found.{found, status_of_found};
-ghost use Rattle.macsec_c.specs.HeldJournals.{BeginsHeld, answered_held, called_held, changed, durable_at, entry_at, filled_held};
+ghost use Rattle.macsec_c.specs.HeldJournals.{BeginsHeld, answered_held, called_held, changed, durable_at, entry_at, filled_held, record_with};
 
 use crate::journal::Journal;
 use crate::loose::Loose;
@@ -16,6 +16,7 @@ use macsec_c_calls::{
     show_call, show_durable, show_entry, status_of_begin_fault, write_for_endpoint,
 };
 use macsec_journal::created;
+use macsec_reserve::Reservation;
 use std::alloc::Global;
 
 /// Begins with all octets of a file, which may have `limit` octets, in a handle without a journal. `macsec_journal_begin` of the
@@ -145,6 +146,20 @@ pub extern "C" fn macsec_journal_created(salt: &[u8; 24], out: &mut [u8; 128]) -
     ensures shown { out.new ≡ file_of salt.now [] }
 {
     *out = created(salt);
+    DONE
+}
+
+/// Shows the record of this name and number.
+#[unsafe(no_mangle)]
+pub extern "C" fn macsec_journal_noted(name: &[u8; 32], number: u64, out: &mut Record) -> u32
+    ensures status { result ≡ done_status }
+    ensures shown { out.new.octets ≡ record_with name.now number }
+{
+    let noted = Reservation {
+        name: *name,
+        last: number,
+    };
+    out.octets = noted.to_octets();
     DONE
 }
 

@@ -1,6 +1,6 @@
 -- The calls with a journal that is a file, over its machine.
 use Rattle.std.specs.Prelude.{◌≡◌, ℕ, ◌/◌, ◌%◌, nat_eq, nat_lt, List, [], ◌++◌, drop, length, replicate, Bool, true, false, not, ◌&&◌, if◌then◌else◌, Result, Ok, Err}
-use Rattle.macsec_commands.specs.declared.fault.NewFault.TheVariants as new
+use Rattle.macsec_commands.specs.declared.fault.NewFault.TheVariants as fault
 use Rattle.macsec_reserve.specs.Entries.{reduced}
 use Rattle.macsec_reserve.specs.Journal.{record_length, reservations}
 use Rattle.macsec_journal.specs.declared.step.Step.{Step}
@@ -34,7 +34,7 @@ abbrev pub status_of_begin_fault : BeginFault → ℕ
 status_of_begin_fault NotJournal = not_journal_status
 status_of_begin_fault Damaged = journal_damaged_status
 status_of_begin_fault TooLong = journal_full_status
-status_of_begin_fault Memory = status_of_new_fault new.Memory
+status_of_begin_fault Memory = status_of_new_fault fault.Memory
 
 -- do the entries of these octets fit into a file of this limit?
 abbrev pub can_have : ℕ → List ℕ → Bool
