@@ -45,10 +45,11 @@ MOST_REFUSED = 50_000
 
 # The calls that show a record.
 RECORDS = {"reserve_wanted", "reserve_to_accept", "reserve_to_save"}
-# The calls that the Python package does not make: those with keys and slots, and with commands as structs.
+# The calls that the Python package does not make: those with keys and slots, with commands as structs, and for numbers
+# of a program's own in a journal.
 IN_C_ALONE = {
     "parse_line", "parse_end", "carry_out", "clear_command", "key_take", "key_free", "slot_new", "slot_free",
-    "slot_clear", "plan_send", "seal_job", "plan_receive", "open_job", "finish_receive",
+    "slot_clear", "plan_send", "seal_job", "plan_receive", "open_job", "finish_receive", "journal_noted",
 }  # fmt: skip
 
 
@@ -241,9 +242,9 @@ class Calls(Filed, Rarely):
         client_frame; seal_job 80 0 place place 400,400,400,9248,0,23,60; plan_receive 80 1,1,1,1,0,2 place link_frame;
         open_job 60 0 place place; finish_receive 80 1,1,1,1,0,2 place 9248,9248,9248,9248,9248,9248,9248,9248,9247,0;
         journal_created 2 0 salt; journal_begin 6 0 0,1 file LIMITS; journal_order 10 0 0,1 orders 0,0,1; journal_next
-        20 0 0,1 16384,16384,8192,8191,0; journal_answered 20 0 0,1 0,1,1,1; journal_shown 6 0 0,1 0,0,1,2; journal_record
-        6 0 0,1 0,0,1,2,18446744073709551615; journal_let_go 3 0 0,1 name; journal_whole 4 0 0,1 16384,16384,64,63,0;
-        journal_noted 2 0 name PNS; journal_free 3 0 0,1"""
+        20 0 0,1 16384,16384,8192,8191,0; journal_answered 20 0 0,1 0,1,1,1; journal_shown 6 0 0,1 0,0,1,2;
+        journal_record 6 0 0,1 0,0,1,2,18446744073709551615; journal_let_go 3 0 0,1 name; journal_whole 4 0 0,1
+        16384,16384,64,63,0; journal_noted 2 0 name PNS; journal_free 3 0 0,1"""
     MADE_OF = {name: words for name, *words in map(str.split, GIVEN.split(";"))}
 
     def arguments(self, name):

@@ -1,5 +1,6 @@
-"""Random calls with a journal as a file, on a disk that fails, tears writes, and loses what was not synchronized. Whatever
-happens, a later process begins with the file, and reads all that was shown to be durable. calls.py makes the calls."""
+"""Random calls with a journal as a file, on a disk that fails, tears writes, and loses what was not synchronized.
+Whatever happens, a later process begins with the file, and reads all that was shown to be durable. calls.py makes the
+calls."""
 
 from __future__ import annotations
 

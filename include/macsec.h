@@ -43,15 +43,15 @@
  *            block, macsec_slot_new three, and macsec_journal_begin five. macsec_configure, macsec_reserve_configure,
  *            macsec_command_line, macsec_parse_line, macsec_parse_end and macsec_answer also allocate while they read
  *            their text, macsec_answer while it composes counters and packet numbers, and macsec_journal_compacted and
- *            macsec_journal_begin while they work, and free that before they return. No other call allocates, so no other call runs out of memory. malloc
- *            must align a block to each power of two up to 16 that divides its size, as all C libraries do. It must
- *            return: no exception may be thrown through the library, which has no unwinding tables. The library
- *            overwrites a block before it frees it. For blocks of 1 MB or more it asks the kernel for new pages
- *            (madvise), and overwrites them if the kernel refuses. The calls that take a key, a text or an association
- *            overwrite the stack that they used. An endpoint overwrites a key when it retires it (macsec_retire_key). A
- *            macsec_key, and a slot with a job, keep the octets of their key also after that. Registers, swap, core
- *            dumps and the caller's own copies are not covered. Give each call 96 KB of stack: the calls that create an
- *            endpoint took 66 KB on x86-64, the others 33 KB or less (measured, not proved).
+ *            macsec_journal_begin while they work, and free that before they return. No other call allocates, so no
+ *            other call runs out of memory. malloc must align a block to each power of two up to 16 that divides its
+ *            size, as all C libraries do. It must return: no exception may be thrown through the library, which has no
+ *            unwinding tables. The library overwrites a block before it frees it. For blocks of 1 MB or more it asks
+ *            the kernel for new pages (madvise), and overwrites them if the kernel refuses. The calls that take a key,
+ *            a text or an association overwrite the stack that they used. An endpoint overwrites a key when it retires
+ *            it (macsec_retire_key). A macsec_key, and a slot with a job, keep the octets of their key also after that.
+ *            Registers, swap, core dumps and the caller's own copies are not covered. Give each call 96 KB of stack:
+ *            the calls that create an endpoint took 66 KB on x86-64, the others 33 KB or less (measured, not proved).
  * PROCESSOR  An x86-64 processor with SSSE3 (every x86-64-v2 has it). The library does not test for it: on another one
  *            the process ends with SIGILL.
  * HANDLES    A handle is the caller's memory, initialized with MACSEC_ENDPOINT_INIT (all zero). Do not copy, move or
@@ -174,7 +174,7 @@ enum {
     MACSEC_E_ANSWER_LONG = 55,        /* the buffer is too small for the answer to the line */
     MACSEC_E_JOB = 56,                /* the slot has no such job, or it has a frame already */
     MACSEC_E_OTHER_KEY = 57,          /* the key is not the one that the job needs */
-    MACSEC_E_SPACE = 58,              /* the buffer is too small for the frame */
+    MACSEC_E_SPACE = 58,              /* the buffer is too small for what is to be written */
     MACSEC_E_NO_SUCH_COMMAND = 59,    /* a macsec_command means nothing: its kind, flag or key is wrong */
     MACSEC_E_JOURNAL_DAMAGED = 60,    /* the count of the journal is damaged, or does not agree with its entries */
     MACSEC_E_JOURNAL_FULL = 61,       /* the entries of the journal would not fit into a file of its limit */

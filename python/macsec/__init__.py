@@ -23,7 +23,7 @@
 """
 
 from .errors import CaptureError, FrameFault, JournalFault, MacsecError, NotFound, Refused, TextFault, UsageError
-from .journal import Journal, Step, journal_created, journal_noted
+from .journal import Journal, Step, journal_created
 from .names import Fate, Form, Mode, Status, Suite, Verdict
 from .sealing import seal
 from .secy import Options, Received, RxSa, SecY, Sent, TxSa, journal_compacted, journal_header, version
@@ -31,6 +31,5 @@ from .secy import Options, Received, RxSa, SecY, Sent, TxSa, journal_compacted, 
 __all__ = [
     "CaptureError", "Fate", "Form", "FrameFault", "Journal", "JournalFault", "MacsecError", "Mode", "NotFound",
     "Options", "Received", "Refused", "RxSa", "SecY", "Sent", "Status", "Step", "Suite", "TextFault", "TxSa",
-    "UsageError", "Verdict", "journal_compacted", "journal_created", "journal_header", "journal_noted", "seal",
-    "version",
+    "UsageError", "Verdict", "journal_compacted", "journal_created", "journal_header", "seal", "version",
 ]  # fmt: skip

@@ -181,7 +181,6 @@ FREE_CALLS = {
     "journal_shown": (_TO_FILL, c_size_t, _TO_FILL),
     "journal_record": (_TO_FILL, c_size_t, _TO_FILL),
     "journal_let_go": (_TO_FILL, c_char_p),
-    "journal_noted": (c_char_p, c_uint64, _TO_FILL),
     "journal_whole_raw": (_TO_FILL, _TO_FILL, c_size_t, _TO_FILL),
     "journal_free_raw": (_TO_FILL,),
     "seal_raw": (_TO_FILL, _SCI, c_uint64, c_bool, c_size_t, _TO_FILL, c_size_t),

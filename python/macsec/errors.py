@@ -54,7 +54,7 @@ MEANINGS = {
     Status.AnswerLong: "the buffer is too small for the answer to the line",
     Status.Job: "the slot has no such job, or it has a frame already",
     Status.OtherKey: "the key is not the one that the job needs",
-    Status.Space: "the buffer is too small for the frame",
+    Status.Space: "the buffer is too small for what is to be written",
     Status.NoSuchCommand: "the number names no kind of command",
     Status.JournalDamaged: "the count of the journal is damaged, or does not agree with its entries",
     Status.JournalFull: "the entries of the journal would not fit into a file of its limit",

@@ -13,25 +13,13 @@ from .errors import error
 from .names import Status
 from .secy import Octets, number_of, octets_of
 
-# The octets of a new file.
-_CREATED = 128
-
-
-class Step(enum.IntEnum):
-    """The system call that is next, as include/macsec.h says for each."""
-
-    resting = 0
-    appending = 1
-    syncing = 2
-    looking_after = 3
-    looking_before = 4
-    removing = 5
-    creating = 6
-    locking = 7
-    filling = 8
-    syncing_new = 9
-    renaming = 10
-    syncing_folder = 11
+# The system call that is next, as include/macsec.h says for each.
+Step = enum.IntEnum(
+    "Step",
+    "resting appending syncing looking_after looking_before removing creating locking filling syncing_new renaming"
+    " syncing_folder",
+    start=0,
+)
 
 
 class Call(NamedTuple):
@@ -53,18 +41,9 @@ def octets_with(length: int, octets: Octets, what: str) -> bytes:
 
 def journal_created(salt: Octets) -> bytes:
     """The octets of a new file. `salt` is 24 random octets: other journals name the same key otherwise."""
-    made = ctypes.create_string_buffer(_CREATED)
+    made = ctypes.create_string_buffer(128)
     _library.load().macsec_journal_created(octets_with(24, salt, "the salt of a journal"), made)
     return made.raw
-
-
-def journal_noted(name: Octets, number: int) -> bytes:
-    """The record with this name of 32 octets and this number: for numbers of your own, under names that no key has."""
-    made = _library.Record()
-    _library.load().macsec_journal_noted(
-        octets_with(32, name, "a name"), number_of(number, 64, "number"), ctypes.byref(made)
-    )
-    return bytes(made.octets)
 
 
 class Journal:
@@ -116,7 +95,8 @@ class Journal:
             self._checked(self._library.macsec_journal_answered(self._handle, bool(good)))
 
     def _records(self, name: str) -> list[bytes]:
-        found, record = [], _library.Record()
+        found: list[bytes] = []
+        record = _library.Record()
         call = getattr(self._library, name)
         with self._lock:
             while (status := call(self._handle, len(found), ctypes.byref(record))) == Status.OK:

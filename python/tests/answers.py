@@ -9,16 +9,7 @@ import pathlib
 import sys
 from typing import Callable
 
-from macsec import (
-    Journal,
-    MacsecError,
-    SecY,
-    journal_compacted,
-    journal_created,
-    journal_header,
-    journal_noted,
-    sealing,
-)
+from macsec import Journal, MacsecError, SecY, journal_compacted, journal_created, journal_header, sealing
 from macsec.errors import error
 from macsec.names import ENDPOINT_COUNTERS, RX_COUNTERS, TX_COUNTERS
 from macsec.secy import sak_of
@@ -161,7 +152,6 @@ FREE_CALLS: dict[str, Callable[..., tuple[str, int]]] = {
     "seal": seal,
     "journal_header": lambda salt: (f" {journal_header(octets(salt)).hex()}", 0),
     "journal_compacted": compacted,
-    "journal_noted": lambda name, number: (f" {journal_noted(octets(name), int(number)).hex()}", 0),
     "journal_created": lambda salt: (f" {journal_created(octets(salt)).hex()}", 0),
 }
 MAKES = ("new", "configure", "reserve_open", "reserve_configure")

@@ -90,7 +90,7 @@ def numbered(pairs: list[tuple[str, str]], before: str = "") -> dict[str, int]:
 
 def statuses_of_specs() -> dict[str, int]:
     """The statuses as specs/ number them."""
-    text = text_of("crates/macsec_c_calls/specs/Statuses.antt")
+    text = "".join(text_of(f"crates/{it}/specs/Statuses.antt") for it in ("macsec_c_calls", "macsec_c_journals"))
     found = numbered([(camel(name), number) for name, number in re.findall(r"^(\w+)_status = (\d+)$", text, re.M)])
     for kind, before in (("argument", "NoSuch"), ("new", "New"), ("frame", ""), ("line", ""), ("script", "")):
         found |= numbered(re.findall(rf"^status_of_{kind}_fault (?:\w+\.)?(\w+) = (\d+)$", text, re.M), before)

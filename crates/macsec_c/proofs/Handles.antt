@@ -2,7 +2,7 @@
 use Rattle.{
   macsec_ahead.specs.contracts.keeper.AheadKeeper.{the_row as keeper},
   macsec_jobs.specs.contracts.{job_key.JobKey.{the_row as job_key}, slot.Slot.{the_row as job_slot}},
-  macsec_c_calls.specs.contracts.journals.OpenJournal.{the_row as open_journal},
+  macsec_c_journals.specs.contracts.journals.OpenJournal.{the_row as open_journal},
   macsec_c.{
     proofs.{Handle.Handle, Names.refl},
     specs.contracts.{endpoint.Endpoint.{the_type as endpoint_type}, journal.Journal.{the_type as journal_type}},

@@ -4,8 +4,8 @@ use Rattle.macsec_reserve.specs.declared.reservation.Reservation.{Reservation}
 use Rattle.macsec_reserve.specs.Journal.{record_of}
 use Rattle.macsec_journal.specs.declared.writer.BeginFault.{BeginFault}
 use Rattle.macsec_journal.specs.Machine.{Journal, answered, shown}
-use Rattle.macsec_c_calls.specs.declared.journals.JournalCall.{JournalCall}
-use Rattle.macsec_c_calls.specs.Journals.{Begins, called, filled, status_of_begin_fault}
+use Rattle.macsec_c_journals.specs.declared.journals.JournalCall.{JournalCall}
+use Rattle.macsec_c_journals.specs.Calls.{Begins, called, filled, status_of_begin_fault}
 use Rattle.macsec_c_calls.specs.Reserving.{Written}
 use Rattle.macsec_c_calls.specs.Statuses.{done_status, empty_status, taken_status}
 

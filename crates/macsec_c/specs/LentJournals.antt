@@ -1,7 +1,7 @@
 -- Borrows of a handle's journal.
 use Rattle.std.specs.Prelude.{Some}
 use Rattle.std.specs.Borrow.{Lends, MutBor, Fml}
-use Rattle.macsec_c_calls.specs.contracts.journals.OpenJournal.{the_row as journal_row}
+use Rattle.macsec_c_journals.specs.contracts.journals.OpenJournal.{the_row as journal_row}
 use Rattle.macsec_journal.specs.Machine.{Journal as JournalState}
 use Rattle.macsec_c.specs.declared.journal.Journal.{Journal}
 use Rattle.macsec_c.specs.contracts.journal.Journal.{the_row}

@@ -6,7 +6,7 @@ ghost use Rattle.macsec_journal.specs.Machine.{Journal as JournalState};
 
 use crate::endpoint::Hidden;
 use crate::loose::Loose;
-use macsec_c_calls::OpenJournal;
+use macsec_c_journals::OpenJournal;
 use std::alloc::Global;
 use std::marker::{Model, Send};
 use std::ptr::null_mut;
@@ -19,7 +19,7 @@ pub struct Journal {
 }
 
 impl Model for Journal {
-    ghost use Rattle.macsec_c_calls.specs.contracts.journals.OpenJournal.{the_row};
+    ghost use Rattle.macsec_c_journals.specs.contracts.journals.OpenJournal.{the_row};
     ghost use Rattle.macsec_c.specs.Owned.{owned};
 
     ghost also_owns = { λ h. owned the_row h.at h.state };

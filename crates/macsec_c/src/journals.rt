@@ -4,16 +4,17 @@ ghost use Rattle.std.specs.Prelude.{◌≡◌, [], IfNone, IfSome, None};
 ghost use Rattle.macsec_reserve.specs.Journal.{record_of};
 ghost use Rattle.macsec_journal.specs.Format.{file_of};
 ghost use Rattle.macsec_journal.specs.Machine.{for_endpoint};
-ghost use Rattle.macsec_c_calls.specs.Journals.{let_go, ordered};
+ghost use Rattle.macsec_c_journals.specs.Calls.{let_go, ordered};
 ghost use Rattle.macsec_c_calls.specs.Statuses.{done_status};
 ghost use Rattle.macsec_c.specs.Found.{found, status_of_found};
 ghost use Rattle.macsec_c.specs.HeldJournals.{BeginsHeld, answered_held, called_held, changed, durable_at, entry_at, filled_held, record_with};
 
 use crate::journal::Journal;
 use crate::loose::Loose;
-use macsec_c_calls::{
-    DONE, EMPTY, JournalCall, Record, TAKEN, answer_call, begin_journal, let_go, order_records,
-    show_call, show_durable, show_entry, status_of_begin_fault, write_for_endpoint,
+use macsec_c_calls::{DONE, EMPTY, Record, TAKEN};
+use macsec_c_journals::{
+    JournalCall, answer_call, begin_journal, let_go, order_records, show_call, show_durable,
+    show_entry, status_of_begin_fault, write_for_endpoint,
 };
 use macsec_journal::created;
 use macsec_reserve::Reservation;
@@ -62,7 +63,7 @@ pub extern "C" fn macsec_journal_next_raw(
     out: &mut [u8],
     call: &mut JournalCall,
 ) -> u32
-    ensures shown { (result, out.new, call.new) ≡ called_held j.old.state (out.old, call.old) }
+    ensures shown { (result, (out.new, call.new)) ≡ called_held j.old.state (out.old, call.old) }
     ensures same { j.new.state ≡ j.old.state }
 {
     if !j.is_made() {
@@ -130,7 +131,7 @@ pub extern "C" fn macsec_journal_whole_raw(
     out: &mut [u8],
     written: &mut usize,
 ) -> u32
-    ensures written { (result, out.new, written.new) ≡ filled_held j.old.state for_endpoint (out.old, written.old) }
+    ensures written { (result, (out.new, written.new)) ≡ filled_held j.old.state for_endpoint (out.old, written.old) }
     ensures same { j.new.state ≡ j.old.state }
 {
     if !j.is_made() {

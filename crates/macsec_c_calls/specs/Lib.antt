@@ -16,6 +16,4 @@ pub mod Statuses
 pub mod Texts
 pub mod Writing
 pub mod Jobs
-pub mod JournalSpace
-pub mod Journals
 pub mod TakenKeys

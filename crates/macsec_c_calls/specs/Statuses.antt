@@ -56,18 +56,6 @@ other_key_status = 57
 abbrev pub space_status : ℕ
 space_status = 58
 
--- the count of a journal is damaged, or does not agree with its entries
-abbrev pub journal_damaged_status : ℕ
-journal_damaged_status = 60
-
--- the entries of a journal would not fit into a file of its limit
-abbrev pub journal_full_status : ℕ
-journal_full_status = 61
-
--- a step of an order to the journal is under way
-abbrev pub journal_busy_status : ℕ
-journal_busy_status = 62
-
 abbrev pub status_of_job_fault : JobFault → ℕ
 status_of_job_fault job.NoJob = job_status
 status_of_job_fault job.OtherKey = other_key_status

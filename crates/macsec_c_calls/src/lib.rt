@@ -34,7 +34,6 @@ mod commands;
 mod configuring;
 mod creating;
 mod jobs;
-mod journals;
 pub mod laws;
 mod parsing;
 mod receiving;
@@ -58,10 +57,6 @@ pub use jobs::{
     Finished, Planned, finish_frame, open_job, plan_to_receive, plan_to_send, seal_job, unfinished,
     unplanned,
 };
-pub use journals::{
-    JournalCall, OpenJournal, answer_call, begin_journal, let_go, order_records, show_call,
-    show_durable, show_entry, status_of_begin_fault, write_for_endpoint,
-};
 pub use parsing::{carry_out_row, parse_command, parse_end};
 pub use receiving::{Received, received_of, unreceived};
 pub use reserving::{
@@ -78,8 +73,7 @@ pub use showing::{
 };
 pub use statuses::{
     ANSWER_LONG, DONE, EMPTY, FATE_NO_RESERVATION, FATE_NO_SA, FATE_NONE, FATE_PLAIN,
-    FATE_PROTECTED, FATE_TOO_LONG, JOB, JOURNAL_BUSY, JOURNAL_DAMAGED, JOURNAL_FULL, NONE,
-    NOT_JOURNAL, NOT_RECORD, OTHER_KEY, SPACE, TAKEN,
+    FATE_PROTECTED, FATE_TOO_LONG, JOB, NONE, NOT_JOURNAL, NOT_RECORD, OTHER_KEY, SPACE, TAKEN,
     VERDICT_EARLIER_RUN, VERDICT_NO_RESERVATION, number_of_verdict, status_of_frame_fault,
     status_of_line_fault, status_of_new_fault, status_of_script_fault,
 };

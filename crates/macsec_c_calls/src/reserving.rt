@@ -22,7 +22,7 @@ pub struct Record {
 }
 
 /// Shows the record of a reservation, if there is one.
-pub(crate) fn show_record(reservation: Option<Reservation>, out: &mut Record) -> u32
+fn show_record(reservation: Option<Reservation>, out: &mut Record) -> u32
     ensures status { result ≡ status_if reservation }
     ensures shown { IfSome reservation (λ r. out.new.octets ≡ record_of r) }
     ensures kept { IfNone reservation (out.new ≡ out.old) }

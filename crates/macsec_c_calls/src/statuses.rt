@@ -36,15 +36,6 @@ pub const OTHER_KEY: u32 = 57;
 /// The buffer is too small for a frame.
 pub const SPACE: u32 = 58;
 
-/// The count of a journal is damaged, or does not agree with its entries.
-pub const JOURNAL_DAMAGED: u32 = 60;
-
-/// The entries of a journal would not fit into a file of its limit.
-pub const JOURNAL_FULL: u32 = 61;
-
-/// A step of an order to the journal is under way.
-pub const JOURNAL_BUSY: u32 = 62;
-
 /// No client frame was taken: the status is not 0.
 pub const FATE_NONE: u32 = 0;
 

@@ -1,5 +1,5 @@
 use Rattle.{std.proofs.Common.{◌≡◌, ◌≤◌, ◌/◌, length, vec_capacity, vec_len}, macsec_reserve.specs.Journal.reserved_within}
-use Rattle.macsec_c_calls.proofs.journals.read_records.Given as goal
+use Rattle.macsec_c_journals.proofs.journals.read_records.Given as goal
 
 -- the records before the index were read, and there is space for the others
 abbrev pub invariant-loop-k : goal.invariant-loop-k

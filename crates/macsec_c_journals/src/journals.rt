@@ -1,23 +1,28 @@
 //! The journal of a process as a file: which system call is next, and what its answer means.
 
-ghost use Rattle.std.specs.Prelude.{◌≡◌, ◌<◌, ◌≤◌, ◌+◌, ◌/◌, ◌++◌, IfNone, IfSome, drop, length, slice_get, true, vec_capacity, vec_len};
+ghost use Rattle.std.specs.Prelude.{◌≡◌, ◌<◌, ◌≤◌, ◌+◌, ◌/◌, [], ◌∷◌, ◌++◌, IfNone, IfSome, drop, length, slice_get, true, vec_capacity, vec_len};
 ghost use Rattle.macsec_reserve.specs.Journal.{record_of, reservations, reserved_in};
 ghost use Rattle.macsec_journal.specs.declared.step.Step.TheVariants.{Resting};
 ghost use Rattle.macsec_journal.specs.Machine.{answered, for_endpoint, shown};
 ghost use Rattle.macsec_script_parser.specs.Fields.{map_ok};
-ghost use Rattle.macsec_c_calls.specs.Journals.{Begins, are_as_many, call_with, called, filled, is_resting, let_go, number_of_step, ordered, status_of_begin_fault, writes};
+ghost use Rattle.macsec_c_journals.specs.Calls.{Begins, are_as_many, call_with, called, filled, is_resting, let_go, number_of_step, ordered, status_of_begin_fault, writes};
 ghost use Rattle.macsec_c_calls.specs.Shown.{status_if};
 
-use crate::reserving::show_record;
-use crate::{
-    DONE, JOURNAL_BUSY, JOURNAL_DAMAGED, JOURNAL_FULL, NOT_JOURNAL, NOT_RECORD, Record, SPACE,
-    status_of_new_fault,
-};
+use macsec_c_calls::{DONE, NONE, NOT_JOURNAL, NOT_RECORD, Record, SPACE, status_of_new_fault};
 use macsec_journal::{BeginFault, Step, Writer};
 use macsec_reserve::{RECORD_LENGTH, Reservation};
 use macsec_secy::NewFault;
 use std::alloc::Global;
 use std::marker::Model;
+
+/// The count of a journal is damaged, or does not agree with its entries.
+const JOURNAL_DAMAGED: u32 = 60;
+
+/// The entries of a journal would not fit into a file of its limit.
+const JOURNAL_FULL: u32 = 61;
+
+/// An order to the journal is under way.
+const JOURNAL_BUSY: u32 = 62;
 
 /// A journal with the buffers that its calls need.
 #[derive(Drop)]
@@ -34,7 +39,7 @@ pub struct OpenJournal {
 impl Model for OpenJournal {
     ghost use Rattle.std.specs.Prelude.{vec_capacity};
     ghost use Rattle.macsec_journal.specs.Machine.{Journal};
-    ghost use Rattle.macsec_c_calls.specs.JournalSpace.{HasBuffers};
+    ghost use Rattle.macsec_c_journals.specs.Space.{HasBuffers};
 
     ghost Value = { Journal };
 
@@ -173,9 +178,20 @@ fn read_record(octets: &[u8], found: &mut Vec<Reservation>)
 {
     let mut record = [0; 64];
     record.copy_from_slice(octets);
-    if let Some(reservation) = Reservation::from_octets(&record) {
-        found.push(reservation).unwrap();
+    match Reservation::from_octets(&record) {
+        Some(reservation) => append(reservation, found),
+        None => {}
     }
+}
+
+/// Appends a reservation.
+fn append(more: Reservation, found: &mut Vec<Reservation>)
+    requires { vec_len found.old < vec_capacity found.old }
+    ensures items { found.new.items ≡ found.old.items ++ more ∷ [] }
+    ensures count { vec_len found.new ≡ vec_len found.old + 1 }
+    ensures space { vec_capacity found.old ≤ vec_capacity found.new }
+{
+    found.push(more).unwrap();
 }
 
 /// Are these octets so many records?
@@ -187,7 +203,7 @@ fn are_as_many(octets: &[u8], count: usize) -> bool
 
 /// Shows the system call that is next, and writes what it writes to the start of a buffer.
 pub fn show_call(journal: &mut OpenJournal, out: &mut [u8], call: &mut JournalCall) -> u32
-    ensures shown { (result, out.new, call.new) ≡ called journal.old (out.old, call.old) }
+    ensures shown { (result, (out.new, call.new)) ≡ called journal.old (out.old, call.old) }
     ensures same { journal.new ≡ journal.old }
 {
     compose(&journal.writer, &mut journal.octets);
@@ -249,7 +265,13 @@ fn show_record_at(reservations: &[Reservation], place: usize, out: &mut Record) 
     ensures shown { IfSome (slice_get reservations.now place) (λ r. out.new.octets ≡ record_of r) }
     ensures kept { IfNone (slice_get reservations.now place) (out.new ≡ out.old) }
 {
-    show_record(reservations.get(place).copied(), out)
+    match reservations.get(place) {
+        Some(reservation) => {
+            out.octets = reservation.to_octets();
+            DONE
+        }
+        None => NONE,
+    }
 }
 
 /// Shows the record at this index of those that the last answer showed to be durable.
@@ -283,14 +305,21 @@ pub fn let_go(journal: &mut OpenJournal, name: &[u8; 32]) -> u32
 
 /// Writes to the start of a buffer what an endpoint of the process is opened with.
 pub fn write_for_endpoint(journal: &mut OpenJournal, out: &mut [u8], written: &mut usize) -> u32
-    ensures written { (result, out.new, written.new) ≡ filled (for_endpoint journal.old) (out.old, written.old) }
+    ensures written { (result, (out.new, written.new)) ≡ filled (for_endpoint journal.old) (out.old, written.old) }
     ensures same { journal.new ≡ journal.old }
 {
     journal.writer.for_endpoint(&mut journal.octets);
-    if out.len() < journal.octets.len() {
+    write_octets(journal.octets.as_slice(), out, written)
+}
+
+/// Writes octets to the start of a buffer, if it has space for them. Returns the status.
+fn write_octets(octets: &[u8], out: &mut [u8], written: &mut usize) -> u32
+    ensures { (result, (out.new, written.new)) ≡ filled octets.now (out.old, written.old) }
+{
+    if out.len() < octets.len() {
         return SPACE;
     }
-    put_octets(journal.octets.as_slice(), out);
-    *written = journal.octets.len();
+    put_octets(octets, out);
+    *written = octets.len();
     DONE
 }
