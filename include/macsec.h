@@ -81,11 +81,12 @@
  * Proved with Rattle: each call creates an endpoint, takes it out of its handle, is one step of the written machine
  * (crates/macsec_secy/specs/Step.antt; with a journal, ahead_step of crates/macsec_ahead/specs/Ahead.antt; a command,
  * with or without a journal, command_forgetting there), or reads its state, for the arguments that C gave; or it takes
- * the steps that the lines of a text say. Each call reads and writes only what it was given, and returns. A reader that
- * finds nothing leaves its output struct unchanged. Measured or tested, not proved: sizes and stack, that macsec_free
- * frees each block, that memory is overwritten, and which calls allocate. Not proved: this header and its inline
- * functions, which a script compares with the library's source; the library's part in C, by which it allocates and
- * overwrites memory; C's side of what the header says; malloc; the compilers.
+ * the steps that the lines of a text say. A call with a journal as a file is one step of its machine
+ * (crates/macsec_journal/specs/Machine.antt), or shows it. Each call reads and writes only what it was given, and
+ * returns. A reader that finds nothing leaves its output struct unchanged. Measured or tested, not proved: sizes and
+ * stack, that macsec_free frees each block, that memory is overwritten, and which calls allocate. Not proved: this
+ * header and its inline functions, which a script compares with the library's source; the library's part in C, by which
+ * it allocates and overwrites memory; C's side of what the header says; malloc; the compilers.
  *
  * In the calls for keys, frames and jobs no branch and no address depends on a key or on data, except the verdict, the
  * refusal KeyRepeated (is the key one of the endpoint's, or its fingerprint a retired key's?) and MACSEC_E_OTHER_KEY
