@@ -81,6 +81,7 @@ int config_look(struct config *c, const char *name, const char **fault) {
     struct stat status;
     bool is_credential;
     int result, file = open_file(c, name, &is_credential);
+    *fault = NULL;
     if (file < 0)
         return message_of_errno("cannot open %s", c->path);
     result = fstat(file, &status) == 0 ? 0 : message_of_errno("%s", c->path);
@@ -173,10 +174,8 @@ const char *config_take(struct config *c, const struct words *w) {
     if (w->count != 3)
         return "`device link NAME`, `tap NAME`, `user NAME`, `group NAME`, `port off`, `workers N`, `receive ahead`, "
                "`persist`, `transient`, `isolate`, `shared`, `landlock optional` or `allow ..` is expected";
-    if (words_is(w, 1, "link"))
-        return take_name(c->link, w) ? NULL : "no network device can have this name";
-    if (words_is(w, 1, "tap"))
-        return take_name(c->tap, w) ? NULL : "no network device can have this name";
+    if (words_is(w, 1, "link") || words_is(w, 1, "tap"))
+        return take_name(words_is(w, 1, "link") ? c->link : c->tap, w) ? NULL : "no network device can have this name";
     if (words_is(w, 1, "group"))
         return take_group(c, w) ? NULL : "there is no such group";
     if (words_is(w, 1, "user"))

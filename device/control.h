@@ -70,10 +70,9 @@ enum { HANDOVER_WAITS = 50 };
  * associations, which go on with the reservations. Returns NULL, after a message, if it can't be made. */
 macsec_endpoint *handover_begin(struct device *d);
 /* Reserves for the second endpoint, and lets it take over from the first. Returns false, after a message, if no record
- * can be written: then it is freed. */
-bool handover_finish(struct device *d, macsec_endpoint *e);
-/* Lets the second endpoint take over, even without a reservation: then frames are dropped until one is made. */
-void handover_take(struct device *d, macsec_endpoint *e);
+ * can be written: then it is freed. If `anyhow`, it takes over even so, and drops frames until there is a reservation.
+ */
+bool handover_take(struct device *d, macsec_endpoint *e, bool anyhow);
 
 /* ---- answers.c: the text of answers, each for a request ---- */
 

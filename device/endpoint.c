@@ -152,7 +152,7 @@ static struct result command_of_next(struct device *d, const macsec_command *c) 
     r = carry_out(d, e, MACSEC_OK, c);
     if (r.status != MACSEC_OK) {
         macsec_free(e);
-    } else if (!handover_finish(d, e)) {
+    } else if (!handover_take(d, e, false)) {
         r.fault = "Journal";
     } else {
         message("the endpoint had taken %u keys: a second one goes on", MACSEC_KEY_COUNT);
@@ -220,7 +220,7 @@ static void do_lines(struct device *d, macsec_endpoint *copy, struct text *t, co
         memmove(t->octets, done.octets, done.length);
         t->length = done.length;
     } else {
-        handover_take(d, copy);
+        (void)handover_take(d, copy, true);
         note_lines(d, lines, length);
         message("a second endpoint goes on after `load`");
     }

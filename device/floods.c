@@ -14,12 +14,6 @@ enum { TYPE_AT = 12, TYPE = 0x88e5, TCI_AT = 14, SC = 0x20, SCI_AT = 20, SCI = 8
 /* Instructions of the program: before the channels, of a channel, and after them. */
 enum { BEFORE = 8, EACH = 5, AFTER = 1, PROGRAM = BEFORE + EACH * MACSEC_RX_CHANNEL_COUNT + AFTER };
 
-/* Does the endpoint drop each frame that has no SecTAG, or an SCI of no channel? */
-static bool is_strict(const struct device *d) {
-    macsec_options options;
-    return macsec_get_options(d->endpoint, &options) == MACSEC_OK && options.mode == MACSEC_MODE_STRICT;
-}
-
 static uint32_t word(const uint8_t *octets) {
     return (uint32_t)octets[0] << 24 | (uint32_t)octets[1] << 16 | (uint32_t)octets[2] << 8 | octets[3];
 }
@@ -59,7 +53,9 @@ void floods_note(struct device *d, uint32_t verdict) {
 void floods_stop(struct device *d) {
     struct sock_filter program[PROGRAM];
     struct sock_fprog filter = { 0, program };
-    if (d->floods.frames < FLOOD || d->floods.filtered || !is_strict(d))
+    macsec_options options;
+    if (d->floods.frames < FLOOD || d->floods.filtered || macsec_get_options(d->endpoint, &options) != MACSEC_OK ||
+        options.mode != MACSEC_MODE_STRICT)
         return;
     filter.len = make_program(d, program);
     if (setsockopt(d->link.socket, SOL_SOCKET, SO_ATTACH_FILTER, &filter, sizeof filter) != 0) {

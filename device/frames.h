@@ -16,8 +16,7 @@ enum { BATCH = 64 };
 /* How many frames of a direction workers can have. */
 enum { RING = 128 };
 
-/* ---- What the device counts, in addition to the endpoint: macsecctl(8) says what each counts, answers.c its name ----
- */
+/* ---- What the device counts, in addition to the endpoint: macsecctl(8) has a table ---- */
 
 struct counts {
     uint64_t link_in, link_lost, link_too_short, link_too_long, no_endpoint, link_out, link_refused;

@@ -227,20 +227,15 @@ macsec_endpoint *handover_begin(struct device *d) {
     return NULL;
 }
 
-void handover_take(struct device *d, macsec_endpoint *e) {
-    (void)numbers_reserve_soon(d->numbers, e, HANDOVER_WAITS);
-    workers_forget(d->workers);
-    totals_carry(d);
-    macsec_free(d->endpoint);
-    d->endpoint = e;
-}
-
-bool handover_finish(struct device *d, macsec_endpoint *e) {
-    if (!numbers_reserve_soon(d->numbers, e, HANDOVER_WAITS)) {
+bool handover_take(struct device *d, macsec_endpoint *e, bool anyhow) {
+    if (!numbers_reserve_soon(d->numbers, e, HANDOVER_WAITS) && !anyhow) {
         message("the second endpoint does not take over: its packet numbers can't be reserved");
         macsec_free(e);
         return false;
     }
-    handover_take(d, e);
+    workers_forget(d->workers);
+    totals_carry(d);
+    macsec_free(d->endpoint);
+    d->endpoint = e;
     return true;
 }

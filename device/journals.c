@@ -27,36 +27,31 @@ bool journals_path(char *path, size_t room, const char *name) {
     return false;
 }
 
-/* Why does the file system of a folder not keep a journal? Or NULL. In memory it is lost for certain. */
-static const char *weakness(const char *folder, bool *is_lost) {
-    struct statfs about;
-    *is_lost = false;
-    if (statfs(folder, &about) != 0)
-        return NULL; /* opening the journal says why */
-    switch ((unsigned long)about.f_type & 0xffffffff) {
-    case TMPFS_MAGIC:
-    case RAMFS_MAGIC:
-        *is_lost = true;
-        return "in memory, so the journal is lost when the system ends";
-    case OVERLAYFS_SUPER_MAGIC:
-        return "an overlay, so the journal is lost if its upper file system is";
-    case NFS_SUPER_MAGIC:
-    case CIFS:
-    case SMB2:
-        return "of a network, whose locks and writes are not those of a local disk";
-    default:
-        return NULL;
-    }
-}
-
+/* Says why the file system does not keep the journal. In memory it is lost for certain. */
 int journals_check_disk(const char *name, bool creates) {
     char path[PATH_MAX];
-    const char *why;
-    bool is_lost;
+    struct statfs about;
+    const char *why = NULL;
+    bool is_lost = false;
     if (!journals_path(path, sizeof path, name))
         return ENDS_WRONG;
     *strrchr(path, '/') = '\0';
-    why = weakness(path, &is_lost);
+    if (statfs(path, &about) != 0)
+        return 0; /* opening the journal says why */
+    switch ((unsigned long)about.f_type & 0xffffffff) {
+    case TMPFS_MAGIC:
+    case RAMFS_MAGIC:
+        is_lost = true;
+        why = "in memory, so the journal is lost when the system ends";
+        break;
+    case OVERLAYFS_SUPER_MAGIC:
+        why = "an overlay, so the journal is lost if its upper file system is";
+        break;
+    case NFS_SUPER_MAGIC:
+    case CIFS:
+    case SMB2:
+        why = "of a network, whose locks and writes are not those of a local disk";
+    }
     if (why != NULL)
         message("the file system of %s is %s. Packet numbers are used twice then", path, why);
     return is_lost && creates ? ENDS_WRONG : 0;

@@ -6,7 +6,7 @@
 #include <sys/un.h>
 #include <time.h>
 
-/* The most octets of a line. A text has half of them. */
+/* The most octets of a line. A text has half of them; what is before it and after it needs fewer. */
 enum { LONGEST = 2048 };
 
 /* Of each form so many messages are printed in so many seconds; and how many forms there are at most. */
@@ -90,9 +90,7 @@ static void print_line(char line[LONGEST], size_t end) {
     static unsigned lost;
     char note[LONGEST];
     int length;
-    if (end > LONGEST - 1)
-        end = LONGEST - 1;
-    line[end++] = '\n';
+    line[end++] = '\n'; /* there is space: see LONGEST */
     if (lost > 0) {
         length = snprintf(note, sizeof note, "macsecd %s: lines missing here, which standard error did not take: %u\n",
                           device_name, lost);

@@ -53,18 +53,13 @@ static bool answer_reader(struct device *d, struct text *t, const struct words *
     return true;
 }
 
-static struct result switch_port(struct device *d, bool on) {
-    if (on && !endpoint_is_open(d))
-        return result_of(MACSEC_E_EMPTY);
-    port_set(d, on);
-    return result_of(MACSEC_OK);
-}
-
 static struct result change(struct device *d, int client, const struct words *w, const char *line, size_t length) {
     if (words_are(w, 0, "own"))
         port_own(d, client);
+    else if (words_are(w, 0, "port on") && !endpoint_is_open(d))
+        return result_of(MACSEC_E_EMPTY);
     else if (words_are(w, 0, "port on") || words_are(w, 0, "port off"))
-        return switch_port(d, words_is(w, 1, "on"));
+        port_set(d, words_is(w, 1, "on"));
     else if (words_is(w, 0, "open"))
         return endpoint_open(d, w);
     else if (words_are(w, 0, "close"))

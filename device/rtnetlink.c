@@ -101,8 +101,8 @@ static bool read_error(const struct nlmsghdr *header) {
 }
 
 static bool read_reports(struct device *d, int left) {
-    for (const struct nlmsghdr *it = (struct nlmsghdr *)d->rtnetlink.buffer; NLMSG_OK(it, left);
-         it = NLMSG_NEXT(it, left))
+    const struct nlmsghdr *it = (const struct nlmsghdr *)d->rtnetlink.buffer;
+    for (; left > 0 && NLMSG_OK(it, (unsigned)left); it = NLMSG_NEXT(it, left))
         if (it->nlmsg_type == NLMSG_ERROR ? !read_error(it) : !read_report(d, it))
             return false;
     return true;

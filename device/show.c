@@ -57,12 +57,6 @@ static void add_link(struct text *t, const struct device *d) {
     text_add(t, "  tap %s: port %s\n", d->tap.name, d->port.off ? "off" : "on");
 }
 
-static void add_journal(struct text *t, const struct device *d) {
-    text_add(t, "  journal: %zu of %zu names\n", numbers_names(d->numbers), numbers_names_max());
-    text_add(t, "  receive ahead: dropped %" PRIu64 " without a reservation, %" PRIu64 " of an earlier run\n",
-             d->counts.link_no_reservation, d->counts.link_earlier_run);
-}
-
 static void add_last(struct text *t, const struct history *h) {
     char text[AGE];
     uint64_t seconds;
@@ -161,7 +155,9 @@ void answer_show(struct text *t, const struct device *d) {
     text_add(t, "%s\n", d->name);
     add_link(t, d);
     add_endpoint(t, d);
-    add_journal(t, d);
+    text_add(t, "  journal: %zu of %zu names\n", numbers_names(d->numbers), numbers_names_max());
+    text_add(t, "  receive ahead: dropped %" PRIu64 " without a reservation, %" PRIu64 " of an earlier run\n",
+             d->counts.link_no_reservation, d->counts.link_earlier_run);
     add_last(t, &d->history);
     add_transmit(t, d);
     add_peers(t, d);

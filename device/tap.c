@@ -57,18 +57,11 @@ static bool has_group(const char *name) {
 static int undo(const struct tap *t) {
     const struct tun_filter all = { .flags = 0, .count = 0 };
     const int most = INT_MAX, no_program = -1;
-    const struct {
-        unsigned long call;
-        const void *value;
-    } settings[] = {
-        { TUNSETTXFILTER, &all },
-        { TUNSETSNDBUF, &most },
-        { TUNSETSTEERINGEBPF, &no_program },
-        { TUNSETFILTEREBPF, &no_program },
-    };
     struct ifreq request = request_of(t);
-    for (size_t i = 0; i < sizeof settings / sizeof *settings; i++)
-        (void)ioctl(t->file, settings[i].call, settings[i].value);
+    (void)ioctl(t->file, TUNSETTXFILTER, &all);
+    (void)ioctl(t->file, TUNSETSNDBUF, &most);
+    (void)ioctl(t->file, TUNSETSTEERINGEBPF, &no_program);
+    (void)ioctl(t->file, TUNSETFILTEREBPF, &no_program);
     if (ioctl(t->file, SIOCGIFHWADDR, &request) == 0 &&
         (request.ifr_hwaddr.sa_family == ARPHRD_ETHER || ioctl(t->file, TUNSETLINK, (unsigned long)ARPHRD_ETHER) == 0))
         return 0;

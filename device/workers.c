@@ -74,12 +74,6 @@ static void ring_bell(struct workers *w, int count) {
         wake(&w->bell, count);
 }
 
-/* The counter of an eventfd can't be full here. */
-static void tell(const struct workers *w) {
-    const uint64_t one = 1;
-    (void)TEMP_FAILURE_RETRY(write(w->events, &one, sizeof one));
-}
-
 /* Its own function, which the caller's frame does not have. */
 __attribute__((noinline)) static void overwrite_stack(void) {
     char area[USED];
@@ -120,7 +114,7 @@ static void wake_for(struct workers *w, struct ring_place *p) {
         wake(&p->state, 1);
     else if (awaited == EVENT && (ring_is_first(&w->rings[0], p) || ring_is_first(&w->rings[1], p)) &&
              atomic_exchange(&w->awaits, NOTHING) == EVENT)
-        tell(w);
+        (void)eventfd_write(w->events, 1); /* its counter can't be full here */
 }
 
 static void *work(void *argument) {
