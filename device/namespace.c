@@ -26,11 +26,10 @@ static int open_tun(void) {
  * name is the host's. */
 static int check_tun(int tun, const char *path, const struct stat *wanted) {
     struct stat status;
-    int file = ioctl(tun, SIOCGSKNS);
-    bool found = file >= 0 && fstat(file, &status) == 0;
+    int file = ioctl(tun, SIOCGSKNS), result = file < 0 ? -1 : fstat(file, &status);
     if (file >= 0)
         (void)close(file); /* it was only looked at */
-    if (!found)
+    if (result != 0)
         return message_of_errno("the network namespace of /dev/net/tun");
     if (!is_same_file(&status, wanted))
         return 0;
