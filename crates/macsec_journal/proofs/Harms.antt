@@ -1,18 +1,27 @@
 -- What the disk can do.
 use Rattle.std.proofs.{
-  Common.{◌≡◌, ℕ, ◌%◌, List, [], ◌++◌, length, refl, ap, ◌∙◌, arith, append_assoc, All},
-  lemmas.List.Elements.{All-nil, All-weaker},
+  Common.{◌≡◌, ℕ, ◌%◌, Bool, false, ◌||◌, if◌then◌else◌, List, [], ◌∷◌, ◌++◌, length, nat_le, refl, ap, sym, subst, ◌∙◌, arith, append_assoc, All},
+  lemmas.{Bool.lt-leb, List.Elements.{All-nil, All-weaker}},
 }
 use Rattle.macsec_journal.specs.{
   Damage.IsDamaged,
-  Disk.{Piece, Stands},
-  Harms.{CanHarm, at_call},
+  Disk.{Piece, Stands, end_of, is_apart, sector_ceiling, sector_floor},
+  Harms.{CanHarm, ShareSector, at_call},
   Machine.appended,
   declared.step.Step.TheVariants.Appending,
 }
 
 any_left : (octets : List ℕ) → All (Stands octets) []
 any_left octets = All-nil (Stands octets)
+
+-- so a piece with a shared sector is dropped
+near : (p q : Piece) → ShareSector p q → is_apart p q ≡ false
+near p q it =
+    ap (λ (b : Bool). b || nat_le (sector_ceiling (end_of p)) q.at) (lt-leb (end_of q) (sector_floor p.at) (omega (arith, it.in_piece, it.in_other, it.sector)))
+    ∙ lt-leb (sector_ceiling (end_of p)) q.at (omega (arith, it.in_piece, it.in_other, it.sector))
+
+dropped : (p q : Piece) → ShareSector p q → (octets : List ℕ) → All (Stands octets) (if is_apart p q then q ∷ [] else [])
+dropped p q it octets = subst (λ (b : Bool). All (Stands octets) (if b then q ∷ [] else [])) (sym (near p q it)) (any_left octets)
 
 more_follows : (octets more : List ℕ) (p : Piece) → Stands octets p → Stands (octets ++ more) p
 more_follows octets more p it = record {
@@ -37,8 +46,8 @@ sector_damaged before was now behind sector was_long now_long = record {
 
 pub can_harm : CanHarm
 can_harm = record {
-  tears = λ j f. any_left;
-  overwrites = λ j f. any_left;
+  tears = λ j f p. dropped (appended j) p;
+  overwrites = λ j f p. dropped (appended j) p;
   forgets = λ j f. any_left;
   ends = λ j f. any_left;
   reads = λ j f. any_left (appended (at_call Appending j)).octets;

@@ -1,20 +1,22 @@
 -- What is written ends within the limit of the file.
 use Rattle.std.proofs.{
-  Common.{◌≡◌, ℕ, ◌+◌, ◌*◌, ◌/◌, ◌<◌, ◌≤◌, Bool, true, false, List, length, refl, ap, sym, subst, ◌∙◌, arith, All},
-  Common.{if◌then◌else◌, ◌||◌, ltb-false, not},
-  lemmas.Bool.or_parts,
+  Common.{◌≡◌, ℕ, ◌+◌, ◌*◌, ◌/◌, ◌^◌, ◌<◌, ◌≤◌, Bool, true, false, List, [], ◌∷◌, ◌++◌, length, refl, ap, sym, subst, ◌∙◌, arith, All},
+  Common.{if◌then◌else◌, ◌||◌, append-nil, lt-ltb, ltb-false, nat_lt, not},
+  lemmas.{Bool.{and_from, or_parts}, List.Elements.{All-cons, All-nil}},
 }
 use Rattle.macsec_gcm.specs.Octets.{same_octets}
-use Rattle.macsec_reserve.specs.{Crashes.IsReservation, declared.reservation.Reservation.Reservation}
+use Rattle.macsec_reserve.{proofs.Reduced.reduces, specs.{Crashes.IsReservation, Entries.reduced, declared.reservation.Reservation.Reservation}}
 use Rattle.macsec_journal.proofs.{
   Counts.{all_fit, fewer, fits_so},
-  Pieces.{file_long, twice_long},
+  Going.{AreApart, apart_is_reduced},
+  Pieces.{file_long, twice_long, whole_guards},
   Tracking.{Tracks, in_step, table_are},
+  Written.file_read,
 }
 use Rattle.macsec_journal.specs.{
-  Disk.{Folder, end_of},
-  Format.{copy_length, file_of, fits, twice},
-  Laws.EndsWithin,
+  Disk.{Folder, Stands, end_of},
+  Format.{copy_length, file_of, fits, read_in, twice},
+  Laws.{AppendsWithin, WritesWithin},
   Machine.{Journal, answered, appending, ends_behind_limit, letting_go, ordering, replacing, whole},
   Machine.{with_order, without},
   declared.step.Step.{
@@ -26,13 +28,13 @@ use Rattle.macsec_journal.specs.{
 
 -- ---- a journal
 
-abbrev AppendsWithin : Step → Journal → Type 0
-AppendsWithin Appending j = j.end + 2 * copy_length (length j.ordered) ≤ j.limit
-AppendsWithin s j = Unit {0}
+abbrev OrderWithin : Step → Journal → Type 0
+OrderWithin Appending j = j.end + 2 * copy_length (length j.ordered) ≤ j.limit
+OrderWithin s j = Unit {0}
 
 -- the whole file and the records that are appended fit
 abbrev pub IsWithin : Journal → Type 0
-IsWithin j = (length j.table + 1 < j.limit / 64) × AppendsWithin j.step j
+IsWithin j = (length j.table + 1 < j.limit / 64) × OrderWithin j.step j
 
 goes_within : (s : Step) (j : Journal) → IsWithin (in_step s j) → IsWithin (answered true (in_step s j))
 goes_within Resting j it = (it.0, tt)
@@ -72,11 +74,11 @@ order_within rs anew j it = order_unless rs anew j it (fits j.limit (length j.ta
 pub go_within : (name : List ℕ) (j : Journal) → j.step ≡ Resting → IsWithin j → IsWithin (letting_go name j)
 go_within name j rests it =
     let less : length (without name j.table) ≤ length j.table = fewer (λ (r : Reservation). not (same_octets r.name name)) j.table in
-    (omega (arith, it.0, less), subst (λ s. AppendsWithin s (letting_go name j)) (sym rests) tt)
+    (omega (arith, it.0, less), subst (λ s. OrderWithin s (letting_go name j)) (sym rests) tt)
 
 -- ---- what is written
 
-ends_within : (s : Step) (j : Journal) → length (twice j.ordered) ≡ 2 * copy_length (length j.ordered) → AppendsWithin s j → EndsWithin s j
+ends_within : (s : Step) (j : Journal) → length (twice j.ordered) ≡ 2 * copy_length (length j.ordered) → OrderWithin s j → AppendsWithin s j
 ends_within Resting j long it = tt
 ends_within Appending j long it = omega (arith, long, it)
 ends_within Syncing j long it = tt
@@ -90,9 +92,23 @@ ends_within SyncingNew j long it = tt
 ends_within Renaming j long it = tt
 ends_within SyncingFolder j long it = tt
 
-pub writes_within : (salt : List ℕ) (told : List Reservation) (f : Folder) (j : Journal) → length salt ≡ 24 → Tracks salt told f j → IsWithin j →
-    (end_of (whole j) ≤ j.limit) × EndsWithin j.step j
+pub writes_within : (salt : List ℕ) (told : List Reservation) (f : Folder) (j : Journal) → length salt ≡ 24 → Tracks salt told f j → IsWithin j → WritesWithin j
 writes_within salt told f j long tracks it =
     let are : All IsReservation j.table = table_are j.table tracks.said tracks.table tracks.are in
-    let size : length (file_of j.salt j.table) ≡ 128 + 64 * length j.table = file_long j.salt j.table (ap length tracks.same ∙ long) tracks.few are in
-    (omega (arith, size, it.0), ends_within j.step j (twice_long j.ordered tracks.ordered) it.1)
+    let octets : List ℕ = (whole j).octets in
+    let own : length j.salt ≡ 24 = ap length tracks.same ∙ long in
+    let size : length octets ≡ 128 + 64 * length j.table = file_long j.salt j.table own tracks.few are in
+    let apart : reduced j.table ≡ j.table = apart_is_reduced j.table (subst AreApart (sym tracks.table) (reduces tracks.said).once) in
+    let all : Stands octets (whole j) = record { before = []; behind = []; is = sym (append-nil octets); at = refl } in
+    let read : reduced (read_in octets) ≡ j.table = ap reduced (file_read j.salt j.table own tracks.few are) ∙ apart in
+    record {
+      file = omega (arith, size, it.0);
+      next = record {
+        readable = ((whole_guards j.salt j.table j.table own tracks.few are (λ name. omega arith)).keeps octets
+            (All-cons (Stands octets) (whole j) [] all (All-nil (Stands octets)))).is;
+        short = ap (λ rs. fits j.limit (length rs)) read
+            ∙ and_from (nat_lt (length j.table + 1) (j.limit / 64)) (nat_lt (length j.table) (2 ^ 64)) (lt-ltb (length j.table + 1) (j.limit / 64) it.0)
+            (lt-ltb (length j.table) (2 ^ 64) tracks.few);
+      };
+      records = ends_within j.step j (twice_long j.ordered tracks.ordered) it.1;
+    }

@@ -1,33 +1,38 @@
 -- What this disk can do. Disks, kernels and file systems do these, so a model that leaves one out proves too much.
-use Rattle.std.specs.Prelude.{◌≡◌, ◌%◌, ℕ, List, [], ◌∷◌, ◌++◌, length, true, false, Contains}
+use Rattle.std.specs.Prelude.{◌≡◌, ◌<◌, ◌≤◌, ◌/◌, ◌%◌, ℕ, List, [], ◌∷◌, ◌++◌, length, true, false, Contains}
 use Rattle.macsec_journal.specs.declared.step.Step.{Step}
 use Rattle.macsec_journal.specs.declared.step.Step.TheVariants.{Appending, Syncing, Renaming, SyncingFolder}
 use Rattle.macsec_journal.specs.Damage.{IsDamaged}
-use Rattle.macsec_journal.specs.Disk.{File, Folder, IsLeft, Piece, candidates, empty_file, folder_left, given_up}
+use Rattle.macsec_journal.specs.Disk.{File, Folder, IsLeft, Piece, candidates, empty_file, end_of, folder_left, given_up}
 use Rattle.macsec_journal.specs.Machine.{Journal, appended, call_after}
 
--- a piece of one octet, and a file that has it on the disk, and nothing else
-abbrev pub a_piece : Piece
-a_piece = record { at = 0; octets = 1 ∷ [] }
-
-abbrev pub with_a_piece : Folder → Folder
-with_a_piece f = record f { named = record { firm = a_piece ∷ []; fresh = [] } }
+-- a file that has this piece on the disk, and nothing else
+abbrev pub with_piece : Piece → Folder → Folder
+with_piece p f = record f { named = record { firm = p ∷ []; fresh = [] } }
 
 abbrev pub with_empty_file : Folder → Folder
 with_empty_file f = record f { named = empty_file }
 
--- a call of this step, whose octets, if it writes, begin in the sector of the piece
+-- an octet of one piece is in the same sector as an octet of the other piece. A sector has 4,096 octets
+pub record ShareSector (p q : Piece) : Type 0 where
+  pub octet : ℕ
+  pub in_piece : (p.at ≤ octet) × (octet < end_of p)
+  pub other : ℕ
+  pub in_other : (q.at ≤ other) × (other < end_of q)
+  pub sector : octet / 4096 ≡ other / 4096
+
+-- a call of this step
 abbrev pub at_call : Step → Journal → Journal
-at_call s j = record j { ordered = []; end = 64; step = s }
+at_call s j = record j { step = s }
 
 -- a file that can be left with any octets
 abbrev pub IsLost : File → Type 0
 IsLost f = (octets : List ℕ) → IsLeft f octets
 
 pub record CanHarm : Type 0 where
-  -- a write that fails can damage what is on the disk in its sector, and so can one that succeeds, until it is synchronized
-  pub tears : (j : Journal) (f : Folder) → IsLost (call_after false (at_call Appending j) (with_a_piece f)).named
-  pub overwrites : (j : Journal) (f : Folder) → IsLost (call_after true (at_call Appending j) (with_a_piece f)).named
+  -- a write that fails can damage each piece of which it touches a sector, and so can one that succeeds, until it is synchronized
+  pub tears : (j : Journal) (f : Folder) (p : Piece) → ShareSector (appended j) p → IsLost (call_after false (at_call Appending j) (with_piece p f)).named
+  pub overwrites : (j : Journal) (f : Folder) (p : Piece) → ShareSector (appended j) p → IsLost (call_after true (at_call Appending j) (with_piece p f)).named
   -- what a failed synchronization left is lost, although a later one succeeds
   pub forgets : (j : Journal) (f : Folder) →
       IsLost (call_after true (at_call Syncing j) (call_after false (at_call Syncing j) (call_after true (at_call Appending j) (with_empty_file f)))).named

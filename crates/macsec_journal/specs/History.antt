@@ -1,41 +1,103 @@
--- A history that can happen: the last call of a replacement fails, the process opens a further endpoint and is killed, and the
--- name leads back to the old file. The next process orders the same records, and no call fails.
-use Rattle.std.specs.Prelude.{◌≡◌, ◌<◌, ◌+◌, ℕ, zero, suc, List, [], ◌∷◌, length, true, false}
+-- Two histories that can happen, and what is left of them. So a world keeps what happens in it, and the laws are not about nothing.
+use Rattle.std.specs.Prelude.{◌≡◌, ◌<◌, ℕ, zero, suc, List, [], ◌∷◌, ◌++◌, length, replicate, true, false}
 use Rattle.std.specs.List.{All}
 use Rattle.macsec_commands.specs.declared.config.EndConfig.{EndConfig}
+use Rattle.macsec_secy.specs.Step.{Input}
 use Rattle.macsec_reserve.specs.declared.reservation.Reservation.{Reservation}
 use Rattle.macsec_reserve.specs.Crashes.{IsReservation}
 use Rattle.macsec_reserve.specs.Entries.{reduced, with_all}
+use Rattle.macsec_reserve.specs.Keeping.{KeepingInput, endpoint_input, now_durable}
 use Rattle.macsec_journal.specs.Disk.{IsLeft}
-use Rattle.macsec_journal.specs.Format.{fits, read_in}
-use Rattle.macsec_journal.specs.World.{Event, Form, Happen, after_all, answers, begins, created, ends, opens, orders}
+use Rattle.macsec_journal.specs.Format.{file_of, fits, read_in, twice}
+use Rattle.macsec_journal.specs.Machine.{begun, for_endpoint, is_full, replacing, without}
+use Rattle.macsec_journal.specs.World.{Begun, Event, Form, Happen, World, after_all, answers, beginning, begins, counted, created, ends, lets_go, opens, orders, reports, takes}
 
 -- so many calls that succeed, and other events after them
 abbrev pub calls_before : List Event → ℕ → List Event
 calls_before events zero = events
 calls_before events (suc n) = answers true ∷ calls_before events n
 
-abbrev pub ordered_again : ℕ → EndConfig → List ℕ → List Reservation → List Event
-ordered_again limit config octets rs = begins limit config octets ∷ orders rs true ∷ calls_before (ends 0 ∷ []) 8
+-- these events can happen. Then these records were shown to be durable, these names were let go, and these runs have ended
+pub record EndsWith (w : World) (events : List Event) (durable : List Reservation) (names : List (List ℕ)) (runs : List Begun) : Type 0 where
+  pub can : Happen w events
+  pub told : (after_all w events).told ≡ durable
+  pub gone : (after_all w events).gone ≡ names
+  pub past : (after_all w events).past ≡ runs
 
-abbrev pub lost_and_ordered_again : ℕ → EndConfig → List ℕ → List Reservation → List Event
-lost_and_ordered_again limit config octets rs =
-    begins limit config octets ∷ orders rs true ∷ calls_before (answers false ∷ opens config ∷ ends 1 ∷ ordered_again limit config octets rs) 7
+-- ---- a failure
 
 -- a process can read these octets in a journal that was created with this salt, and order these records
-pub record CanOrder (limit : ℕ) (form : Form) (salt octets : List ℕ) (rs : List Reservation) : Type 0 where
+pub record WithFailure : Type 0 where
+  pub limit : ℕ
+  pub config : EndConfig
+  pub form : Form
+  pub salt : List ℕ
+  pub octets : List ℕ
+  pub rs : List Reservation
   pub left : IsLeft (created form salt).folder.named octets
   pub small : All (λ x. x < 256) octets
   pub are : All IsReservation rs
   pub read : fits limit (length (reduced (read_in octets))) ≡ true
-  pub more : fits limit (length (reduced (read_in octets)) + length rs) ≡ true
+  pub more : is_full rs (begun limit octets) ≡ false
 
-pub record EndsWell (form : Form) (salt : List ℕ) (events : List Event) (told : List Reservation) : Type 0 where
-  pub can : Happen (created form salt) events
-  pub says : (after_all (created form salt) events).told ≡ told
+-- the last call of a replacement fails, the process opens a further endpoint and is killed, and the name leads back to the old
+-- file. The next process orders the same records, and no call fails
+abbrev pub ordered_again : WithFailure → List Event
+ordered_again h = begins h.limit h.config h.octets ∷ orders h.rs true ∷ calls_before (ends 0 ∷ []) 8
 
--- it can happen, and what was ordered is durable in the end
-abbrev pub CanHappenSo : Type 0
-CanHappenSo =
-    (limit : ℕ) (config : EndConfig) (form : Form) (salt octets : List ℕ) (rs : List Reservation) → CanOrder limit form salt octets rs →
-    EndsWell form salt (lost_and_ordered_again limit config octets rs) (with_all (reduced (read_in octets)) rs)
+abbrev pub lost_and_ordered_again : WithFailure → List Event
+lost_and_ordered_again h =
+    begins h.limit h.config h.octets ∷ orders h.rs true ∷ calls_before (answers false ∷ opens h.config ∷ ends 1 ∷ ordered_again h) 7
+
+-- the further endpoint has read what was ordered, and the others have not
+abbrev pub three_runs : WithFailure → List Begun
+three_runs h =
+    let first = beginning h.config (for_endpoint (begun h.limit h.octets)) [] in
+    first ∷ beginning h.config (for_endpoint (replacing h.rs (begun h.limit h.octets))) [] ∷ first ∷ []
+
+-- ---- no failure
+
+-- what a process does with a new journal
+pub record WithoutFailure : Type 0 where
+  pub config : EndConfig
+  pub salt : List ℕ
+  pub first : Reservation
+  pub second : Reservation
+  pub input : Input
+  pub name : List ℕ
+  pub long : length salt ≡ 24
+  pub small : All (λ x. x < 256) (file_of salt [])
+  pub is_first : IsReservation first
+  pub is_second : IsReservation second
+
+-- it orders the first record: the file is replaced. It orders the second record, which is appended, and reports it to its
+-- endpoint. The endpoint gets an input. The process lets the name go, and is killed
+abbrev pub then_on : WithoutFailure → List Event
+then_on h =
+    orders (h.first ∷ []) false
+    ∷ calls_before (orders (h.second ∷ []) false ∷ calls_before (reports h.second ∷ takes h.input ∷ lets_go h.name ∷ ends 0 ∷ []) 3) 8
+
+abbrev pub appended_and_let_go : WithoutFailure → List Event
+appended_and_let_go h = begins 65536 h.config (file_of h.salt []) ∷ then_on h
+
+abbrev pub one_run : WithoutFailure → List Begun
+one_run h =
+    record {
+      run = record {
+        journal = for_endpoint (begun 65536 (file_of h.salt []));
+        config = h.config;
+        inputs = now_durable h.second ∷ endpoint_input h.input ∷ [];
+      };
+      gone = [];
+    }
+    ∷ []
+
+abbrev pub both_written : WithoutFailure → List ℕ
+both_written h = file_of h.salt (h.first ∷ []) ++ replicate 3904 0 ++ twice (h.second ∷ [])
+
+-- both can happen. After the second one the file can have the octets that were written, and nothing else
+pub record CanHappenSo : Type 0 where
+  pub fails : (h : WithFailure) → EndsWith (created h.form h.salt) (lost_and_ordered_again h) (with_all (reduced (read_in h.octets)) h.rs) [] (three_runs h)
+  pub appends : (h : WithoutFailure) →
+      EndsWith (created counted h.salt) (appended_and_let_go h) (without h.name (h.first ∷ h.second ∷ [])) (h.name ∷ []) (one_run h)
+  pub leaves : (h : WithoutFailure) → IsLeft (after_all (created counted h.salt) (appended_and_let_go h)).folder.named (both_written h)

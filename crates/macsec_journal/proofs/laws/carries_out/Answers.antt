@@ -1,5 +1,5 @@
-use Rattle.std.proofs.Common.{refl}
+use Rattle.macsec_journal.proofs.Orders.{carries_out}
 use Rattle.macsec_journal.proofs.laws.carries_out.Goals as goal
 
 pub returns : goal.returns
-returns c = record { replaces = λ rs j. refl; trusts = λ rs j. refl; appends = λ rs j. refl }
+returns c = carries_out
