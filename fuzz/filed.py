@@ -107,6 +107,8 @@ class Filed:
             for limit in (0, 192, 319, 320, 16_384):
                 yield "journal_begin", (0, 1, octets, limit)
                 yield "journal_free", (0, 1)
+        yield "journal_created", (0, self.JOURNAL_SALT)
+        yield "journal_noted", (0, self.NAMES[0], journals.LAST)
         yield "journal_begin", (0, 1, self.JOURNAL + records, 20_480)
         few = records[:64]
         for order, anew in ((few, 0), (few, 0), (b"", 0), (records, 1), (records * 50, 0), (few, 0), (few * 400, 0)):
