@@ -1,22 +1,15 @@
 /* The thread that writes the journal. The disk can take seconds to answer, and frames, requests and the watchdog do not
- * wait for it: the thread that has the endpoint gives octets to this one, and gets the result later. This thread calls
- * nothing of the library and allocates nothing. */
-#define _GNU_SOURCE
+ * wait for it: the thread that has the endpoint gives records to this one, and gets the result later. Of the library
+ * this thread calls the journal alone, and it allocates nothing. */
 #include "numbers.h"
-#include <errno.h>
-#include <pthread.h>
-#include <stdlib.h>
-#include <string.h>
 #include <sys/eventfd.h>
-#include <sys/stat.h>
 #include <time.h>
-#include <unistd.h>
 
 /* Octets of its stack. A journal's calls need less than a tenth of it. */
 enum { STACK = 256 * 1024 };
 
 /* After so many seconds without an order the thread looks whether another program has changed the file's length: much
- * can be sent until the next order. */
+ * can be sent until the next order. That is said once. */
 enum { LOOKS = 1 };
 
 enum state { IDLE, ORDERED, CARRIED_OUT };
@@ -26,19 +19,16 @@ struct journal_writer {
     pthread_t thread;
     bool runs;  /* is there a thread? */
     int events; /* an eventfd, written when an order was carried out, or the file was cut */
-    /* What the thread looks at: the file, and its length, or -1 if that is unknown. */
-    int file;
-    off_t length_of_file;
+    bool looks; /* is the thread to look at the file? */
     pthread_mutex_t lock;
     pthread_cond_t changed;
-    /* Guarded by the lock from here on. The octets, the journal and the result belong to the thread while the state is
+    /* Guarded by the lock from here on. The journal and the result belong to the thread while the state is
      * ORDERED, and to the other one else. */
     enum state state;
     bool begun, ends;
     int confined;
-    const uint8_t *octets;
-    size_t length;
-    bool whole, cut;
+    size_t count; /* of the records of an order */
+    bool anew, busy, cut;
     struct saved saved;
 };
 
@@ -50,12 +40,9 @@ static double now(void) {
 
 static void carry_out(struct journal_writer *s) {
     double began = now();
-    int result = s->whole ? journal_replace(s->journal, s->octets, s->length, &s->saved.fault)
-                          : journal_append_all(s->journal, s->octets, s->length, &s->saved.fault);
-    s->saved.good = result == 0;
+    s->saved.good = journal_write(s->journal, s->journal->records, s->count, s->anew, &s->saved.fault) == 0;
     s->saved.seconds = now() - began;
-    s->file = s->journal->file;
-    s->length_of_file = s->journal->in_doubt ? -1 : (off_t)s->journal->length;
+    s->looks = s->saved.good;
 }
 
 /* ---- The thread ---- */
@@ -63,25 +50,21 @@ static void carry_out(struct journal_writer *s) {
 /* The counter of an eventfd can't be full here. */
 static void tell(const struct journal_writer *s) {
     const uint64_t one = 1;
-    while (write(s->events, &one, sizeof one) < 0 && errno == EINTR)
-        ;
+    (void)TEMP_FAILURE_RETRY(write(s->events, &one, sizeof one));
 }
 
 /* Waits for an order, or looks at the file. */
 static void wait_for_order(struct journal_writer *s) {
     struct timespec end;
-    struct stat about;
-    bool cut;
     (void)clock_gettime(CLOCK_MONOTONIC, &end);
     end.tv_sec += LOOKS;
-    if (pthread_cond_timedwait(&s->changed, &s->lock, &end) != ETIMEDOUT || s->length_of_file < 0)
+    if (pthread_cond_timedwait(&s->changed, &s->lock, &end) != ETIMEDOUT || !s->looks)
         return;
     (void)pthread_mutex_unlock(&s->lock);
-    cut = fstat(s->file, &about) == 0 && about.st_size != s->length_of_file;
+    s->looks = !journal_is_cut(s->journal);
     (void)pthread_mutex_lock(&s->lock);
-    if (!cut)
+    if (s->looks)
         return;
-    s->length_of_file = -1;
     s->cut = true;
     tell(s);
 }
@@ -124,7 +107,6 @@ int journal_writer_open(struct journal_writer **s, struct journal *journal) {
     if (it == NULL)
         return failed(ENOMEM);
     it->journal = journal;
-    it->length_of_file = -1;
     it->events = eventfd(0, EFD_NONBLOCK | EFD_CLOEXEC);
     if (it->events < 0)
         return failed(errno);
@@ -161,14 +143,14 @@ int journal_writer_file(const struct journal_writer *s) {
 /* ---- Orders ---- */
 
 bool journal_writer_is_busy(const struct journal_writer *s) {
-    return s->length > 0;
+    return s->busy;
 }
 
-void journal_writer_order(struct journal_writer *s, const uint8_t *octets, size_t length, bool whole) {
+void journal_writer_order(struct journal_writer *s, size_t count, bool anew) {
     (void)pthread_mutex_lock(&s->lock);
-    s->octets = octets;
-    s->length = length;
-    s->whole = whole;
+    s->count = count;
+    s->anew = anew;
+    s->busy = true;
     if (s->runs) {
         s->state = ORDERED;
         (void)pthread_cond_broadcast(&s->changed);
@@ -191,7 +173,7 @@ bool journal_writer_is_done(struct journal_writer *s, struct saved *saved) {
     if (done) {
         *saved = s->saved;
         s->state = IDLE;
-        s->length = 0;
+        s->busy = false;
     }
     (void)pthread_mutex_unlock(&s->lock);
     saved->cut = cut;

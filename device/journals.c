@@ -12,6 +12,9 @@
 #define SUFFIX ".journal"
 #define FOLDER "/var/lib/macsec"
 
+/* Where a journal has its salt. */
+enum { SALT_AT = 16 };
+
 /* Network file systems that <linux/magic.h> of some systems lacks. */
 #define CIFS 0xff534d42UL
 #define SMB2 0xfe534d42UL
@@ -90,42 +93,26 @@ static int compare(const struct config *c, const char *path, const uint8_t *octe
 
 /* ---- The other journals ---- */
 
-/* Reads a journal. Returns its octets, which are to be freed, or NULL. */
-static uint8_t *read_file(const char *path, size_t *length) {
-    int file = open(path, O_RDONLY | O_CLOEXEC | O_NOFOLLOW | O_NONBLOCK | O_NOCTTY);
-    struct stat about;
-    uint8_t *octets = NULL;
-    *length = 0;
-    if (file >= 0 && fstat(file, &about) == 0 && S_ISREG(about.st_mode) && about.st_size <= (off_t)JOURNAL_MAX)
-        octets = malloc((size_t)about.st_size + 1);
-    for (ssize_t count = 1; octets != NULL && count > 0; *length += (size_t)count) {
-        count = TEMP_FAILURE_RETRY(read(file, octets + *length, (size_t)about.st_size - *length));
-        if (count < 0) {
-            free(octets);
-            octets = NULL;
-            count = 0;
-        }
-    }
-    if (file >= 0)
-        (void)close(file); /* it was only read */
-    return octets;
+/* Does the library begin with the octets of a file? Returns its status. */
+static uint32_t test_octets(const uint8_t *octets, size_t length) {
+    macsec_journal journal = MACSEC_JOURNAL_INIT;
+    uint32_t status = macsec_journal_begin(&journal, octets, length, NUMBERS_FILE_LENGTH);
+    macsec_journal_free(&journal);
+    return status;
 }
 
 static const char *fault_of_octets(const uint8_t *octets, size_t length) {
-    static char text[160];
-    uint8_t left[MACSEC_RECORD_LENGTH];
-    size_t record;
-    if (length < MACSEC_RECORD_LENGTH)
-        return "is too short for its header";
-    if (macsec_journal_compacted(octets, MACSEC_RECORD_LENGTH, left, &record) == MACSEC_E_NOT_JOURNAL)
+    switch (test_octets(octets, length)) {
+    case MACSEC_E_NOT_JOURNAL:
         return "is none, is of another version, or has a damaged header";
-    if (journal_find_damage(octets, length, &record) != MACSEC_OK || record == 0)
+    case MACSEC_E_JOURNAL_DAMAGED:
+        return "is damaged, so it does not say which packet numbers were used. Install new keys at both ends, move it "
+               "away, and create another";
+    case MACSEC_E_JOURNAL_FULL:
+        return "has too many names. Install new keys at both ends, move it away, and create another";
+    default:
         return NULL;
-    snprintf(text, sizeof text,
-             "has damage in record %zu, so it does not say which packet numbers were used. Install new keys at both "
-             "ends, move it away, and create another",
-             record);
-    return text;
+    }
 }
 
 /* What is wrong with the owner of a journal, or NULL. Started by root, macsecd becomes the user of its folder. */
@@ -158,26 +145,49 @@ const char *journals_fault(const char *path) {
         return "has another name too";
     if (about.st_size > (off_t)JOURNAL_MAX)
         return "is too long";
-    octets = read_file(path, &length);
+    octets = journal_read(file, &length);
     fault = octets == NULL ? NULL : fault_of_octets(octets, length);
     free(octets);
     return fault;
 }
 
-/* Compares with one journal. It can be written meanwhile: whole records are read. */
-static int compare_file(const struct config *c, const char *folder, const char *name) {
+const char *journals_fault(const char *path) {
+    int file = open(path, O_RDONLY | O_CLOEXEC | O_NOFOLLOW | O_NONBLOCK | O_NOCTTY);
+    const char *fault = file < 0 ? NULL : fault_of_file(file, path);
+    if (file >= 0)
+        (void)close(file); /* it was only read */
+    return fault;
+}
+
+/* Compares with the octets of a journal. An endpoint reads each valid record of a damaged one too, after a header. */
+static int compare_octets(const struct keys *k, const char *path, uint8_t *octets, size_t length) {
+    uint32_t status = test_octets(octets, length);
+    macsec_record header;
+    int result;
+    if (status == MACSEC_E_NOT_JOURNAL)
+        return 0;
+    (void)macsec_journal_header(octets + SALT_AT, &header); /* it always succeeds */
+    memcpy(octets, header.octets, sizeof header.octets);
+    result = compare(k, path, octets, length);
+    if (result == 0 && status == MACSEC_E_JOURNAL_DAMAGED)
+        message("%s is damaged, so not all its keys are compared", path);
+    return result;
+}
+
+/* Compares with one journal. It can be written meanwhile. */
+static int compare_file(const struct keys *k, const char *folder, const char *name) {
     char path[PATH_MAX];
     uint8_t *octets;
-    size_t length, record;
-    int result = 0;
+    size_t length;
+    int result = 0, file;
     if (snprintf(path, sizeof path, "%s/%s", folder, name) >= (int)sizeof path)
         return 0;
-    octets = read_file(path, &length);
+    file = open(path, O_RDONLY | O_CLOEXEC | O_NOFOLLOW | O_NONBLOCK | O_NOCTTY);
+    octets = file < 0 ? NULL : journal_read(file, &length);
     if (octets == NULL)
         message("%s can't be read, so keys are not compared with it", path);
-    else if ((result = compare(c, path, octets, length)) == 0 &&
-             journal_find_damage(octets, length, &record) == MACSEC_OK && record != 0)
-        message("%s has damage in record %zu, so not all its keys are compared", path, record);
+    else
+        result = compare_octets(k, path, octets, length);
     free(octets);
     return result;
 }

@@ -13,8 +13,8 @@ static int configure(struct device *d) {
     status = endpoint_configure(d, (const char *)d->config.text, d->config.length, &line);
     config_wipe(&d->config);
     port_open(d);
-    if (status == MACSEC_OK || status == MACSEC_E_NOT_JOURNAL || status == MACSEC_E_MEMORY)
-        return numbers_explain(status);
+    if (status == MACSEC_OK || status == MACSEC_E_MEMORY)
+        return status == MACSEC_OK ? 0 : message_of_memory();
     return message_wrong(
         "%s: line %u: %s%s", d->config.path, (unsigned)line, macsec_status_name(status),
         status == MACSEC_E_PN_FLOOR ? ": the key has no packet number left: install a new one at both ends" : "");

@@ -10,7 +10,7 @@
 #include <sys/mman.h>
 #include <sys/resource.h>
 
-/* Two endpoints have 38 MB, with blocks of up to 18.6 MB, and the longest journal has 20 MB. A block of two pieces or
+/* Two endpoints have 38 MB, with blocks of up to 18.6 MB, and the journal has up to 15 MB. A block of two pieces or
  * more would not be in the heap. */
 enum { PIECE = 16 << 20, PIECES = 6, STACK = 512 << 10 };
 

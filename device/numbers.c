@@ -1,13 +1,8 @@
 /* Packet numbers that outlive a run. The library decides what a frame may use and what the records are, names.c keeps
- * the latest record of each name, and journal_writer.c writes them. What is sent and what is received is reserved
+ * the durable record of each name, and journal_writer.c writes them. What is sent and what is received is reserved
  * ahead. A reservation counts once its record is durable. */
-#define _GNU_SOURCE
 #include "numbers.h"
 #include "frames.h"
-#include <errno.h>
-#include <stdio.h>
-#include <stdlib.h>
-#include <string.h>
 
 /* A reservation lasts for so many seconds at the highest rate so far. The next one is asked for when half of it is
  * left, and can wait for two synchronizations: one that is under way, and the next. Where they take longer than usual,
@@ -30,11 +25,6 @@ enum { FILLED = 50 };
 #define AMOUNT_MIN 65536
 #endif
 
-/* The octets of the file: it is written again when it has so many, unless its names need more. A test has fewer. */
-#ifndef NUMBERS_FILE_LENGTH
-#define NUMBERS_FILE_LENGTH ((size_t)1 << 17)
-#endif
-
 /* How many milliseconds an order may take when macsecd ends. */
 enum { LAST = 15000 };
 
@@ -44,10 +34,9 @@ struct numbers {
     struct receive_rates rates;
     struct journal_writer *writer;
     struct counts *counts;
-    uint64_t grants; /* how often a reservation of received packet numbers may have been reported */
-    bool begun;      /* may frames come now? */
-    uint8_t *octets; /* of the order */
-    size_t length, room;
+    uint64_t grants;               /* how often a reservation of received packet numbers may have been reported */
+    bool begun;                    /* may frames come now? */
+    macsec_record header;          /* of what an endpoint is made of */
     uint64_t orders, done;         /* how many orders were given, and were carried out */
     uint64_t amount;               /* of a reservation */
     uint64_t unseen;               /* frames sent since the reservations were looked at */
@@ -68,7 +57,7 @@ static struct numbers the_numbers;
 
 static void report(const char *what, const struct journal_fault *fault) {
     errno = fault->error;
-    message_of_errno("%s: %s%s%s", what, journal_step_name(fault->step), fault->status == MACSEC_OK ? "" : " ",
+    message_of_errno("%s: %s%s%s", what, fault->step, fault->status == MACSEC_OK ? "" : " ",
                      fault->status == MACSEC_OK ? "" : macsec_status_name(fault->status));
 }
 
@@ -79,17 +68,11 @@ int numbers_create(const char *name) {
         return ENDS_WRONG;
     if (journal_create(path, &fault) == 0)
         return 0;
-    if (fault.step == JOURNAL_RENAME && fault.error == EEXIST)
+    if (strcmp(fault.step, "rename") == 0 && fault.error == EEXIST)
         message("%s is there already, and stays: it has the packet numbers that were used", path);
     else
         report(path, &fault);
     return ENDS_FAILED;
-}
-
-int numbers_explain(uint32_t status) {
-    if (status == MACSEC_E_NOT_JOURNAL)
-        return message_wrong("the journal is none, one of another version, or its header is damaged");
-    return status == MACSEC_OK ? 0 : message_of_memory();
 }
 
 /* Says why the journal can't be used. Returns the exit status. */
@@ -98,7 +81,7 @@ static int explain(const char *path, const char *name, const struct journal_faul
     if (wrong != NULL)
         return message_wrong("the journal %s %s", path, wrong);
     report(path, fault);
-    if (fault->step != JOURNAL_OPEN || fault->error != ENOENT)
+    if (strcmp(fault->step, "open") != 0 || fault->error != ENOENT)
         return ENDS_FAILED;
     return message_wrong("if the keys of %s.conf were never used: macsecd --create-journal %s", name, name);
 }
@@ -106,19 +89,20 @@ static int explain(const char *path, const char *name, const struct journal_faul
 int numbers_open(struct numbers **n, const char *name, struct counts *counts) {
     char path[PATH_MAX];
     struct journal_fault fault;
-    int result;
+    size_t length;
     *n = &the_numbers;
     the_numbers.counts = counts;
     the_numbers.amount = AMOUNT_MIN;
     the_numbers.anew = true; /* as journal_open says */
     if (!journals_path(path, sizeof path, name))
         return ENDS_WRONG;
-    if (journal_open(&the_numbers.journal, path, NUMBERS_FILE_LENGTH, &fault) == 0) {
-        result =
-            numbers_explain(names_read(&the_numbers.names, the_numbers.journal.octets, the_numbers.journal.length));
-        return result == 0 ? journal_writer_open(&the_numbers.writer, &the_numbers.journal) : result;
-    }
-    return explain(path, name, &fault);
+    if (journal_open(&the_numbers.journal, path, NUMBERS_FILE_LENGTH, &fault) != 0)
+        return explain(path, name, &fault);
+    if (!names_read(&the_numbers.names, &the_numbers.journal.machine, the_numbers.journal.room))
+        return message_of_memory();
+    (void)journal_whole(&the_numbers.journal, (uint8_t *)the_numbers.journal.records, &length);
+    the_numbers.header = the_numbers.journal.records[0];
+    return journal_writer_open(&the_numbers.writer, &the_numbers.journal);
 }
 
 int numbers_folder(const struct numbers *n) {
@@ -134,11 +118,12 @@ uint64_t numbers_grants(const struct numbers *n) {
 }
 
 size_t numbers_names(const struct numbers *n) {
-    return names_count(&n->names);
+    return n->names.count;
 }
 
+/* The rest of the file is for what is appended, and for the names of an order. */
 size_t numbers_names_max(void) {
-    return JOURNAL_MAX / 2 / MACSEC_RECORD_LENGTH - 1 - KEPT_NAMES;
+    return NUMBERS_FILE_LENGTH / MACSEC_RECORD_LENGTH / 8 * 7;
 }
 
 /* ---- Orders ---- */
@@ -151,47 +136,23 @@ static void note_failure(struct numbers *n, const struct journal_fault *fault) {
     n->failed = n->waits = n->anew = true;
 }
 
-static bool fails_for_memory(struct numbers *n) {
-    const struct journal_fault fault = { JOURNAL_MEMORY, ENOMEM, MACSEC_OK, 0 };
-    note_failure(n, &fault);
-    return false;
-}
-
-/* Makes room for the octets of an order, and in the journal. */
-static bool make_room(struct numbers *n, bool whole) {
-    struct journal_fault fault;
-    size_t length = whole ? names_room(&n->names) : names_change_room(&n->names);
-    if (length > n->room) {
-        uint8_t *grown = realloc(n->octets, 2 * length);
-        if (grown == NULL)
-            return fails_for_memory(n);
-        n->octets = grown;
-        n->room = 2 * length;
-    }
-    if (!whole || journal_make_room(&n->journal, length, &fault) == 0)
-        return true;
+static bool fails_for_room(struct numbers *n) {
+    const struct journal_fault fault = { "names", EFBIG, MACSEC_OK };
     note_failure(n, &fault);
     return false;
 }
 
 /* Gives an order, if there is something to be written and none is under way. */
 static void order(struct numbers *n) {
-    bool whole;
-    if (n->waits || journal_writer_is_busy(n->writer) || (n->names.changed_count == 0 && !n->anew))
+    size_t count;
+    if (n->waits || journal_writer_is_busy(n->writer) || (n->names.changes == 0 && !n->anew))
         return;
-    whole = n->anew || n->journal.length + names_change_room(&n->names) + JOURNAL_FILL > n->journal.room;
-    if (!make_room(n, whole))
-        return;
-    n->length = whole ? names_all(&n->names, n->octets) : names_changes(&n->names, n->octets);
-    if (n->length == 0)
+    count = names_changes(&n->names, &n->journal.machine, n->journal.records, n->journal.room);
+    if (count == 0 && !n->anew)
         return;
     n->orders++;
     n->ticks = 0;
-    journal_writer_order(n->writer, n->octets, n->length, whole);
-}
-
-static void grant(void *endpoint, const macsec_record *record) {
-    (void)macsec_reserve_granted(endpoint, record); /* without an endpoint it does nothing */
+    journal_writer_order(n->writer, count, n->anew);
 }
 
 /* Notes how long the disk takes. */
@@ -219,7 +180,7 @@ static bool take_result(struct numbers *n, macsec_endpoint *e) {
     struct saved saved;
     if (!journal_writer_is_done(n->writer, &saved))
         return saved.cut && note_cut(n);
-    if (!saved.good && saved.fault.step == JOURNAL_LENGTH && saved.fault.error == ESTALE)
+    if (!saved.good && saved.fault.error == ENODATA)
         return note_cut(n);
     n->done = n->orders;
     note_seconds(n, saved.seconds);
@@ -227,7 +188,7 @@ static bool take_result(struct numbers *n, macsec_endpoint *e) {
         note_failure(n, &saved.fault);
         return true;
     }
-    names_written(&n->names, n->octets, n->length, grant, e);
+    names_written(&n->names, n->journal.records, n->journal.count, e);
     n->grants++;
     if (n->failed)
         message("the journal can be written again");
@@ -238,13 +199,13 @@ static bool take_result(struct numbers *n, macsec_endpoint *e) {
 void numbers_go_on(struct numbers *n, macsec_endpoint *e) {
     do
         order(n);
-    while (take_result(n, e) && !n->waits && (n->names.changed_count > 0 || n->anew));
-    if (n->begun && n->names.changed_count == 0 && !n->anew && !journal_writer_is_busy(n->writer))
+    while (take_result(n, e) && !n->waits && (n->names.changes > 0 || n->anew));
+    if (n->begun && n->names.changes == 0 && !n->anew && !journal_writer_is_busy(n->writer))
         journals_unlock(); /* a NAME that compares now sees the first records */
 }
 
 uint64_t numbers_ticket(const struct numbers *n) {
-    return n->orders + (n->names.changed_count > 0 || n->anew);
+    return n->orders + (n->names.changes > 0 || n->anew);
 }
 
 bool numbers_is_written(const struct numbers *n, uint64_t ticket) {
@@ -263,13 +224,13 @@ static void reserve_for(struct numbers *n, macsec_endpoint *e, uint8_t an) {
         return;
     name = names_find(&n->names, record.octets);
     if (name != NULL && name->is_durable) {
-        grant(e, &name->durable);
+        (void)macsec_reserve_granted(e, &name->durable);     /* it is a record */
         (void)names_note(&n->names, &name->durable, sa.key); /* as in accept_for */
         if (macsec_reserve_wanted(e, an, n->amount, &record) != MACSEC_OK)
             return;
     }
     if (names_note(&n->names, &record, sa.key) == NULL)
-        (void)fails_for_memory(n);
+        (void)fails_for_room(n);
 }
 
 void numbers_reserve(struct numbers *n, macsec_endpoint *e) {
@@ -307,13 +268,13 @@ static bool accept_for(struct numbers *n, macsec_endpoint *e, const uint8_t sci[
         return false;
     name = names_find(&n->names, record.octets);
     if (name != NULL && name->is_durable && (names_cover(name, &record) || !may_accept(e, sci, an))) {
-        grant(e, &name->durable);
+        (void)macsec_reserve_granted(e, &name->durable); /* it is a record */
         n->grants++;
         (void)names_note(&n->names, &name->durable, sa.key); /* its key is installed: it is not given up */
         if (macsec_reserve_to_accept(e, sci, an, amount, pn, &record) != MACSEC_OK)
             return false;
     }
-    return names_note(&n->names, &record, sa.key) != NULL || fails_for_memory(n);
+    return names_note(&n->names, &record, sa.key) != NULL || fails_for_room(n);
 }
 
 /* Reserves for all receive associations, as soon as frames may come. */
@@ -447,7 +408,7 @@ static void write_last(struct numbers *n, macsec_endpoint *e) {
         journal_writer_wait(n->writer, LAST);
         n->waits = false;
         numbers_go_on(n, e);
-        if (!journal_writer_is_busy(n->writer) && n->names.changed_count == 0 && !n->anew)
+        if (!journal_writer_is_busy(n->writer) && n->names.changes == 0 && !n->anew)
             return;
     }
 }
@@ -458,7 +419,6 @@ void numbers_close(struct numbers *n, macsec_endpoint *e) {
     write_last(n, e);
     if (journal_writer_close(n->writer)) {
         journal_close(&n->journal);
-        free(n->octets);
     }
     names_free(&n->names);
 }
@@ -466,18 +426,20 @@ void numbers_close(struct numbers *n, macsec_endpoint *e) {
 /* ---- Creating an endpoint ---- */
 
 uint32_t numbers_configure_empty(const struct numbers *n, macsec_endpoint *e, const macsec_config *config) {
-    return macsec_reserve_open(e, config, n->names.header, sizeof n->names.header, false);
+    return macsec_reserve_open(e, config, n->header.octets, sizeof n->header.octets, false);
 }
 
-uint32_t numbers_configure(const struct numbers *n, macsec_endpoint *e, const macsec_config *config,
+uint32_t numbers_configure(struct numbers *n, macsec_endpoint *e, const macsec_config *config,
                            const macsec_record *instead, size_t count) {
-    size_t octets = names_copy_room(&n->names);
-    uint8_t *journal = malloc(octets);
+    uint8_t *journal = malloc(n->journal.limit);
+    size_t length = 0;
     uint32_t status;
     if (journal == NULL)
         return MACSEC_E_MEMORY;
-    octets = names_copy(&n->names, instead, count, journal);
-    status = macsec_reserve_open(e, config, journal, octets, true);
+    status = journal_whole(&n->journal, journal, &length);
+    names_put(&n->names, instead, count, journal, length);
+    if (status == MACSEC_OK)
+        status = macsec_reserve_open(e, config, journal, length, true);
     free(journal);
     return status;
 }

@@ -9,6 +9,11 @@
 struct config;
 struct counts;
 
+/* The most octets of the file. A test has fewer. */
+#ifndef NUMBERS_FILE_LENGTH
+#define NUMBERS_FILE_LENGTH ((size_t)1 << 21)
+#endif
+
 /* ---- names.c: the names in the journal, and their records ---- */
 
 /* The octets of a name; the number of no key; and how many names of keys that were given up stay in the journal. */
@@ -16,41 +21,35 @@ enum { NAME = 32, NO_KEY = MACSEC_KEY_COUNT, KEPT_NAMES = 256 };
 
 struct name {
     macsec_record made;    /* the record with the greatest packet number: durable, being written, or to be written */
-    macsec_record durable; /* the durable one, and its packet number */
-    uint64_t durable_last;
+    macsec_record durable; /* the durable one */
     /* What a receive association has accepted, where more is reserved: of that record what follows the name. */
     uint8_t accepted[MACSEC_RECORD_LENGTH - NAME];
-    uint64_t given_up; /* at which turn its key was given up; 0: it was not */
+    uint64_t note;     /* the number of the note about it; 0: it was never given up */
     uint32_t key;      /* the key's number in the endpoint, or NO_KEY */
     bool is_durable;   /* is there a durable record? */
     bool has_accepted; /* is it known what was accepted? */
     bool came_again;   /* was the name in the journal before the key was installed? Then that may happen again */
-    bool again;        /* is the record to be written again, after a mark? */
-    bool marked;       /* is the mark durable? */
+    bool notes;        /* is the note to be written? */
     bool changed;      /* is it among the changed names? */
+    bool leaves;       /* is it to be removed? */
 };
 
 struct names {
-    uint8_t header[MACSEC_RECORD_LENGTH];
     struct name *at;
     size_t count, room;
-    uint32_t *slots; /* of the hash table: 0, or 1 more than the index of a name */
-    size_t slot_count;
-    uint32_t *changed; /* the indices of names with something to be written */
-    size_t changed_count;
+    uint32_t *slots;   /* of the hash table: 0, or 1 more than the index of a name */
+    size_t changes;    /* how many names have something to be written */
     uint64_t given_up; /* how many names were given up */
 };
 
-/* Reads the octets of a journal. Returns the library's status. */
-uint32_t names_read(struct names *n, const uint8_t *octets, size_t length);
+/* Takes the names of a journal that has room for so many. Returns false if memory runs out. */
+bool names_read(struct names *n, macsec_journal *journal, size_t room);
 /* The name in a record, or NULL if it is new. It is valid until the next call that adds or removes names. */
 struct name *names_find(const struct names *n, const uint8_t *record);
-/* The greatest packet number in the records of a name. */
-uint64_t names_last(const struct name *name);
 /* Does a durable record of this name reserve as much? */
 bool names_cover(const struct name *name, const macsec_record *record);
 /* Notes a record that the library has made for a key of this number. It is written later if it says something new.
- * Returns its name, or NULL if memory runs out. */
+ * Returns its name, or NULL if there is no room for it. */
 struct name *names_note(struct names *n, const macsec_record *record, uint32_t key);
 /* Notes what a receive association has accepted, where more is reserved. */
 void names_accept(struct names *n, const macsec_record *record);
@@ -58,24 +57,14 @@ void names_accept(struct names *n, const macsec_record *record);
 void names_give_up(struct names *n, uint32_t key);
 /* The number of this key, or of all keys if it is NO_KEY, will be given to another key: names forget it. */
 void names_detach(struct names *n, uint32_t key);
-/* Writes the records that have changed to a buffer. Returns their length, which is at most names_change_room. */
-size_t names_changes(struct names *n, uint8_t *out);
-size_t names_change_room(const struct names *n);
-/* Writes the whole journal, without the names that may leave it, to a buffer. Returns its length, which is at most
- * names_room. */
-size_t names_all(struct names *n, uint8_t *out);
-size_t names_room(const struct names *n);
-/* How many names stay in the journal. */
-size_t names_count(const struct names *n);
-/* Writes the header and the greatest record of each name, for another endpoint of this run. A name that one of
- * these records has gets that record instead. A name of a receive association gets the number up to which the
- * association has accepted. */
-size_t names_copy(const struct names *n, const macsec_record *instead, size_t count, uint8_t *out);
-size_t names_copy_room(const struct names *n);
-/* Notes that octets which names_changes or names_all has written are durable. Reports the records that reserve
- * something new. */
-void names_written(struct names *n, const uint8_t *records, size_t length,
-                   void (*report)(void *context, const macsec_record *record), void *context);
+/* Takes the records that have changed, as many as there is room for, and lets names go. Returns how many. No order may
+ * be under way. */
+size_t names_changes(struct names *n, macsec_journal *journal, macsec_record *out, size_t room);
+/* Changes what an endpoint is made of for another endpoint of this run. A name that one of these records has gets that
+ * record. A name of a receive association gets the number up to which the association has accepted. */
+void names_put(const struct names *n, const macsec_record *instead, size_t count, uint8_t *octets, size_t length);
+/* Notes that these records are durable. Reports those that reserve something new to the endpoint. */
+void names_written(struct names *n, const macsec_record *records, size_t count, macsec_endpoint *e);
 void names_free(struct names *n);
 
 /* ---- receive_rates.c: how many packet numbers to reserve ahead of receiving ---- */
@@ -127,8 +116,8 @@ int journal_writer_start(struct journal_writer *s);
 int journal_writer_file(const struct journal_writer *s);
 /* Is an order under way? */
 bool journal_writer_is_busy(const struct journal_writer *s);
-/* Orders that octets be appended to the journal, or be the whole journal. They stay as they are until it is done. */
-void journal_writer_order(struct journal_writer *s, const uint8_t *octets, size_t length, bool whole);
+/* Orders that so many `records` of the journal be written (journal_write). */
+void journal_writer_order(struct journal_writer *s, size_t count, bool anew);
 /* Has the order been carried out? Then the writer has none any more. Of `saved`, `cut` is filled in always. */
 bool journal_writer_is_done(struct journal_writer *s, struct saved *saved);
 /* Waits until the order has been carried out, at most so many milliseconds. */
@@ -144,8 +133,6 @@ struct numbers;
 int numbers_create(const char *name);
 /* Opens the journal of this name. Returns 0, or the exit status after a message. */
 int numbers_open(struct numbers **n, const char *name, struct counts *counts);
-/* The exit status for a status of the library about the journal, after a message unless it is MACSEC_OK. */
-int numbers_explain(uint32_t status);
 /* Frames may come from now on: makes all reservations. This waits for the disk, and so do calls before it. */
 void numbers_begin(struct numbers *n, macsec_endpoint *e);
 /* Does what numbers_begin does, and starts the thread that writes the journal. Returns 0, or the exit status after a
@@ -158,7 +145,7 @@ int numbers_file(const struct numbers *n);
 void numbers_go_on(struct numbers *n, macsec_endpoint *e);
 /* Creates an endpoint with a copy of the journal, in which these records replace the ones of the same names. What
  * numbers_note_accepted has noted replaces what is reserved for receive associations. Returns the library's status. */
-uint32_t numbers_configure(const struct numbers *n, macsec_endpoint *e, const macsec_config *config,
+uint32_t numbers_configure(struct numbers *n, macsec_endpoint *e, const macsec_config *config,
                            const macsec_record *instead, size_t count);
 /* Creates an endpoint with a journal that reserves nothing. Such an endpoint sends and receives nothing. */
 uint32_t numbers_configure_empty(const struct numbers *n, macsec_endpoint *e, const macsec_config *config);

@@ -17,7 +17,6 @@
 #include "journal.h"
 #include "../../tests/library/suites.h"
 #include "journal_end.h"
-#include <errno.h>
 #include <inttypes.h>
 
 enum { HELD = 16 };
@@ -31,7 +30,7 @@ static int out;
 static uint64_t amount, passed, dropped, failures;
 
 static void print_fault(const char *what, const struct journal_fault *fault) {
-    fprintf(stderr, "journal: %s: %s: %s", what, journal_step_name(fault->step), strerror(fault->error));
+    fprintf(stderr, "journal: %s: %s: %s", what, fault->step, strerror(fault->error));
     if (fault->status != MACSEC_OK)
         fprintf(stderr, " (%s)", macsec_status_name(fault->status));
     fprintf(stderr, "\n");
@@ -82,14 +81,17 @@ static bool next_frame(FILE *file, uint8_t *frame, size_t *length) {
 /* Opens the journal and creates the endpoint with its keys, of the arguments JOURNAL, LIMIT and SUITE. Key and
  * association have the same number. */
 static void begin(const uint8_t *sci, bool ahead, char **words) {
+    static uint8_t octets[JOURNAL_MAX];
     macsec_config config = { { 0 }, (uint32_t)number_of(words[2]), MACSEC_FORM_SCI, 1600 };
     struct journal_fault fault;
-    if (journal_open(&journal, words[0], (size_t)number_of(words[1]), &fault) != 0) {
+    size_t length = 0;
+    if (journal_open(&journal, words[0], (uint32_t)number_of(words[1]), &fault) != 0) {
         print_fault("open", &fault);
         exit(3);
     }
     memcpy(config.sci, sci, sizeof config.sci);
-    must("reserve_open", macsec_reserve_open(&e, &config, journal.octets, journal.length, ahead));
+    must("whole", journal_whole(&journal, octets, &length));
+    must("reserve_open", macsec_reserve_open(&e, &config, octets, length, ahead));
     for (uint16_t it = 0; it < KEYS; it++) {
         macsec_sak key = { { 0 }, { 0 }, sci[5], MACSEC_SUITE_DEFAULT, it, suite_key_octets(config.suite), 0 };
         memset(key.bytes, 0xa0 + it, sizeof key.bytes); /* only for this test */
@@ -125,27 +127,13 @@ static int end(const char *what) {
 
 /* ---- Records ---- */
 
-/* Writes the journal again, with one record for each name, if its file is in doubt or full. */
-static int write_again(struct journal_fault *fault) {
-    static uint8_t octets[JOURNAL_MAX];
-    size_t length = 0;
-    uint32_t status;
-    if (!journal.in_doubt && journal.length + MACSEC_RECORD_LENGTH + JOURNAL_FILL <= journal.room)
-        return 0;
-    status = macsec_journal_compacted(journal.octets, journal.length, octets, &length);
-    *fault = (struct journal_fault){ JOURNAL_LIBRARY, EINVAL, status, 0 };
-    if (status != MACSEC_OK || journal_make_room(&journal, length, fault) != 0)
-        return -1;
-    return journal_replace(&journal, octets, length, fault);
-}
-
 /* Makes a record durable, and then reports it, if the library's call of this status has made one. */
 static bool keep(uint32_t status, const macsec_record *record) {
     struct journal_fault fault;
     if (status == MACSEC_E_NOT_FOUND)
         return true;
     must("record", status);
-    if (write_again(&fault) != 0 || journal_append_all(&journal, record->octets, sizeof record->octets, &fault) != 0) {
+    if (journal_write(&journal, record, 1, false, &fault) != 0) {
         if (failures++ == 0)
             print_fault("append", &fault);
         return false;

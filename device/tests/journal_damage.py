@@ -1,5 +1,5 @@
-"""Journals that are damaged between two runs, or cut while a process has them. The next run refuses the journal, or repeats
-nothing."""
+"""Journals that are damaged between two runs, or cut while a process has them. The next run refuses the journal, or
+repeats nothing."""
 
 from __future__ import annotations
 
@@ -15,8 +15,8 @@ from typing import NamedTuple
 import journal_runs as runs
 from house.reporting import MANY, report, until, wrong
 
-# What a refused journal is said to have: a damaged record, or a damaged header.
-REFUSALS = "damage in record", "record: Bad message", "header is damaged", "NotJournal"
+# What is said of a journal that is refused.
+REFUSALS = "is damaged", "JournalDamaged", "damaged header", "NotJournal"
 
 
 class Made(NamedTuple):
@@ -25,7 +25,6 @@ class Made(NamedTuple):
     program: pathlib.Path
     kind: str
     octets: bytes
-    length: int  # how many of them are before what was appended last
     frames: set[runs.Frame]
 
 
@@ -44,27 +43,29 @@ def make(options: runs.Options, numbers: pathlib.Path, number: int) -> Made:
     with runs.work_folder() as folder:
         runs.run(program, ["create", str(folder / "journal")])
         # The last run may be killed, also once its first new file has the name.
-        killed = rng.choice(("", f"any:{rng.randrange(12, 60)}:1:stop", "fsync:3:1:stop"))
+        killed = rng.choice(("", f"any:{rng.randrange(12, 60)}:1:stop", "fsync:2:1:stop"))
         for faults in [""] * rng.randrange(1, 3) + [killed]:
-            count, limit = rng.randrange(1, 9 if kind == "agree" else 60), rng.choice((4096, 1 << 16))
+            count, limit = rng.randrange(1, 9 if kind == "agree" else 60), rng.choice((8192, 1 << 16))
             env = {"LD_PRELOAD": str(options.disk), "FAULTS": faults}
             (folder / "capture").unlink(missing_ok=True)
             runs.run(program, words_of(kind, folder, limit, count), env)
             runs.add_new(frames, runs.frames_of(folder / "capture"), f"journal {number}")
-        octets = (folder / "journal").read_bytes()
-        return Made(program, kind, octets, len(octets) - (0 if "fsync" in killed else runs.SECTOR), frames)
+        return Made(program, kind, (folder / "journal").read_bytes(), frames)
 
 
 def damage(made: Made, rng: random.Random) -> bool:
-    """Changes an octet before what was appended last, and lets a run begin. Is the journal refused?"""
-    octets, is_new = bytearray(made.octets), made.length == len(made.octets)
-    at = rng.randrange(made.length - runs.SECTOR if is_new and rng.random() < 0.5 else 0, made.length)
-    octets[at] ^= rng.randrange(1, 256)
+    """Changes an octet, or all that follow on it in its sector, and lets a run begin. Is the journal refused? Most
+    octets of a journal fill a sector, so half of the changes are among the first of one."""
+    octets = bytearray(made.octets)
+    at = rng.randrange(len(octets))
+    at -= at % runs.SECTOR // 128 * 128 if rng.random() < 0.5 else 0
+    length = rng.choice((1, min(len(octets), at // runs.SECTOR * runs.SECTOR + runs.SECTOR) - at))
+    octets[at : at + length] = bytes(it ^ rng.randrange(1, 256) for it in octets[at : at + length])
     with runs.work_folder() as folder:
         (folder / "journal").write_bytes(octets)
         ended = runs.run(made.program, words_of(made.kind, folder, 1 << 16, 8))
         frames = runs.frames_of(folder / "capture")
-    what = f"octet {at} of {len(octets)} is damaged ({made.program.name} {made.kind})"
+    what = f"octets {at} to {at + length} of {len(octets)} are damaged ({made.program.name} {made.kind})"
     refused = ended.status != 0
     report(not refused or any(it in ended.error for it in REFUSALS), f"{what}: {ended}")
     report(not frames if refused else made.frames.isdisjoint(frames), f"{what}: frames again: {ended}")
@@ -73,8 +74,8 @@ def damage(made: Made, rng: random.Random) -> bool:
 
 def cut(program: pathlib.Path, rng: random.Random) -> bool:
     """Cuts the journal of a process, which goes on, and is killed some time after it has written to it again. Was it
-    written as a whole? A journal that is cut in the moment of an append has a hole then, and the next run refuses it.
-    """
+    written as a whole? A journal that is cut in the moment of an append has a hole then, and the next run may refuse
+    it."""
     what = f"a journal that was cut ({program.name})"
     with runs.work_folder() as folder:
         journal, capture = folder / "journal", folder / "capture"
@@ -85,8 +86,9 @@ def cut(program: pathlib.Path, rng: random.Random) -> bool:
             length = rng.randrange(journal.stat().st_size)
             os.truncate(journal, length)
             inode = journal.stat().st_ino
-            report(until(lambda: journal.stat().st_size > length), f"{what} is not written again")
-            noticed = journal.stat().st_ino != inode
+            is_other = lambda: journal.stat().st_ino != inode
+            report(until(lambda: is_other() or journal.stat().st_size > length), f"{what} is not written again")
+            noticed = is_other()
             time.sleep(rng.uniform(0, 0.02))
             process.kill()
         seen = set(runs.frames_of(capture))

@@ -39,7 +39,7 @@ class Runs:
 
     def start_sender(self, capture: pathlib.Path) -> subprocess.Popen[bytes]:
         """Starts a sender, which does not end."""
-        return self.start(runs.send_words(self.folder / "sender", capture, 8192, AMOUNT, 0, self.suite))
+        return self.start(runs.send_words(self.folder / "sender", capture, 8 * runs.SECTOR, AMOUNT, 0, self.suite))
 
     def killed(self, process: subprocess.Popen[bytes]) -> None:
         """Waits for a run that was killed."""

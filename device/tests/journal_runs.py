@@ -19,7 +19,7 @@ from house.compiling import INCLUDED, SANITIZED, WARNINGS
 from house.reporting import report
 
 FLAGS = [*WARNINGS, "-O2", *INCLUDED, "-I", f"{ROOT}/device"]
-RECORD, SECTOR = 64, 512
+RECORD, SECTOR = 64, 4096
 ANS = (0, 1)
 SENDER = bytes.fromhex("0200000000010001")
 SECONDS = 60
@@ -116,14 +116,14 @@ def send_words(
 
 def receive_words(journal: pathlib.Path, out: pathlib.Path, captures: list[pathlib.Path], suite: int = 1) -> list[str]:
     """The arguments of a receiver."""
-    return ["receive", str(journal), "8192", str(suite), str(out), *map(str, captures)]
+    return ["receive", str(journal), str(8 * SECTOR), str(suite), str(out), *map(str, captures)]
 
 
 def accept_words(
     journal: pathlib.Path, out: pathlib.Path, prefix: pathlib.Path, count: int, amount: int, suite: int = 1
 ) -> list[str]:
     """The arguments of a receiver that reserves ahead."""
-    return ["accept", str(journal), "8192", str(suite), str(amount), str(out), str(prefix), str(count)]
+    return ["accept", str(journal), str(8 * SECTOR), str(suite), str(amount), str(out), str(prefix), str(count)]
 
 
 # ---- Captures and journals
@@ -153,9 +153,16 @@ def is_record(octets: bytes) -> bool:
     return octets[40:] == hashlib.sha256(b"macsec reserve: check" + octets[:40]).digest()[:24]
 
 
+def earlier_header(octets: bytes) -> bytes:
+    """The header of the earlier form, without a count of the records, for the salt of a journal."""
+    header = b"macsec journal 1" + octets[16:40]
+    return header + hashlib.sha256(b"macsec reserve: header" + header).digest()[:24]
+
+
 def records_of(octets: bytes) -> list[tuple[bytes, int]]:
-    """The name and the number of each record of a journal."""
-    places = (octets[at : at + RECORD] for at in range(RECORD, len(octets) - RECORD + 1, RECORD))
+    """The name and the number of each record of a journal, which follow on a header and a count."""
+    front = RECORD if octets.startswith(b"macsec journal 1") else 2 * RECORD
+    places = (octets[at : at + RECORD] for at in range(front, len(octets) - RECORD + 1, RECORD))
     return [(it[:32], int.from_bytes(it[32:40], "big")) for it in places if is_record(it)]
 
 
@@ -193,7 +200,7 @@ Words = Callable[[pathlib.Path, int], list[str]]
 class Chain:
     """Runs of a sender one after another on the disk of journal_disk.c, with a power failure after each."""
 
-    LIMIT, AMOUNT, FRAMES = 3072, 8, 48
+    LIMIT, AMOUNT, FRAMES = 5 * SECTOR, 8, 48  # two records are appended between two new files
 
     def __init__(self, options: Options, start: bytes, names: list[bytes], what: str) -> None:
         self.options, self.names, self.what = options, names, what
@@ -229,10 +236,10 @@ class Chain:
 
     def send(self, faults: str, after: After, before: str | None = None, **more: str) -> Ended:
         """Runs the sender, with more variables in its environment. With the faults `before` another one runs first, and
-        the power stays on. Then this one need not write the journal again."""
+        the power stays on. Then the journal of this one may be longer."""
 
         def words(folder: pathlib.Path, number: int) -> list[str]:
-            sizes = (self.LIMIT << 10 * number, self.AMOUNT, self.FRAMES)
+            sizes = (self.LIMIT << 3 * number, self.AMOUNT, self.FRAMES)
             return send_words(folder / "files/journal", folder / "capture", *sizes)
 
         return self.run([faults] if before is None else [before, faults], words, after, **more)

@@ -4,6 +4,7 @@ from __future__ import annotations
 
 import os
 import pathlib
+import random
 import re
 
 from house import ROOT
@@ -140,17 +141,16 @@ def check_journal(end: End, text: str) -> None:
 def check_octets(end: End, journal: pathlib.Path) -> None:
     """Journals with which macsecd does not start."""
     octets = journal.read_bytes()
-    header, mark = octets[:64], bytes(40) + b"macsec journal: given up"
     for text, each in (
-        ("is too short", octets[:63]),
-        ("is too long", octets + bytes(1 << 22)),
+        ("is none", octets[:63]),
         ("is none", b"\0" + octets[1:]),
-        ("has damage in record 1,", header + bytes(512)),
-        ("has damage in record 2,", header + mark + bytes(39) + b"x" + mark[40:] + 6 * mark),
+        ("is too long", octets + bytes(1 << 22)),
+        ("is damaged", octets[:127]),
+        ("is damaged", octets[:64] + bytes(512)),
     ):
         journal.write_bytes(each)
         check_journal(end, text)
-    journal.write_bytes(header + 7 * mark + bytes(512))
+    journal.write_bytes(octets + bytes(512) + random.randbytes(5000))
     report(run(end) == (0, []), f"a journal of which a crash has torn the last records: {run(end)}")
     journal.write_bytes(octets)
     other = journal.with_suffix(".other")

@@ -22,7 +22,7 @@ KEYS = 4096
 MANY = 1000
 
 # Octets that are enough for one endpoint without workers, and too few for two.
-MEMORY = 34 << 20
+MEMORY = 50 << 20
 
 
 @contextlib.contextmanager

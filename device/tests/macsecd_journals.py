@@ -1,5 +1,5 @@
-"""The journals of a host: where they are, on which file systems, keys that are in two of them, and journals that are cut
-while macsecd runs."""
+"""The journals of a host: where they are, on which file systems, keys that are in two of them, and journals that are
+cut while macsecd runs."""
 
 from __future__ import annotations
 
@@ -79,7 +79,7 @@ def check_keys(a: End, b: End, cuts: int) -> None:
     own.unlink()
     a.run_program("--create-journal", "macsec0")
     expect(a, "a new journal beside one with the key", 2, text)
-    report(len(own.read_bytes()) == 64, "a refused start has written to the journal")
+    report(len(own.read_bytes()) == 128, "a refused start has written to the journal")
     # In the same folder, as without a service manager.
     other.rename(own.parent / "other0.journal")
     expect(a, "a key of another journal in the folder", 2, "key 0 has packet numbers in")
@@ -92,15 +92,16 @@ def check_keys(a: End, b: End, cuts: int) -> None:
     (other.parent / "link.journal").symlink_to(own)
     (other.parent / "long.journal").write_bytes(bytes(5 << 20))
     os.mkfifo(other.parent / "fifo.journal")
-    (other.parent / "damaged.journal").write_bytes(used[:64] + bytes(64) + used[-512:])
+    (other.parent / "damaged.journal").write_bytes(used[:64] + bytes(64))
     try_start(a, "other files and journals", other, b)
-    for text in ("fifo.journal can't be read", "damaged.journal has damage in record 1"):
+    for text in ("fifo.journal can't be read", "damaged.journal is damaged"):
         report(text in a.log(), f"no message of a journal that {text}: {a.log()}")
     check_cut(a, cuts)
 
 
 def check_cut(a: End, cuts: int) -> None:
-    """A journal that is cut while macsecd runs is written again, without a new record too. So the next run begins above."""
+    """A journal that is cut while macsecd runs is written again, without a new record too. So the next run begins
+    above."""
     journal = a.folder / "state/macsec0/macsec0.journal"
     for number in range(cuts):
         a.start()

@@ -22,8 +22,9 @@ from typing import NamedTuple
 from house import ROOT
 from house.compiling import INCLUDED, WARNINGS
 from house.reporting import call, report, until
+from journal_runs import earlier_header
 from macsecd_handover import dropped, next_of
-from macsecd_world import Background, Client, End, Packets, Stream, World, build, hand_over_lines
+from macsecd_world import Background, Client, End, Packets, Stream, World, build, expect, hand_over_lines
 
 CHANNELS = 64
 
@@ -353,7 +354,7 @@ def check_many_keys(world: World, sender: pathlib.Path, keys: int, longest: floa
     # The names of the last 256 keys that were given up stay, and the names of the keys in use.
     names = shown["journal_names"]
     report(256 <= names < 300, f"keys: the journal has {names} names after {keys} keys")
-    report(size <= 1 << 17, f"keys: the journal has {size} octets after {keys} keys")
+    report(size <= 1 << 21, f"keys: the journal has {size} octets after {keys} keys")
     report(lacked == 0, f"keys: {lacked} frames lacked a reservation")
     client.close()
     a.stop(signal.SIGKILL)
@@ -461,12 +462,15 @@ def record(number: int) -> bytes:
 
 
 def check_fill(world: World) -> None:
-    """A journal that is half full, and one that is full."""
+    """A journal that is half full, one that is full, and one with more names than a journal can have. They have the
+    earlier form, which needs no count."""
     world.prepare()
     a = world.ends[0]
     journal = a.journal
-    header = journal.read_bytes()[:64]
-    for names, text in ((16000, ""), (16500, "is full to 50 percent"), (33000, "File too large")):
+    header = earlier_header(journal.read_bytes())
+    journal.write_bytes(header + b"".join(record(5) for _ in range(32768)))
+    expect(a, "fill: too many names", 2, "has too many names")
+    for names, text in ((14200, ""), (14400, "is full to 50 percent"), (32766, "File too large")):
         journal.write_bytes(header + b"".join(record(5) for _ in range(names)))
         log = len(a.log()) if (a.folder / "log").exists() else 0
         a.start()
@@ -476,5 +480,5 @@ def check_fill(world: World) -> None:
         shown = json.loads(a.ask("json"))
         report(names <= shown["journal_names"] <= names + 2, f"fill: {names} names: {shown['journal_names']}")
         gauge = f'macsec_journal_names{{device="macsec0"}} {shown["journal_names"]}\n'
-        report(gauge in a.ask("metrics") and shown["journal_names_max"] == 32511, f"fill: no gauge {gauge}")
+        report(gauge in a.ask("metrics") and shown["journal_names_max"] == 28672, f"fill: no gauge {gauge}")
         a.stop(signal.SIGKILL)

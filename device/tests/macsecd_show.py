@@ -62,7 +62,7 @@ def check_show(end: End) -> None:
     for form in (
         r"\Amacsec0\n  link link0: up, MTU \d+, [0-9a-f]{2}(:[0-9a-f]{2}){5}, in .+\n  tap macsec0: port on\n",
         rf"^  suite \w+, SCI {end.sci}, \d+ keys left$", rf"^  last frame sent: {AGE}$",
-        r"^  journal: [1-9]\d* of 32511 names$",
+        r"^  journal: [1-9]\d* of 28672 names$",
         rf"^peer {peer}: last frame {AGE}$",
     ):  # fmt: skip
         report(re.search(form, text, re.M) is not None, f"show has no {form}: {text}")

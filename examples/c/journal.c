@@ -10,8 +10,7 @@
 #include <string.h>
 #include <unistd.h>
 
-/* A journal of 1,024 records is written again, and a record reserves the packet numbers of four seconds at 1,000 frames
- * a second. */
+/* The file has at most 64 KiB, and a record reserves the packet numbers of four seconds at 1,000 frames a second. */
 enum { LIMIT = 1 << 16, AMOUNT = 4096 };
 
 /* The key is a published test vector: use your own. */
@@ -24,26 +23,11 @@ static int failed(const char *what, uint32_t status) {
 }
 
 static int file_failed(const struct journal_fault *fault) {
-    fprintf(stderr, "journal: %s: %s\n", journal_step_name(fault->step), strerror(fault->error));
+    fprintf(stderr, "journal: %s: %s\n", fault->step, strerror(fault->error));
     return 1;
 }
 
 /* ---- The journal ---- */
-
-/* Puts a new file in the place of one that is in doubt or full, with one record for each name. A file is in doubt when
- * it was opened, since an earlier process may have failed, and after a call for it that has failed. */
-static int write_again(struct journal *journal) {
-    static uint8_t octets[JOURNAL_MAX];
-    size_t length = 0;
-    struct journal_fault fault;
-    if (!journal->in_doubt && journal->length + MACSEC_RECORD_LENGTH + JOURNAL_FILL <= journal->room)
-        return 0;
-    if (failed("compacted", macsec_journal_compacted(journal->octets, journal->length, octets, &length)))
-        return 1;
-    if (journal_make_room(journal, length, &fault) != 0 || journal_replace(journal, octets, length, &fault) != 0)
-        return file_failed(&fault);
-    return 0;
-}
 
 /* Reserves AMOUNT packet numbers, unless half of them are left. The record is reported once it is durable. If this
  * fails, wait a second and try again: the endpoint can send what is reserved, and drops all other frames. */
@@ -53,22 +37,25 @@ static int reserve(struct journal *journal, macsec_endpoint *e) {
     uint32_t status = macsec_reserve_wanted(e, 0, AMOUNT, &record);
     if (status == MACSEC_E_NOT_FOUND)
         return 0;
-    if (failed("wanted", status) || write_again(journal))
+    if (failed("wanted", status))
         return 1;
-    if (journal_append_all(journal, record.octets, sizeof record.octets, &fault) != 0)
+    if (journal_write(journal, &record, 1, false, &fault) != 0)
         return file_failed(&fault);
     return failed("granted", macsec_reserve_granted(e, &record));
 }
 
 /* ---- A run ---- */
 
-/* Makes the endpoint of the octets of the journal. Its SA begins above what earlier runs have reserved, and has a
- * reservation before frames come. */
+/* Makes the endpoint of the journal. Its SA begins above what earlier runs have reserved, and has a reservation before
+ * frames come. */
 static int begin(struct journal *journal, macsec_endpoint *e) {
+    static uint8_t octets[LIMIT];
+    size_t length = 0;
     uint64_t floor = 0;
     uint32_t line;
-    if (failed("configure", macsec_reserve_configure(e, (const uint8_t *)config, sizeof config - 1, journal->octets,
-                                                     journal->length, true, &line)) ||
+    if (failed("whole", journal_whole(journal, octets, &length)) ||
+        failed("configure",
+               macsec_reserve_configure(e, (const uint8_t *)config, sizeof config - 1, octets, length, true, &line)) ||
         failed("floor", macsec_reserve_tx_floor(e, 0, &floor)) ||
         failed("add_tx_sa", macsec_add_tx_sa(e, 0, 0, floor + 1, true)) || reserve(journal, e))
         return 1;
