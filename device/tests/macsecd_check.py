@@ -7,7 +7,6 @@ import pathlib
 import random
 import re
 
-from house import ROOT
 from house.reporting import report
 from macsecd_workers import MOST, fitting
 from macsecd_world import SALT, End, World, expect
@@ -210,16 +209,6 @@ def check_isolated(end: End) -> None:
     end.ip("link", "set", "other0", "name", "link0")
 
 
-def check_words() -> None:
-    """What it says of a refusal and of a wrong line is what `macsec-config --lint` says."""
-    source = (ROOT / "device/check.c").read_text()
-    meanings = re.findall(r'Status\.(\w+): "(.*)",', (ROOT / "python/macsec/errors.py").read_text())
-    names = set(re.findall(r'case (MACSEC_E_\w+): return "(\w+)";', (ROOT / "include/macsec.h").read_text()))
-    said = dict(re.findall(r'\{ (MACSEC_E_\w+), "(.*?)",\s', source))
-    other = [name for status, name in names if status in said and (name, said[status]) not in meanings]
-    report(len(said) > 20 and not other, f"--check and --lint say other things of {other}")
-
-
 def check_check(world: World) -> None:
     """All of it."""
     end = world.ends[0]
@@ -230,4 +219,3 @@ def check_check(world: World) -> None:
     check_planted(end)
     check_surroundings(end)
     check_isolated(end)
-    check_words()

@@ -5,12 +5,10 @@ from __future__ import annotations
 
 import ctypes
 import os
-import pathlib
 import secrets
 import signal
-from collections.abc import Iterable, Iterator
+from collections.abc import Iterable
 
-from house.compiling import altered_library
 from house.memory import MAIN_STACK, NOTHING, Region, hits, mappings, parts_of, places, regions
 from house.reporting import Failed, report
 from macsecd_world import LIBC, SALT, End, Packets, World, hand_over_lines, ping
@@ -96,8 +94,7 @@ def key_line(end: End, number: int, key: str) -> str:
 
 
 def change_keys(world: World, phase: int, octets: int) -> tuple[str, str]:
-    """New keys for both directions, and a frame under each. The old ones are retired. Returns those of the first end:
-    the one that it sends under, and the other one."""
+    """New keys for both directions, and a frame under each. Returns those of the first end: its own, and the other."""
     an, old, key = phase % 4, (phase - 1) % 4, 2 * phase
     keys = secrets.token_hex(octets), secrets.token_hex(octets)
     for end in world.ends:
@@ -184,12 +181,3 @@ def check_end_of_config(world: World) -> None:
     known = Secrets(a)
     known.note(*world.keys)
     known.judge("at the end", memory=memory_at_exit(a))
-
-
-def leaking_libraries(folder: pathlib.Path, archive: pathlib.Path) -> Iterator[tuple[str, pathlib.Path]]:
-    """Libraries that leave something of keys: on the stack, or in freed blocks."""
-    for file, old, new in (
-        ("clearing.c", "        clear_##depth();", "        (void)clear_##depth;"),
-        ("wiping.c", "    overwrite(block, length);\n", "    (void)overwrite;\n"),
-    ):
-        yield file, altered_library(folder / file, archive, file, old, new)

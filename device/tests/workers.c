@@ -1,11 +1,10 @@
 /* Sends frames from one device with workers to another in one process, and looks at each of them. LINK and TAP are
  * queues: frames come in bursts and alone, LINK takes some frames at a time and loses a few, and keys change meanwhile.
  *
- *     workers FRAMES WORKERS SEED SECONDS LONGEST
+ *     workers FRAMES WORKERS SEED SECONDS
  *
- * A device has to be woken within SECONDS when a frame is finished. Client frames have less than LONGEST octets. The
- * program prints what is wrong, and else how many frames were sent, lost and delivered, how many keys there were, and
- * how often a device waited. */
+ * A device has to be woken within SECONDS when a frame is finished. The program prints what is wrong, and else how many
+ * frames were sent, lost and delivered, how many keys there were, and how often a device waited. */
 #define _GNU_SOURCE
 #include "workers.h"
 #include "device.h"
@@ -35,7 +34,6 @@ static unsigned waiting_first, waiting_count;
 static int patience;   /* in milliseconds */
 static uint64_t state; /* of random numbers */
 static uint8_t rising[256 + MOST];
-static size_t longest;
 
 /* ---- Random numbers and faults ---- */
 
@@ -60,7 +58,7 @@ __attribute__((format(printf, 1, 2), noreturn)) static void wrong(const char *fo
 /* What a client frame has: its number, and octets that follow from it, each one greater than the one before. */
 static size_t make_frame(uint64_t number, uint8_t *frame) {
     static const uint8_t header[HEADER] = { 2, 0, 0, 0, 0, 2, 2, 0, 0, 0, 0, 1, 0x88, 0xb5 };
-    size_t length = SHORTEST + number * 37 % (longest - SHORTEST);
+    size_t length = SHORTEST + number * 37 % (MOST - SHORTEST);
     memcpy(frame, header, HEADER);
     memcpy(frame + HEADER, &number, sizeof number);
     memcpy(frame + SHORTEST, rising + number % 256, length - SHORTEST);
@@ -355,12 +353,9 @@ static void end_early(unsigned workers) {
 
 int main(int count, char **words) {
     uint64_t frames, frames_lost;
-    if (count != 6)
-        wrong("usage: workers FRAMES WORKERS SEED SECONDS LONGEST");
+    if (count != 5)
+        wrong("usage: workers FRAMES WORKERS SEED SECONDS");
     to_send = strtoull(words[1], NULL, 10);
-    longest = strtoull(words[5], NULL, 10);
-    if (longest <= SHORTEST || longest > MOST)
-        wrong("LONGEST is from %d to %d", SHORTEST + 1, MOST);
     for (unsigned i = 0; i < sizeof rising; i++)
         rising[i] = (uint8_t)i;
     keys_last = 20 + (unsigned)(to_send / 100000); /* an endpoint takes 4,096 keys */
