@@ -4,14 +4,11 @@ from __future__ import annotations
 
 import os
 import pathlib
-import pty
 import re
-import select
 import shutil
 import subprocess
 import sys
 import tempfile
-import time
 import unittest
 
 from .helpers import ROOT
@@ -105,39 +102,3 @@ class Completions(unittest.TestCase):
             told = subprocess.run(words, cwd=self.work, capture_output=True, text=True)
             found = {it.split("\t")[0] for it in told.stdout.splitlines()}
             self.assertEqual((found, told.stderr), (offered, ""), typed)
-
-    @unittest.skipIf(shutil.which("zsh") is None, "zsh is not installed")
-    def test_zsh(self) -> None:
-        process, terminal = pty.fork()
-        if not process:
-            os.chdir(self.work)
-            os.environ.update(TERM="dumb", PS1="", HOME=str(self.work))
-            os.execvp("zsh", ["zsh", "-f", "-i"])
-        self.addCleanup(os.waitpid, process, 0)
-        self.addCleanup(os.close, terminal)
-        functions = self.folder / "share/zsh/site-functions"
-        begin = f"unsetopt zle_bracketed_paste; PS1=; fpath=({functions} $fpath); autoload -Uz compinit; compinit -u -D"
-        os.write(terminal, f"{begin}; echo RE''ADY\n".encode())
-        self.assertIn("READY", self.read_until(terminal, "READY"))
-        for typed, offered in TYPED.items():
-            # The line is completed by tab, gets an end, and is printed in place of being run.
-            os.write(terminal, typed.encode() + b"\t")
-            time.sleep(0.3)
-            os.write(terminal, b"\x01print -r -- LINE \x05 END\n")
-            shown = self.read_until(terminal, "END\r\n", "LINE ")
-            line = shown.rsplit("LINE ", 1)[1].split(" END")[0].strip()
-            expected = typed.rsplit(" ", 1)[0] + f" {next(iter(offered))}" if offered else typed
-            self.assertEqual(line, expected, shown)
-        os.write(terminal, b"exit\n")
-
-    @staticmethod
-    def read_until(terminal: int, text: str, before: str = "") -> str:
-        """What a terminal shows until a text comes on a separate line."""
-        shown, until = "", time.monotonic() + 60
-        while time.monotonic() < until:
-            if select.select([terminal], [], [], 0.1)[0]:
-                shown += os.read(terminal, 65536).decode(errors="replace")
-            last = shown.rsplit("\r\n", 2)
-            if len(last) > 1 and any(it.startswith(before) and text.strip() in it for it in last[-2:]):
-                return shown
-        return shown
