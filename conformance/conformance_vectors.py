@@ -83,8 +83,7 @@ def script_of(vector: Vector) -> str:
 
 
 def results_of(vector: Vector, text: str) -> list[Vector]:
-    """What such a script printed of each frame: the link frame, or why it was dropped; or the verdict, the client
-    frame, and the packet numbers."""
+    """What such a script printed of each frame: what was sent or why not; or verdict, client frame, numbers."""
     if vector["kind"] == "protect":
         found = re.findall(r"^\d+ (?:frame \d+ (\w+)|dropped (\w+))$", text, re.M)
         return [{"link": link} if link else {"dropped": reason} for link, reason in found]
@@ -146,8 +145,7 @@ def differences(program: str, vector: Vector) -> str | None:
 
 
 def tested_cipher(vector: Vector) -> str | None:
-    """A vector of the cipher, which the program has no command for: compared with the rules. The tests of the crates
-    run these values on the proved code."""
+    """A vector of the cipher, compared with the rules: the program has no command for it."""
     return None if stored(vector) == by_rules(vector) else f"{vector['id']}: another result"
 
 

@@ -375,8 +375,7 @@ def back_case(rng, _corpus):
 
 
 def dash_case(rng, corpus):
-    """A file with the name `-`, and different octets on standard input. Only for SCRIPT does `-` mean standard
-    input."""
+    """A file with the name `-`, and other octets on standard input, which `-` means for SCRIPT alone."""
     scripts = rng.sample(corpus.scripts, 2)
     way = rng.randrange(8)
     if way < 2:

@@ -102,8 +102,7 @@ class Endpoint(expected.Endpoint):
     # Link frames.
 
     def opened(self, read, frame, sci, sa, pn):
-        """Only a valid frame is tested: it is accepted if its packet number is reserved. Else nothing changes, and no
-        octets are counted."""
+        """A valid frame is accepted if its packet number is reserved. Else nothing changes."""
         counted = dict(self.counters)
         text = super().opened(read, frame, sci, sa, pn)
         if text is not None and self.ahead:
@@ -130,8 +129,7 @@ class Endpoint(expected.Endpoint):
         return None if last is None else (name, last)
 
     def to_accept(self, sci: bytes, an: int, amount: int, pn: int) -> journals.Reservation | None:
-        """The reservation that a receive association needs next, to accept numbers after its own next one or after
-        `pn`; or None."""
+        """The reservation that a receive association needs next, to accept its next number or `pn`; or None."""
         sa = self.rows().get((sci, an))
         if sa is None:
             return None
@@ -168,8 +166,7 @@ class Endpoint(expected.Endpoint):
         return [*self.granted, *((it, 0) for it in names[len(self.granted) :])]
 
     def note_durable(self, reservation):
-        """A reservation is durable: the entries of its name are raised. What was reserved of an association that is
-        gone is forgotten."""
+        """A reservation is durable: the entries of its name are raised, and those of associations that are gone end."""
         names = [self.row_name(*place, sa) for place, sa in self.rows().items()]
         self.taken = raised([(it, journals.highest(self.taken, it)) for it in names], reservation)
         self.granted = raised(self.entries(), reservation)

@@ -308,8 +308,7 @@ class Maker:
             self.add(f"{end} rxdel {sci} {an}")
 
     def widen(self):
-        """Sets a window at the limit for extended packet numbers, with such keys installed and after they are
-        retired."""
+        """Sets a window at the limit for extended packet numbers, beside such keys and after they are retired."""
         rng, end = self.rng, self.end()
         wide = rng.choice((2**30 - 1, 2**30, 2**30, 2**32 - 1))
         self.add(f"{end} replay on {wide}")

@@ -131,8 +131,7 @@ class Rarely:
         yield from self.short_keys((2, octets), (3, mark))
 
     def rarely_ahead(self):
-        """A receiver with a journal, without `ahead` and with it: packet numbers that are reserved, that are not
-        reserved yet, and that an earlier run had reserved."""
+        """A receiver with a journal: numbers that are reserved, not reserved yet, and reserved by an earlier run."""
         for suite, ahead in ((1, 0), (1, 1), (3, 1)):
             sent = self.sender(suite)
             name = journals.sending_name(self.JOURNAL_SALT, self.key_octets(suite))
@@ -208,8 +207,7 @@ class Rarely:
         yield "set_replay", (2, 1, 0)
 
     def accepted_again(self, suite, sent):
-        """The association is deleted, then its channel, and both are created again. What was reserved for the
-        association is forgotten at the next report."""
+        """The association and then its channel are deleted and created again. What was reserved for it is forgotten."""
         other, end = self.SCIS[0], self.model.ends[2]
         lowest = end.rx_sa(other, 1).lowest
         yield from self.calls("delete_rx_sa other 1; reserve_rx_floor other 1 suite", other=other, suite=suite)

@@ -177,8 +177,7 @@ class Guest:
         return words
 
     def start(self) -> None:
-        """Starts it, and waits until it carries out commands. An emulated one that gets no processor for some seconds
-        can lose its disk while its kernel starts: then it is started again."""
+        """Starts it, and waits until it carries out commands; again if it loses its disk while its kernel starts."""
         for left in range(1 if SLOWER == 1 else 3)[::-1]:
             try:
                 self.start_once()

@@ -194,8 +194,7 @@ def refused(host: Host, text: str, *stay: str) -> None:
 
 
 def below(options: Options) -> None:
-    """LINK is a macvlan device: datagrams in clear to the address of the device below it. If LINK was isolated alone,
-    it has to be released before it is isolated with that device."""
+    """LINK is a macvlan device: datagrams in clear to the address of the device below it."""
     with options.pair() as pair:
         for host in (pair.a, pair.b):
             macvlan(host, "link0", "mv0")

@@ -8,8 +8,7 @@ from isolated_attacks import ROWS
 
 
 class Control(NamedTuple):
-    """A mistake: a file of device/, a text that is there once, and one in its place; or an attribute of Options that is
-    inverted; and what has to be in the reports."""
+    """A mistake: a file, a text of it and another one; or an attribute to invert; and what has to be reported."""
 
     what: str
     edit: tuple[str, str, str] | None

@@ -75,8 +75,7 @@ def owner(host: Host) -> str:
 
 
 def moment(pair: Pair, what: str, old: User | None = None) -> None:
-    """The host sends 50 datagrams while a user tries to attach, which would send 50 as the peer and delete TAP. So would
-    one that has had TAP before."""
+    """The host sends 50 datagrams while a user tries to attach. An attached one sends 50 and deletes TAP."""
     a = pair.a
     with a.udp(PORT, OWN) as to, a.udp() as by:
         user = User(a)

@@ -87,8 +87,7 @@ def check_recorded(world: World, replay: bool, times: int) -> None:
 
 
 def check_orderly(world: World) -> None:
-    """SIGTERM: the next run delivers no recorded frame, also of those within the replay window, and drops as many new
-    ones as were reserved."""
+    """SIGTERM: the next run delivers no recorded frame, and drops as many new ones as were reserved."""
     world.start(more="A replay on 64\n")
     a, b = world.ends
     link = Packets(b.link_namespace, "link0")
@@ -234,8 +233,7 @@ def start_silently(end: End) -> None:
 
 
 def check_gap(world: World) -> None:
-    """The peer starts again, so its packet numbers are far above the reservation: its frames wait for a record, and
-    none is lost, whether one comes alone or many are there at once."""
+    """The peer starts again, far above the reservation: its frames wait for a record, and none is lost."""
     world.start()
     a, b = world.ends
     for end in (a, b):

@@ -41,8 +41,7 @@ def median(speeds: list[Speed]) -> Speed:
 
 
 class Row(NamedTuple):
-    """What was measured with a number of workers: frames by UDP in each turn, million octets by TCP, and microseconds
-    of an echo."""
+    """What was measured: frames by UDP in each turn, million octets by TCP, microseconds of an echo."""
 
     udp: list[Speed]
     tcp: Speed

@@ -99,8 +99,7 @@ def check_counted(world: World, sender: list[str]) -> None:
 
 
 def check_other_mode(world: World, sender: list[str]) -> None:
-    """An endpoint that is not strict delivers frames without protection: the system drops none, also in a flood of those
-    with an unknown SCI, which are encrypted and so are dropped here too."""
+    """An endpoint that is not strict delivers frames without protection: the system drops none."""
     a, b = world.ends
     b.carry_out("A validate check")
     before = b.counters()

@@ -77,8 +77,7 @@ def rekey(pair: tuple[Client, Client], phase: int, first: int) -> None:
 
 
 def periods(frames: list[bytes]) -> int:
-    """How often the frames have another association number than the one before. Between, each is under one key, and
-    their packet numbers have to rise."""
+    """How often the association number changes. Between, packet numbers have to rise."""
     last, count, rise = (-1, 0), 0, True
     for frame in frames:
         this = frame[14] & 3, int.from_bytes(frame[16:20], "big")

@@ -60,8 +60,7 @@ def check_tcp(a: End, b: End, octets: int) -> None:
 
 
 def check_socket_loss(world: World) -> None:
-    """A receiver that does not run for a while loses frames, also those of TCP, and counts each. TCP sends them again
-    once it runs."""
+    """A receiver that does not run loses frames, also those of TCP, which sends them again, and counts each."""
     world.start()
     a, b = world.ends
     pair = tcp_pair(a)

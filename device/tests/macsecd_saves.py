@@ -147,8 +147,7 @@ def second_endpoint() -> list[str]:
 
 
 def check_again(world: World, sender: pathlib.Path) -> None:
-    """An association that comes again under its key: nothing is delivered again, whatever ended it, and it begins right
-    above what it had accepted."""
+    """An association comes again under its key: nothing is delivered again, and it begins above what it accepted."""
     receiver = Receiver(world, sender)
     end, sci, key = receiver.end, sci_of(5), receiver.key
     end.start()
@@ -314,8 +313,7 @@ def new_key(client: Client, number: int, key: str, peer: str) -> None:
 
 
 def use_keys(client: Client, keys: range, sender: pathlib.Path) -> tuple[float, float, Polls]:
-    """New keys, one after another. A frame is sent under each, and under some one is received. Returns the seconds, the
-    longest pause and the polls that show it."""
+    """New keys, and a frame under each. Returns the seconds, the longest pause and the polls that show it."""
     injector, polls, began = Packets(client.end.namespace, "macsec0"), Polls(client.end, 0.002), time.monotonic()
     peer = client.end.peer.namespace
     for number in keys:

@@ -24,8 +24,7 @@ def workers_of(end: End) -> int:
 
 
 def workers_at(end: End) -> list[pathlib.Path]:
-    """The folders of its workers in /proc. Threads are listed in the order in which they began: the endpoint's thread,
-    the journal's, and the workers'."""
+    """The folders of its workers in /proc, where threads are in the order in which they began: these are the last."""
     tasks = pathlib.Path(f"/proc/{end.pid}/task")
     return [tasks / it for it in os.listdir(tasks)[2:]]
 

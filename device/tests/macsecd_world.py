@@ -41,8 +41,7 @@ SUITES = [it["name"] for it in families.suites()]
 def build(
     out: pathlib.Path, library: pathlib.Path, options: list[str], source: pathlib.Path, wrapped: Sequence[str] = ()
 ) -> pathlib.Path:
-    """Builds macsecd and macsecctl of a folder of sources. What wraps calls is for macsecd alone. Returns the folder of
-    the programs."""
+    """Builds macsecd, with what wraps its calls, and macsecctl. Returns the folder of the programs."""
     out.mkdir(parents=True, exist_ok=True)
     words = ["gcc", *WARNINGS, "-pedantic", "-pthread", "-O2", *BOUND, *options, *INCLUDED, "-I", str(source)]
     call(*words, *wrapped, "-o", str(out / "macsecd"), *device_sources(source), str(library))

@@ -82,8 +82,7 @@ class Case(InFolder):
     def named(
         self, link: Link, frames: Sequence[bytes], expected: dict[int, list[int]], replay: str = "off", status: int = 0
     ) -> None:
-        """Expects that these packet numbers are used by these records, of both commands. `status` is the status of
-        macsec-why for other reasons."""
+        """Both commands say that these records use these packet numbers. `status` is macsec-why's for other reasons."""
         both = {"key 0": self.why(link.receives(replay), frames, "--json")}
         both["key 1"] = self.decrypt(frames, "--json", *link.words())
         for key, (ended, out) in both.items():

@@ -87,8 +87,7 @@ class Source:
 
 
 def of_library(lines: list[str]) -> tuple[dict[int, str], dict[int, str]]:
-    """The names of the faults of lines after the first one, and of their refusals, as an endpoint says them that gets
-    one line after another."""
+    """The names of the faults and of the refusals of lines after the first one, as an endpoint says them."""
     faults, refusals = {}, {}
     with SecY(SENDER) as secy:
         for number, line in enumerate(lines[1:], 2):

@@ -184,8 +184,7 @@ class Capture(NamedTuple):
 
 
 def mixed(number: int, seed: str) -> Capture:
-    """A capture with two to four causes in one association, one after another or shuffled. Each number has one of the
-    causes at least."""
+    """A capture with two to four causes, one after another or shuffled. Each number has one of the causes."""
     rng = random.Random(f"{seed}/{number}")
     wanted = list(CAUSES)[number % len(CAUSES)]
     link = next(it for it in (Link(rng) for _ in range(1000)) if CAUSES[wanted].fits(it))
@@ -210,8 +209,7 @@ def mixed(number: int, seed: str) -> Capture:
 
 
 class Figures:
-    """Frames by their causes: those whose causes are found, whole or in part, and what is named falsely. A frame of
-    which nothing can be known is found if nothing is named."""
+    """Frames by their causes: those whose causes are found, whole or in part, and what is named falsely."""
 
     def __init__(self) -> None:
         self.found: Counter[str] = collections.Counter()

@@ -239,8 +239,7 @@ class Hints(Decrypted):
 
     @mock.patch("macsec.attempts._AT_FIRST", 2000)
     def test_many_keys_in_any_order(self) -> None:
-        """60 rekeys under XPN, with the keys in another order: each is found, although all searches together are more
-        than a run may try."""
+        """60 rekeys under XPN: each key is found, although all searches are more than a run may try."""
         octets, how = [bytes([number]) * 16 for number in range(1, 61)], {"suite": Suite.xpn128}
         frames = [protected(client_frames(1), key=octets[n * 7 % 60], an=n % 4, **how)[0] for n in range(60)]
         status, shown = self.shown(frames, *(f"{it.hex()}:{SALT.hex()}" for it in octets))

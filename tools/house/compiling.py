@@ -37,8 +37,7 @@ def run(words: list[str], environment: dict[str, str] | None = None) -> str:
 
 
 def altered_library(room: pathlib.Path, archive: pathlib.Path, file: str, old: str, new: str) -> pathlib.Path:
-    """A library for C, made in a new folder of the archive of its crate, in which one text of a file of tools/library
-    is another one."""
+    """A library for C, made in a new folder, in which one text of a file of tools/library is another one."""
     shutil.copytree(ROOT / "tools/library", room / "tools/library")
     shutil.copytree(ROOT / "include", room / "include")
     shutil.copy(ROOT / "tools/merged-library", room / "tools")

@@ -94,8 +94,7 @@ def kit_id() -> str:
 
 @functools.cache
 def sum_of(name: str) -> str:
-    """A hash of everything that a library is made from, the same in every folder: the kit, and the files of the crate
-    and of those below it."""
+    """A hash of all that a library is made from, the same in every folder: the kit, its files and those below it."""
     made = hashlib.sha256(repr([kit_id(), CRATES[name], *map(sum_of, own(name))]).encode())
     for path in files(name):
         made.update(repr((os.path.relpath(path, ROOT), Path(path).read_bytes())).encode())
@@ -124,8 +123,7 @@ def verdict_file(path: str | Path) -> str:
 
 
 def proved_by(path: str, crate: str) -> str | None:
-    """The run that proved the crates of a program or a library; None if it is not there as it was built of the files
-    that are here."""
+    """The run that proved the crates of a program or a library; None if it was built of other files."""
     if not os.path.isfile(path) or not os.path.isfile(record_file(path)):
         return None
     text = Path(record_file(path)).read_text(encoding="utf-8")

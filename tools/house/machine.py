@@ -30,8 +30,7 @@ PROGRAMS = ":/usr/sbin:/sbin"
 
 
 def fetch(folder: pathlib.Path, package: str, more: Sequence[str]) -> pathlib.Path:
-    """Downloads the kernel that a package of Debian depends on and other packages, unpacks them into the folder, and
-    notes their versions there. Nothing is installed."""
+    """Unpacks a package's kernel and other packages of Debian into the folder, and notes their versions."""
     found = re.search(r"Depends: (linux-image-[0-9]\S*)", call("apt-cache", "depends", package))
     if not found:
         raise Failed(f"apt-cache does not know {package}: apt-get update")

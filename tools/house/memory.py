@@ -134,8 +134,7 @@ def pages(octets: bytes) -> list[tuple[int, bytes]]:
 
 
 def is_table(octets: bytes) -> bool:
-    """Are these the products of all nibbles with a number? Each is then the sum of those of its bits, and the first is
-    0."""
+    """Are these the products of all nibbles with a number: each the sum of those of its bits, the first 0?"""
     return all(octets[it] == octets[it & it - 1] ^ octets[it & -it] for it in range(TABLE))
 
 

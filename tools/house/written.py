@@ -31,8 +31,7 @@ def with_parts(page: str, parts: dict[str, str], others: Iterable[str] = ()) -> 
 def write_or_check(
     tool: str, arguments: list[str], folder: pathlib.Path, make: Callable[[], dict[str, str]], is_own: bool = False
 ) -> int:
-    """Writes the files into the folder. With --check it names each that is stale or missing, and if the folder has no
-    other files, each that is not made. Returns the status."""
+    """Writes the files into the folder; with --check names what is stale, missing or not made. Returns the status."""
     if arguments not in ([], ["--check"]):
         print(f"usage: {tool} [--check]", file=sys.stderr)
         return 2

@@ -97,8 +97,7 @@ def tried_in_python(where: str, do: Callable[..., str], at: str, room: str) -> N
 
 
 def tried_programs(where: str, do: Callable[..., str], top: str, tour: str) -> None:
-    """Runs the tour by the program below a folder, and by the program for each kind of processors. If these are there,
-    the first one is a script that runs the one for this processor."""
+    """Runs the tour by the program below a folder, and by the program for each kind of processors."""
     program, of_kinds = f"{top}/bin/macsec", [f"{top}/lib/macsec/{it}/macsec" for it in KINDS]
     are_there = do("sh", "-c", f"[ ! -e {of_kinds[0]} ] || echo yes") != ""
     for path in [program, *(it for kind, it in zip(KINDS, of_kinds) if are_there and runs(kind))]:
@@ -122,8 +121,7 @@ def tried_completions(where: str, do: Callable[..., str], at: str, names: Iterab
 
 
 def tried(where: str, do: Callable[..., str], at: str, room: str, flags: list[str]) -> None:
-    """Tries what the packages of Debian install: `do` runs a command, `at` is before each path of them, and `room` is a
-    folder for what is made."""
+    """Tries what the packages install: `do` runs a command, `at` is before each path, `room` is a folder."""
     tried_programs(where, do, f"{at}/usr", f"{at}{DOC}/macsec/examples/tour.macsec")
     tried_in_c(where, do, at, room, flags)
     tried_in_python(where, do, at, room)
