@@ -1,101 +1,96 @@
 -- Order, and each frame at most once, of an end whose endpoint can reserve ahead of receiving: the keeping endpoint
 -- inside
 -- meets the premises of order.
-use Rattle.macsec_restarts.proofs.{
-  Names.{[], ◌++◌, ◌∙◌, ◌∷◌, ◌≡◌, ◌≤◌, A, Ahead, ahead_after, ahead_step, All, All-append, All-cons, All-contains},
-  Names.{All-head, All-nil, All-tail, All-weaker, AllPairs, ap, append-nil, append_assoc, ArePeers, arith, AtEach, B},
-  Names.{begins, Bool, closing, closing_with, comes_in, ComesInOrder, ComesInOrderWith, contained, CreatesAbove},
-  Names.{delivered_at, delivered_from_with, delivered_in, delivered_in_all_with, delivered_so_far},
-  Names.{delivered_so_far_with, Delivery, End, EndConfig, endpoint_input, EndpointLaws, false, filter-append, Grammar},
-  Names.{Happening, highest, highest-append, IfSome, if◌then◌else◌, inl, inside, is_inside, IsHistory, IsMember},
-  Names.{IsOrderedAt, IsOrderedInput, IsOrderly, IsOrderlyInside, IsSound, IsStrictInput, keeping_step, KeepingInput},
-  Names.{keeps_stays, KeepsDurable, last_run, lets_through, List, map, map-append, member_of_map, newly_delivered},
-  Names.{newly_delivered_with, None, now_durable, opening_with, Option, option_map, other_end, pairs-head, pairs-tail},
-  Names.{passing_from, reaches_inside, receiving_name, refl, reported, reported_in, reservations, Run, run_inside},
-  Names.{runs_of, salt_of, same_end, SameSalt, SavedIn, Sci, sending_name, sent_in_all, sent_in_all_with, Some, subst},
-  Names.{suc, sym, take, through, true, zero, ℕ},
-  AheadAccepts.{option_after, salt_after, taken_after},
-  AheadInside.{delivered_in_all_inside, delivered_in_inside, is_keeping_inside, k_inside, sent_in_all_inside, stays},
-  AheadInside.{field_inside, step_inside},
-  AheadPast.{IsNewPast, IsPast, creates_above, new_past, past_stays},
-  InOrder.in_order,
-  Lists.at_end,
-  Passing.{passing-append, passing-push, reaches, runs_passing},
-  Placed.Fresh,
-  Prefixes.peers_before,
-  Pushed.{IsNext, is_next, last_run-push, last_run-with_last, new_input, new_run, runs_of-begins, runs_of-input},
-  Pushed.{run_with, same_is, same_own, same_runs, with_input, with_last},
-  Sends.last_member,
-  SoundRuns.{IsSoundRun, closing_sound},
+use Rattle.macsec_restarts.{
+  proofs.{
+    AheadInside.{delivered_in_all_inside, delivered_in_inside, field_inside, is_keeping_inside, k_inside, option_after},
+    AheadInside.{salt_after, sent_in_all_inside, stays, step_inside, taken_after},
+    AheadPast.{creates_above, IsNewPast, IsPast, new_past, past_stays},
+    InOrder.in_order,
+    Names.{[], ◌++◌, ◌∙◌, ◌∷◌, ◌≡◌, ◌≤◌, A, Ahead, ahead_after, ahead_step, All, All-append, All-cons, All-contains},
+    Names.{All-head, All-nil, All-tail, All-weaker, AllPairs, ap, append-nil, append_assoc, ArePeers, arith, AtEach, B},
+    Names.{begins, Bool, closing, closing_with, comes_in, ComesInOrder, ComesInOrderWith, contained, CreatesAbove},
+    Names.{delivered_at, delivered_from_with, delivered_in, delivered_in_all_with, delivered_so_far},
+    Names.{delivered_so_far_with, Delivery, End, EndConfig, endpoint_input, EndpointLaws, Events, false, filter-append},
+    Names.{Grammar, Happening, highest, highest-append, IfSome, if◌then◌else◌, inl, Inputs, inside, is_inside},
+    Names.{IsHistory, IsMember, IsOrderedAt, IsOrderedInput, IsOrderly, IsOrderlyInside, IsSound, IsStrictInput},
+    Names.{keeping_step, KeepingInput, keeps_stays, KeepsDurable, last_run, lets_through, List, map, map-append},
+    Names.{member_of_map, newly_delivered, newly_delivered_with, None, now_durable, opening_with, Option, option_map},
+    Names.{other_end, pairs-head, pairs-tail, passing_from, reaches_inside, receiving_name, refl, reported},
+    Names.{reported_in, reservations, Run, run_inside, runs_of, salt_of, same_end, SameSalt, SavedIn, Sci},
+    Names.{sending_name, sent_in_all, sent_in_all_with, Some, subst, suc, sym, take, through, true, zero, ℕ},
+    Origins.peers_before,
+    Pushed.{at_end, is_next, IsNext, last_run-push, last_run-with_last, new_input, new_run, passing-append},
+    Pushed.{passing-push, reaches, run_with, runs_of-begins, runs_of-input, runs_passing, same_is, same_own, same_runs},
+    Pushed.{with_input, with_last},
+    RowSteps.Fresh,
+    Sends.{closing_sound, IsSoundRun, last_member},
+  },
+  specs.AheadOrder.ComesInOrderOnceWith,
 }
-use Rattle.macsec_restarts.specs.AheadOrder.{ComesInOrderOnceWith}
 
 -- ---- one more input
 
-ahead_after-push : (inputs : List KeepingInput) (a : Ahead) (input : KeepingInput) →
+ahead_after-push : (inputs : Inputs) (a : Ahead) (input : KeepingInput) →
     ahead_after a (inputs ++ input ∷ []) ≡ (ahead_step (ahead_after a inputs) input).1
-ahead_after-push [] a input = refl
+ahead_after-push [] a _ = refl
 ahead_after-push (i ∷ inputs) a input = ahead_after-push inputs _ input
 
 pub closing_with-input : (ahead : Bool) (input : KeepingInput) (run : Run) → closing_with ahead (with_input input run) ≡
     (ahead_step (closing_with ahead run) input).1
 closing_with-input ahead input run = ahead_after-push run.inputs (opening_with ahead run) input
 
-through-push : (inputs : List KeepingInput) (a : Ahead) (input : KeepingInput) →
+through-push : (inputs : Inputs) (a : Ahead) (input : KeepingInput) →
     through a (inputs ++ input ∷ []) ≡ through a inputs ++ (if lets_through (ahead_after a inputs) input then input ∷ []
     else [])
-through-push [] a input = refl
+through-push [] a _ = refl
 through-push (i ∷ inputs) a input = by_test (lets_through a i) (through-push inputs _ input)
   where
-    added : List KeepingInput
+    added : Inputs
     added = if lets_through (ahead_after (ahead_step a i).1 inputs) input then input ∷ [] else []
 
     by_test : (b : Bool) → through (ahead_step a i).1 (inputs ++ input ∷ []) ≡ through (ahead_step a i).1 inputs ++
-        added →
-        (if b then i ∷ through (ahead_step a i).1 (inputs ++ input ∷ []) else through (ahead_step a i).1
+        added → (if b then i ∷ through (ahead_step a i).1 (inputs ++ input ∷ []) else through (ahead_step a i).1
         (inputs ++ input ∷ [])) ≡
         (if b then i ∷ through (ahead_step a i).1 inputs else through (ahead_step a i).1 inputs) ++ added
     by_test true rest = ap (λ is. i ∷ is) rest
     by_test false rest = rest
 
-delivered_from_with-push : (inputs : List KeepingInput) (a : Ahead) (input : KeepingInput) →
+delivered_from_with-push : (inputs : Inputs) (a : Ahead) (input : KeepingInput) →
     delivered_from_with a (inputs ++ input ∷ []) ≡ delivered_from_with a inputs ++ newly_delivered_with
     (ahead_after a inputs) input
 delivered_from_with-push [] a input = append-nil (newly_delivered_with a input)
-delivered_from_with-push (i ∷ inputs) a input =
-    rw (
-      delivered_from_with-push inputs _ input,
-      ← append_assoc (newly_delivered_with a i)
-          (delivered_from_with (ahead_step a i).1 inputs) (newly_delivered_with (ahead_after (ahead_step a i).1 inputs)
-          input),
-    )
+delivered_from_with-push (i ∷ inputs) a input = rw (
+  delivered_from_with-push inputs _ input,
+  ← append_assoc (newly_delivered_with a i)
+      (delivered_from_with (ahead_step a i).1 inputs) (newly_delivered_with (ahead_after (ahead_step a i).1 inputs)
+      input),
+)
 
 keeps_step : (a : Ahead) (input : KeepingInput) → (ahead_step a input).1.k.keeps ≡ a.k.keeps
 keeps_step a input = field_inside (λ k. k.keeps) keeps_stays a input
 
-pub keeps_after : (inputs : List KeepingInput) (a : Ahead) → (ahead_after a inputs).k.keeps ≡ a.k.keeps
+pub keeps_after : (inputs : Inputs) (a : Ahead) → (ahead_after a inputs).k.keeps ≡ a.k.keeps
 keeps_after [] a = refl
 keeps_after (input ∷ inputs) a = keeps_after inputs _ ∙ keeps_step a input
 
 -- what was reported to a run is reported to it with one more input
-pub reported-push : (inputs : List KeepingInput) (input : KeepingInput) (name : List ℕ) →
+pub reported-push : (inputs : Inputs) (input : KeepingInput) (name : List ℕ) →
     highest (reported_in inputs) name ≤ highest (reported_in (inputs ++ input ∷ [])) name
-reported-push [] input name = omega arith
-reported-push (now_durable r ∷ inputs) input name =
-    omega (
-      arith,
-      reported-push inputs input name,
-      highest-append (r ∷ []) (reported_in inputs) name,
-      highest-append
-          (r ∷ []) (reported_in (inputs ++ input ∷ [])) name,
-    )
+reported-push [] _ _ = omega arith
+reported-push (now_durable r ∷ inputs) input name = omega (
+  arith,
+  reported-push inputs input name,
+  highest-append (r ∷ []) (reported_in inputs) name,
+  highest-append (r ∷ []) (reported_in (inputs ++ input ∷ [])) name,
+)
 reported-push (endpoint_input i ∷ inputs) input name = reported-push inputs input name
 
 -- ---- the runs of the keeping endpoints inside
 
 last_of_map : (f : Run → Run) (rs : List Run) → last_run (map f rs) ≡ option_map f (last_run rs)
-last_of_map f (run ∷ later ∷ more) = last_of_map f (later ∷ more)
-last_of_map f rs = refl
+last_of_map f (_ ∷ later ∷ more) = last_of_map f (later ∷ more)
+last_of_map f _ = refl
 
 -- the run inside of a run with one more input
 pub inside_pushed : (ahead : Bool) (input : KeepingInput) (run : Run) →
@@ -104,7 +99,7 @@ pub inside_pushed : (ahead : Bool) (input : KeepingInput) (run : Run) →
 inside_pushed ahead input run =
     rw (through-push run.inputs (opening_with ahead run) input, by_test (lets_through (closing_with ahead run) input))
   where
-    inputs : List KeepingInput
+    inputs : Inputs
     inputs = through (opening_with ahead run) run.inputs
 
     by_test : (b : Bool) → record run { inputs = inputs ++ (if b then input ∷ [] else []) } ≡
@@ -114,10 +109,10 @@ inside_pushed ahead input run =
 
 reaches_is : (ahead : Bool) (input : KeepingInput) (o : Option Run) → reaches_inside ahead input o ≡ reaches
     (λ run. lets_through (closing_with ahead run) input) o
-reaches_is ahead input None = refl
-reaches_is ahead input (Some run) = refl
+reaches_is _ _ None = refl
+reaches_is _ _ (Some _) = refl
 
-pub runs_inside : (ahead : End → Bool) (e : End) (events : List Happening) → runs_of e (inside ahead events) ≡ map
+pub runs_inside : (ahead : End → Bool) (e : End) (events : Events) → runs_of e (inside ahead events) ≡ map
     (run_inside (ahead e)) (runs_of e events)
 runs_inside ahead e events =
     runs_passing _ (λ f. run_inside (ahead f)) (λ f input run. lets_through (closing_with (ahead f) run)
@@ -153,31 +148,29 @@ module _ (laws : EndpointLaws) (ahead : End → Bool) (e : End) (bytes : List �
   at_start = record { past = tt; reserved = λ is. All-nil _ }
 
   -- the premises at a happening that reaches the keeping endpoints
-  abbrev IsOrderlyHere : List Happening → Happening → Type 0
+  abbrev IsOrderlyHere : Events → Happening → Type 0
   IsOrderlyHere before h = IsOrderlyInside on e bytes sci an (inside ahead before) h
 
   -- ---- the endpoint is sound
 
-  history : (f : End) {events : List Happening} → ArePeers events → IsHistory (runs_of f events)
+  history : (f : End) {events : Events} → ArePeers events → IsHistory (runs_of f events)
   history A peers = peers.a
   history B peers = peers.b
 
-  sound_at : (before : List Happening) → ArePeers (inside ahead before) → (run : Run) →
+  sound_at : (before : Events) → ArePeers (inside ahead before) → (run : Run) →
       last_run (runs_of e before) ≡ Some run → IsSound (closing_with on run).k.secy
   sound_at before peers run last =
       let R = run_inside on in
-      let sounds =
-      rw (runs_inside ahead e before) at (history e peers).sound in
+      let sounds = rw (runs_inside ahead e before) at (history e peers).sound in
       let there : IsMember (map R (runs_of e before)) (R run) = member_of_map R _ run (last_member _ run last) in
       let sound = closing_sound (R run) (All-contains IsSoundRun _ _ sounds (contained _ _ there)) in
       rw (k_inside _ _) sound
 
-  last_input : (before : List Happening) (input : KeepingInput) {run : Run} → last_run (runs_of e before) ≡ Some run →
+  last_input : (before : Events) (input : KeepingInput) {run : Run} → last_run (runs_of e before) ≡ Some run →
       last_run (runs_of e (before ++ comes_in e input ∷ [])) ≡ Some (with_input input run)
-  last_input before input last =
-      rw (runs_of-input e e input before (same_own e), last_run-with_last input _, last)
+  last_input before input last = rw (runs_of-input e e input before (same_own e), last_run-with_last input _, last)
 
-  sound_after : (before : List Happening) (input : KeepingInput) →
+  sound_after : (before : Events) (input : KeepingInput) →
       ArePeers (inside ahead (before ++ comes_in e input ∷ [])) → (run : Run) →
       last_run (runs_of e before) ≡ Some run → IsSound (ahead_step (closing_with on run) input).1.k.secy
   sound_after before input peers run last =
@@ -190,11 +183,10 @@ module _ (laws : EndpointLaws) (ahead : End → Bool) (e : End) (bytes : List �
 
   more_delivered : (run : Run) (input : KeepingInput) → delivered_by_run (with_input input run) ≡ delivered_by_run
       run ++ delivered_at bytes sci an (newly_delivered_with (closing_with on run) input)
-  more_delivered run input =
-      rw (
-        delivered_from_with-push _ _ input,
-        filter-append _ _ _,
-      )
+  more_delivered _ input = rw (
+    delivered_from_with-push _ _ input,
+    filter-append _ _ _,
+  )
 
   -- what the input delivers, if it reaches the keeping endpoint
   record IsDone (run : Run) (input : KeepingInput) : Type 0 where
@@ -243,8 +235,7 @@ module _ (laws : EndpointLaws) (ahead : End → Bool) (e : End) (bytes : List �
                 news)));
             reserved = λ is all.
                 rw these (All-append (IsReserved run') old new (All-weaker (IsReserved run) (IsReserved run')
-                still_reserved old all)
-                (All-weaker (IsNewPast laws bytes sci an a after) (IsReserved run')
+                still_reserved old all) (All-weaker (IsNewPast laws bytes sci an a after) (IsReserved run')
                 (λ d it. reserved_by is d (it.reserved (option_after run.inputs (opening_with on run) ∙ is))) new
                 news));
           }
@@ -258,13 +249,12 @@ module _ (laws : EndpointLaws) (ahead : End → Bool) (e : End) (bytes : List �
                 arith,
                 here,
                 taken_after run.inputs (opening_with on run) (name_in run.journal),
-                reported-push
-                    run.inputs input (name_in run.journal),
+                reported-push run.inputs input (name_in run.journal),
               )
 
   all_with_last : (P : Run → Type 0) (input : KeepingInput) (rs : List Run) → All P rs →
       ((run : Run) → last_run rs ≡ Some run → P run → P (with_input input run)) → All P (with_last input rs)
-  all_with_last P input [] all later = All-nil P
+  all_with_last P _ [] _ _ = All-nil P
   all_with_last P input (run ∷ []) all later = All-cons P (with_input input run) []
       (later run refl (All-head P run [] all)) (All-nil P)
   all_with_last P input (run ∷ next ∷ more) all later =
@@ -272,11 +262,11 @@ module _ (laws : EndpointLaws) (ahead : End → Bool) (e : End) (bytes : List �
       (all_with_last P input (next ∷ more) (All-tail P run (next ∷ more) all) later)
 
   -- the run inside is the last one
-  last_inside : (before : List Happening) {run : Run} → last_run (runs_of e before) ≡ Some run →
+  last_inside : (before : Events) {run : Run} → last_run (runs_of e before) ≡ Some run →
       last_run (runs_of e (inside ahead before)) ≡ Some (run_inside on run)
   last_inside before last = rw (runs_inside ahead e before, last_of_map _ _, last)
 
-  strict_at : (before : List Happening) (input : KeepingInput) → (is_inside ahead before (comes_in e input) ≡ true →
+  strict_at : (before : Events) (input : KeepingInput) → (is_inside ahead before (comes_in e input) ≡ true →
       IsOrderlyHere before (comes_in e input)) →
       (run : Run) → last_run (runs_of e before) ≡ Some run → lets_through (closing_with on run) input ≡ true →
       IsStrictInput (closing_with on run).k bytes sci an input
@@ -287,11 +277,11 @@ module _ (laws : EndpointLaws) (ahead : End → Bool) (e : End) (bytes : List �
       (last_inside before last) ((is reaches).ordered (same_own e)) in
       rw (k_inside _ _) strict
 
-  next : (before : List Happening) (h : Happening) → (is_inside ahead before h ≡ true → IsOrderlyHere before h) →
+  next : (before : Events) (h : Happening) → (is_inside ahead before h ≡ true → IsOrderlyHere before h) →
       ArePeers (inside ahead before) → ArePeers (inside ahead (before ++ h ∷ [])) →
       (runs after : List Run) → runs ≡ runs_of e before → IsNext e runs h after → Now runs → Now after
-  next before _ is peers peers' runs _ are (same_runs h) now = now
-  next before _ is peers peers' runs _ are (new_run config journal) now =
+  next _ _ _ _ _ _ _ _ (same_runs h) now = now
+  next _ _ is peers peers' runs _ are (new_run config journal) now =
       let new = run_with config journal [] in
       record {
         past = rw (last_run-push runs new) (All-nil _);
@@ -312,7 +302,7 @@ module _ (laws : EndpointLaws) (ahead : End → Bool) (e : End) (bytes : List �
 
       by_last : (o : Option Run) → last_run runs ≡ o → IfSome (option_map (with_input input) o)
           (λ run. All (IsPastIn run) (delivered_by_run run))
-      by_last None last = tt
+      by_last None _ = tt
       by_last (Some run) last = (done_at run last).past
 
   -- ---- the premises at a happening that reaches the keeping endpoint
@@ -321,8 +311,7 @@ module _ (laws : EndpointLaws) (ahead : End → Bool) (e : End) (bytes : List �
   saved_by : (new : Run) (rs : List Run) → AllPairs KeepsDurable (map (run_inside true) rs ++ new ∷ []) →
       AllPairs SameSalt (map (run_inside true) rs ++ new ∷ []) → on ≡ true →
       All AreReserved rs → SavedIn new.journal bytes sci an (delivered_at bytes sci an (delivered_in_all_with on rs))
-  saved_by new [] durable salt is all = All-nil (λ d. d.number ≤ highest (reservations new.journal)
-      (name_in new.journal))
+  saved_by new [] _ _ _ _ = All-nil (λ d. d.number ≤ highest (reservations new.journal) (name_in new.journal))
   saved_by new (run ∷ rs) durable salt is all =
       let R = run_inside true in
       let P : Delivery → Type 0 = λ d. d.number ≤ highest (reservations new.journal) (name_in new.journal) in
@@ -341,15 +330,14 @@ module _ (laws : EndpointLaws) (ahead : End → Bool) (e : End) (bytes : List �
           d.number ≤ highest (reservations new.journal) (name_in new.journal)
       saved_one run' d keeps same told within =
           let name : name_in new.journal ≡ name_in run'.journal = rw same in
-          let reads =
-          rw told at (keeps (name_in run'.journal)) in
+          let reads = rw told at (keeps (name_in run'.journal)) in
           rw name (omega (arith, within, reads))
 
-  delivered_inside : (before : List Happening) → delivered_so_far e bytes sci an (inside ahead before) ≡
+  delivered_inside : (before : Events) → delivered_so_far e bytes sci an (inside ahead before) ≡
       delivered_so_far_with on e bytes sci an before
   delivered_inside before = rw (runs_inside ahead e before, delivered_in_all_inside on _)
 
-  saved_at : (before : List Happening) (f : End) (config : EndConfig) (journal : List ℕ) →
+  saved_at : (before : Events) (f : End) (config : EndConfig) (journal : List ℕ) →
       IsOrderlyHere before (begins f config journal) →
       ArePeers (inside ahead (before ++ begins f config journal ∷ [])) → Now (runs_of e before) → same_end e f ≡ true →
       SavedIn journal bytes sci an (delivered_so_far e bytes sci an (inside ahead before))
@@ -363,20 +351,18 @@ module _ (laws : EndpointLaws) (ahead : End → Bool) (e : End) (bytes : List �
       by_option false off = is.ordered same off
       by_option true is_on =
           let these : runs_of e (inside ahead (before ++ begins f config journal ∷ [])) ≡ map (run_inside true)
-          (runs_of e before) ++ new ∷ [] =
-          rw (
+          (runs_of e before) ++ new ∷ [] = rw (
             runs_inside ahead e _,
             (runs_of-begins e f config journal before
                 ∙ ap (λ b. runs_of e before ++ (if b then new ∷ [] else [])) same),
-            map-append (run_inside
-                on) (runs_of e before) (new ∷ []),
+            map-append (run_inside on) (runs_of e before) (new ∷ []),
             is_on,
           ) in
           let past = history e peers in
           rw (delivered_inside before) (saved_by new _ (rw these at past.durable)
           (rw these at past.salt) is_on (now.reserved is_on))
 
-  ordered_input : (before : List Happening) (input : KeepingInput) → IsOrderlyHere before (comes_in e input) →
+  ordered_input : (before : Events) (input : KeepingInput) → IsOrderlyHere before (comes_in e input) →
       ArePeers (inside ahead before) →
       ArePeers (inside ahead (before ++ comes_in e input ∷ [])) → Now (runs_of e before) →
       is_inside ahead before (comes_in e input) ≡ true →
@@ -391,57 +377,53 @@ module _ (laws : EndpointLaws) (ahead : End → Bool) (e : End) (bytes : List �
           (λ run. IsStrictInput (closing run) bytes sci an input) →
           IfSome o (λ run. All (IsPastIn run) (delivered_by_run run)) → reaches_inside on input o ≡ true →
           IfSome (option_map (run_inside on) o) (λ run. IsOrderedInput run bytes sci an input)
-      by_last None last strict past lets = tt
+      by_last None _ _ _ _ = tt
       by_last (Some run) last strict past lets =
           let a = closing_with on run in
           let inner = run_inside on run in
           let same_k = k_inside run.inputs (opening_with on run) in
           let these : delivered_in inner bytes sci an ≡ delivered_by_run run = rw (delivered_in_inside on run) in
-          let above =
-          creates_above laws bytes sci an a input (sound_at before peers run last)
+          let above = creates_above laws bytes sci an a input (sound_at before peers run last)
           (sound_after before input peers' run last) lets (delivered_by_run run) past in
           let creates : CreatesAbove a.k.secy (keeping_step a.k input).1.secy bytes sci an
-          (delivered_in inner bytes sci an) =
-          rw these (rw (step_inside a input true lets) at above) in
+          (delivered_in inner bytes sci an) = rw these (rw (step_inside a input true lets) at above) in
           record {
             order = strict;
             creates = rw same_k at creates;
           }
 
-  ordered : (before : List Happening) (h : Happening) → IsOrderlyHere before h → ArePeers (inside ahead before) →
+  ordered : (before : Events) (h : Happening) → IsOrderlyHere before h → ArePeers (inside ahead before) →
       ArePeers (inside ahead (before ++ h ∷ [])) → Now (runs_of e before) →
       is_inside ahead before h ≡ true → IsOrderedAt e bytes sci an (inside ahead before) h
-  ordered before (begins f config journal) is peers peers' now reaches = saved_at before f config journal is peers' now
+  ordered before (begins f config journal) is _ peers' now reaches = saved_at before f config journal is peers' now
   ordered before (comes_in f input) is peers peers' now reaches = λ same.
       let one = same_is e f same in
       ordered_input before input (rw one at is) peers (rw one at peers') now (rw one at reaches)
 
   -- ---- all happenings
 
-  each_next : (before more : List Happening) → AtEach (IsOrderlyInside on e bytes sci an) (inside ahead before)
+  each_next : (before more : Events) → AtEach (IsOrderlyInside on e bytes sci an) (inside ahead before)
       (passing_from (is_inside ahead) before more) →
       ArePeers (inside ahead (before ++ more)) → Now (runs_of e before) → AtEach (IsOrderly e bytes sci an)
       (inside ahead before) (passing_from (is_inside ahead) before more)
-  each_next before [] each peers now = tt
+  each_next _ [] _ _ _ = tt
   each_next before (h ∷ more) each peers now =
       by_test (is_inside ahead before h) refl each (λ each' now'. each_next _ more each' whole now')
     where
-      I : List Happening
+      I : Events
       I = inside ahead before
 
-      rest : List Happening
+      rest : Events
       rest = passing_from (is_inside ahead) (before ++ h ∷ []) more
 
       whole : ArePeers (inside ahead ((before ++ h ∷ []) ++ more))
       whole = rw (append_assoc before (h ∷ []) more) peers
 
       peers_next : ArePeers (inside ahead (before ++ h ∷ []))
-      peers_next =
-          peers_before laws _ rest (rw (passing-append _ [] _ more) at whole)
+      peers_next = peers_before laws _ rest (rw (passing-append _ [] _ more) at whole)
 
       peers_now : ArePeers I
-      peers_now =
-          peers_before laws I _ (rw (passing-append _ [] before _) at peers)
+      peers_now = peers_before laws I _ (rw (passing-append _ [] before _) at peers)
 
       then_now : (is_inside ahead before h ≡ true → IsOrderlyHere before h) → Now (runs_of e (before ++ h ∷ []))
       then_now is = next before h is peers_now peers_next _ _ refl (is_next e before h) now
@@ -451,58 +433,53 @@ module _ (laws : EndpointLaws) (ahead : End → Bool) (e : End) (bytes : List �
           Now (runs_of e (before ++ h ∷ [])) → AtEach (IsOrderly e bytes sci an) (inside ahead (before ++ h ∷ [])) rest
 
       by_test : (b : Bool) → is_inside ahead before h ≡ b → AtEach (IsOrderlyInside on e bytes sci an) I
-          (if b then h ∷ rest else rest) → Later →
-          AtEach (IsOrderly e bytes sci an) I (if b then h ∷ rest else rest)
+          (if b then h ∷ rest else rest) → Later → AtEach (IsOrderly e bytes sci an) I (if b then h ∷ rest else rest)
       by_test true reaches each' later =
-          let one_more : inside ahead (before ++ h ∷ []) ≡ I ++ h ∷ [] =
-          rw (passing-push _ before h, reaches) in
+          let one_more : inside ahead (before ++ h ∷ []) ≡ I ++ h ∷ [] = rw (passing-push _ before h, reaches) in
           let now' = then_now (λ r. each'.0) in
           let then_on = later (rw one_more each'.1) now' in (
             record {
               genuine = each'.0.genuine;
               octets = each'.0.octets;
-              ordered = ordered before h each'.0 peers_now
-                  peers_next now reaches;
+              ordered = ordered before h each'.0 peers_now peers_next now reaches;
             },
             rw one_more at then_on,
           )
       by_test false reaches each' later =
-          let none_more : inside ahead (before ++ h ∷ []) ≡ I =
-          rw (passing-push _ before h, reaches, append-nil I) in
+          let none_more : inside ahead (before ++ h ∷ []) ≡ I = rw (passing-push _ before h, reaches, append-nil I) in
           let now' = then_now (λ r. absurd (differ reaches r)) in
           rw none_more at (later (rw none_more each') now')
         where
           differ : {b : Bool} → b ≡ false → b ≡ true → ⊥
           differ is is' = let no = sym is ∙ is' in cc
 
-  pub in_order_with : Grammar → Fresh → (events : List Happening) → AtEach (IsOrderlyInside on e bytes sci an) []
+  pub in_order_with : Grammar → Fresh → (events : Events) → AtEach (IsOrderlyInside on e bytes sci an) []
       (inside ahead events) → ArePeers (inside ahead events) → ComesInOrderWith ahead e bytes sci an events
   in_order_with grammar fresh events each peers =
       let it : ComesInOrder e bytes sci an (inside ahead events) = in_order laws grammar fresh e bytes sci an
       _ (each_next [] events each peers at_start) peers in
       let other = other_end e in
       let sends : sent_in_all (runs_of other (inside ahead events)) ≡ sent_in_all_with (ahead other)
-      (runs_of other events) =
-      rw (runs_inside ahead other events, sent_in_all_inside _ _) in
+      (runs_of other events) = rw (runs_inside ahead other events, sent_in_all_inside _ _) in
       rw (← delivered_inside events) (rw sends at it)
 
 -- a list is its first elements and others
-pub record IsCut (k : ℕ) (events : List Happening) : Type 0 where
-  pub rest : List Happening
+pub record IsCut (k : ℕ) (events : Events) : Type 0 where
+  pub rest : Events
   pub is : take k events ++ rest ≡ events
 
-pub cut : (k : ℕ) (events : List Happening) → IsCut k events
+pub cut : (k : ℕ) (events : Events) → IsCut k events
 cut zero events = record { rest = events; is = refl }
 cut (suc k) [] = record { rest = []; is = refl }
 cut (suc k) (h ∷ more) = let it = cut k more in record { rest = it.rest; is = rw it.is }
 
 -- what holds at each moment holds at each moment of the first ones
-pub first_moments : (P : List Happening → Happening → Type 0) (before xs ys : List Happening) →
+pub first_moments : (P : Events → Happening → Type 0) (before xs ys : Events) →
     AtEach P before (xs ++ ys) → AtEach P before xs
-first_moments P before [] ys each = tt
-first_moments P before (h ∷ xs) ys each = (each.0, first_moments P _ xs ys each.1)
+first_moments P _ [] _ _ = tt
+first_moments P _ (h ∷ xs) ys each = (each.0, first_moments P _ xs ys each.1)
 
-pub comes_in_order_once_with : EndpointLaws → Grammar → Fresh → (ahead : End → Bool) (events : List Happening) →
+pub comes_in_order_once_with : EndpointLaws → Grammar → Fresh → (ahead : End → Bool) (events : Events) →
     ComesInOrderOnceWith ahead events
 comes_in_order_once_with laws grammar fresh ahead events e bytes sci an each peers k =
     let it = cut k events in

@@ -1,8 +1,8 @@
 -- What a run delivers in strict order is at or below what may have been accepted from the SA, and reserved: so no SA is
 -- created again at or below it.
-use Rattle.macsec_suite.specs.KeyRows.{key_row}
-use Rattle.macsec_rx.specs.Rows.{AreRxRows}
 use Rattle.macsec_restarts.proofs.{
+  AheadEnds.{ahead_row_step, created_above, given_up_stays, past_of, past_step, row_end},
+  AheadInside.{reserved_now, step_inside},
   Names.{[], ◌+◌, ◌<◌, ◌==◌, ◌^◌, ◌||◌, ◌∙◌, ◌∷◌, ◌≡◌, ◌≤◌, ◌⊎◌, Ahead, ahead_step, All, All-contains, ap, arith, Bool},
   Names.{contained, CreatesAbove, delivered_at, Delivery, end_of_row, endpoint_input, EndpointLaws, eq-eqb, false},
   Names.{frame_fault, get_or, HasStrictOrder, highest, inl, inr, InstalledKey, IsAbove, IsDeliveredFrom, IsGivenUp},
@@ -10,13 +10,11 @@ use Rattle.macsec_restarts.proofs.{
   Names.{link_frame, List, newly_delivered, None, now_durable, Option, or_parts, received_step, receiving_name, refl},
   Names.{row_name, rx_row, rx_uses, RxRow, Sci, sending_name, Some, State, state_after_receiving, subst, sym, the_key},
   Names.{true, unwrap_or, ℕ},
-  AheadAccepts.reserved_now,
-  AheadEnds.{ahead_row_step, created_above, given_up_stays, past_of, past_step, row_end},
-  AheadInside.step_inside,
-  Placed.{IsGiven, is_given, of_ours},
-  RowSteps.{IsLaterRow, RowStep, found_row},
-  SoundRuns.keys_stay,
+  RowSteps.{found_row, is_given, IsGiven, IsLaterRow, of_ours, RowStep},
+  Sends.keys_stay,
 }
+use Rattle.macsec_rx.specs.Rows.{AreRxRows}
+use Rattle.macsec_suite.specs.KeyRows.{key_row}
 
 -- ---- keys
 
@@ -27,25 +25,23 @@ record HasOctetsOf (keys after : List InstalledKey) (n : ℕ) : Type 0 where
 
 -- no SA uses a key that is given up
 uses_it : (rows : List RxRow) (row : RxRow) (key : ℕ) → IsMember rows row → row.key ≡ key → rx_uses rows key ≡ true
-uses_it [] row key there same = absurd there
-uses_it (r ∷ rows) row key (inl here) same = rw (eq-eqb r.key key (rw (here, same)))
-uses_it (r ∷ rows) row key (inr later) same =
-    or_true (r.key == key) _ (uses_it rows row key later same)
+uses_it [] _ _ there _ = absurd there
+uses_it (r ∷ _) _ key (inl here) same = rw (eq-eqb r.key key (rw (here, same)))
+uses_it (r ∷ rows) row key (inr later) same = or_true (r.key == key) _ (uses_it rows row key later same)
   where
     or_true : (b c : Bool) → c ≡ true → (b || c) ≡ true
-    or_true true c is = refl
+    or_true true c _ = refl
     or_true false c is = is
 
 pub not_used : (s : State) (key : ℕ) → IsGivenUp s key → (row : RxRow) → IsMember s.rx.rows row → row.key ≡ key → ⊥
-not_used s key up row there same = let no = sym (uses_it _ row key there same)
-    ∙ (or_parts _ _ up.unused).1 in cc
+not_used s key up row there same = let no = sym (uses_it _ row key there same) ∙ (or_parts _ _ up.unused).1 in cc
 
 -- a lowest acceptable PN is at most 2^64
 lowest_fits : (scis : List Sci) (rows : List RxRow) (row : RxRow) → AreRxRows scis rows → IsMember rows row →
     row.lowest ≤ 2 ^ 64
-lowest_fits scis [] row are there = absurd there
+lowest_fits _ [] _ _ there = absurd there
 lowest_fits scis (r ∷ rows) row are (inr later) = lowest_fits scis rows row are.2 later
-lowest_fits scis (r ∷ rows) row are (inl here) = rw (← here) (omega (arith, are.0.lowest, are.0.next))
+lowest_fits _ (r ∷ _) _ are (inl here) = rw (← here) (omega (arith, are.0.lowest, are.0.next))
 
 of_some : {o : Option InstalledKey} {key : InstalledKey} → o ≡ Some key → IsSome o
 of_some is = rw is refl
@@ -71,14 +67,12 @@ module _ (laws : EndpointLaws) where
       let apart = laws.keys_apart s sound in
       let first = apart.found n there in
       let second = apart.found m there' in
-      let one =
-      apart.by_bytes (the_key s.keys n) (the_key s.keys m) first.there second.there same in
+      let one = apart.by_bytes (the_key s.keys n) (the_key s.keys m) first.there second.there same in
       rw (← first.number, one, second.number)
 
   row_key : (s : State) → IsSound s → (sci : Sci) (an : ℕ) (row : RxRow) → rx_row s.rx.rows sci an ≡ Some row →
       IsSome (key_row s.keys row.key)
-  row_key s sound sci an row there =
-      All-contains (λ r. IsSome (key_row s.keys r.key)) _ row sound.rx_keys
+  row_key s sound sci an row there = All-contains (λ r. IsSome (key_row s.keys r.key)) _ row sound.rx_keys
       (contained _ row (found_row sci an _ row there))
 
   keys_stay_with : (a : Ahead) (input : KeepingInput) → IsSound a.k.secy → lets_through a input ≡ true →
@@ -97,8 +91,7 @@ module _ (laws : EndpointLaws) where
       pub past : IsGivenUp a.k.secy key ⊎ (d.number ≤ past_of a key sci an)
 
     pub past_stays : (a : Ahead) (input : KeepingInput) → IsSound a.k.secy → IsSound (ahead_step a input).1.k.secy →
-        a.k.keeps ≡ true → lets_through a input ≡ true →
-        (d : Delivery) → IsPast a d → IsPast (ahead_step a input).1 d
+        a.k.keeps ≡ true → lets_through a input ≡ true → (d : Delivery) → IsPast a d → IsPast (ahead_step a input).1 d
     past_stays a input sound sound' keeps lets d it =
         let after = (ahead_step a input).1 in
         let later = octets_stay a.k.secy after.k.secy sound sound'
@@ -114,8 +107,8 @@ module _ (laws : EndpointLaws) where
             IsGivenUp (ahead_step a input).1.k.secy it.key
             ⊎ (past_of a it.key sci an ≤ past_of (ahead_step a input).1 it.key sci an) →
             IsGivenUp (ahead_step a input).1.k.secy it.key ⊎ (d.number ≤ past_of (ahead_step a input).1 it.key sci an)
-        by_past (inl up) stepped = inl (given_up_stays a input it.key up)
-        by_past (inr past) (inl up) = inl up
+        by_past (inl up) _ = inl (given_up_stays a input it.key up)
+        by_past (inr _) (inl up) = inl up
         by_past (inr past) (inr grows) = inr (omega (arith, past, grows))
 
     -- so an SA that is created again begins above it
@@ -148,8 +141,8 @@ module _ (laws : EndpointLaws) where
         -- no SA has a key that is given up
         by_past : (key : ℕ) → key ≡ row.key → past_of a key sci an < row.next → IsGivenUp s key
             ⊎ ((get_or ds i d).number ≤ past_of a key sci an) → (get_or ds i d).number < row.next
-        by_past key one above (inr past) = omega (arith, past, above)
-        by_past key one above (inl up) =
+        by_past _ one above (inr past) = omega (arith, past, above)
+        by_past key one _ (inl up) =
             absurd (not_used after key (given_up_stays a input key up) row (found_row sci an after.rx.rows row there)
             (sym one))
 
@@ -157,14 +150,12 @@ module _ (laws : EndpointLaws) where
         by_row None none =
             let it = all i d within in
             let later = octets_stay s after sound sound' stay it.key it.there in
-            let one =
-            one_number after sound' it.key row.key later.there (row_key after sound' sci an row there)
+            let one = one_number after sound' it.key row.key later.there (row_key after sound' sci an row there)
             (later.octets ∙ it.octets ∙ sym under) in
             let above : past_of a it.key sci an < row.next =
             rw one (created_above a input sci an row none there lets) in
             by_past it.key one above it.past
-        by_row (Some earlier) here = absurd (fresh earlier here
-            (rw (← kept_octets.octets, ← same_key, under)))
+        by_row (Some earlier) here = absurd (fresh earlier here (rw (← kept_octets.octets, ← same_key, under)))
           where
             kept_octets : HasOctetsOf s.keys after.keys earlier.key
             kept_octets = octets_stay s after sound sound' stay earlier.key (row_key s sound sci an earlier here)
@@ -214,15 +205,14 @@ module _ (laws : EndpointLaws) where
 
       sa_after : (row : RxRow) (delivered : List ℕ) → frame_fault frame ≡ None → IsDeliveredFrom s frame row delivered →
           HasStrictOrder s → row.sci ≡ sci → row.an ≡ an → IsAfter row
-      sa_after row delivered fits tells order is_sci is_an =
+      sa_after row _ fits tells order is_sci is_an =
           let same = after_is fits in
           let above : IsAbove after.k.secy.rx.rows row.sci row.an (j.number + 1) =
           rw same (tells.accepted (tells.opened order.mode).thirteen) in
           let ours : IsAbove after.k.secy.rx.rows sci an (j.number + 1) = rw (← is_an) (rw is_sci at above) in
           let place : rx_row s.rx.rows sci an ≡ Some row =
           rw (← is_an) (subst (λ x. rx_row s.rx.rows x row.an ≡ Some row) is_sci tells.at_place) in
-          let stepped : IsLaterRow row ours.row =
-          subst (λ o. RowStep (link_frame frame) o (Some ours.row)) place
+          let stepped : IsLaterRow row ours.row = subst (λ o. RowStep (link_frame frame) o (Some ours.row)) place
           (rw ours.there at (ahead_row_step a (link_frame frame) sci an)) in
           let window : after.k.secy.options.window ≡ 0 = rw (same, order.window) in
           let within = All-contains (λ r. r.next ≤ r.lowest + after.k.secy.options.window)
@@ -275,6 +265,5 @@ module _ (laws : EndpointLaws) where
     pub new_past : (a : Ahead) (input : KeepingInput) → IsSound a.k.secy → IsSound (ahead_step a input).1.k.secy →
         lets_through a input ≡ true → IsStrictInput a.k bytes sci an input →
         All (IsNewPast a (ahead_step a input).1) (delivered_at bytes sci an (newly_delivered a.k input))
-    new_past a input sound sound' lets strict =
-        of_ours bytes sci an (IsNewPast a (ahead_step a input).1) a.k input
+    new_past a input sound sound' lets strict = of_ours bytes sci an (IsNewPast a (ahead_step a input).1) a.k input
         (λ g there. new_delivery a input sound sound' lets (strict g there) g)

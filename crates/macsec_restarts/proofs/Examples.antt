@@ -1,5 +1,3 @@
-pub mod Premises
-pub mod Blocks
 pub mod Senders
 pub mod Receivers
 pub mod Tags
@@ -7,7 +5,7 @@ pub mod Histories
 pub mod TwoRunsEach
 pub mod NotSent
 pub mod Replays
-pub mod InsideBlocks
+pub mod Blocks
 pub mod ReservesAhead
 pub mod Extended
 pub mod ExtendedForgets

@@ -1,28 +1,28 @@
 -- Where deleted SAs ended is remembered by endpoints that forget keys, and what was saved of an SA is not delivered
 -- again.
-use Rattle.macsec_secy.proofs.GivenUp.{stays_replaced}
-use Rattle.macsec_reserve.specs.{Replay.{SavesAccepted, saved_for}}
+use Rattle.macsec_reserve.specs.Replay.{saved_for, SavesAccepted}
 use Rattle.macsec_restarts.{
   proofs.{
-    Names.{[], ◌+◌, ◌<◌, ◌∙◌, ◌∷◌, ◌≡◌, ◌≤◌, Ahead, ahead_forgetting_after, ahead_forgetting_step, ahead_step, All},
-    Names.{All-cons, All-contains, All-head, All-nil, All-tail, All-weaker, and_from, ap, arith, Bool, closing},
-    Names.{Command, end_of, endpoint_input, EndpointLaws, false, forgetting, forgetting_step, highest, if◌then◌else◌},
-    Names.{inl, inr, inside_of, IsAbove, IsGivenUp, IsSound, judgement_of, Keeping, keeping_step, KeepingInput},
-    Names.{KeepingOutput, KeepsAssociation, Key, le-leb, link_frame, List, lt-ltb, max, None, now_durable},
-    Names.{opening_with, operator_command, Option, passes, received_step, refl, reported, Reservation, reservations},
-    Names.{Retire, retired_by, row_name, Run, RunWith, rx_row, RxRow, RxSa, salt_of, same_octets-refl, Sci, Some},
-    Names.{State, step, subst, sym, take, taken, then_forget, through, true, unwrap_or, ℕ},
-    AheadEnds.{GivesUpBy, KeepsByRetiring, StaysUnless, after_command, ends_step, keeps_given_up, not_gone},
-    AheadEnds.{remembers_by, remembers_end, retires, row_kept},
-    AheadForgets.{KeepersAlike, by_forgetting, forgets_field},
+    AheadEnds.{after_command, ends_step, GivesUpBy, keeps_given_up, KeepsByRetiring, not_gone, remembers_by},
+    AheadEnds.{remembers_end, retires, row_kept, StaysUnless},
+    AheadForgets.{by_forgetting, forgets_field, KeepersAlike},
     AheadInside.{by_inside, k_inside, step_inside},
-    Placed.Fresh,
+    Names.{[], ◌+◌, ◌<◌, ◌∙◌, ◌∷◌, ◌≡◌, ◌≤◌, Ahead, ahead_forgetting_after, ahead_forgetting_step, ahead_step, All},
+    Names.{All-cons, All-contains, All-head, All-nil, All-tail, All-weaker, and_from, Answer, ap, arith, Bool, closing},
+    Names.{Command, end_of, endpoint_input, EndpointLaws, false, forgetting, forgetting_step, highest, if◌then◌else◌},
+    Names.{inl, Inputs, inr, inside_of, IsAbove, IsGivenUp, IsSound, judgement_of, Keeping, keeping_step, KeepingInput},
+    Names.{KeepsAssociation, Key, le-leb, link_frame, List, lt-ltb, max, None, now_durable, opening_with},
+    Names.{operator_command, Option, passes, received_step, refl, reported, Reservation, reservations, Retire},
+    Names.{retired_by, row_name, Run, RunWith, rx_row, RxRow, RxSa, salt_of, same_octets-refl, Sci, Some, State, step},
+    Names.{subst, sym, take, taken, then_forget, through, true, unwrap_or, ℕ},
+    RowSteps.Fresh,
     RunsWith.{same_beside, unused_beside},
     SameBut.{judged_same, name_same, row_there},
   },
-  specs.ForgettingEnds.{KeepsEndsForgetting, NeverDeliversAgainUnderWith, NeverDeliversAgainWith},
-  specs.ForgettingEnds.{RefusesBelowEndForgetting, RemembersEndForgetting, after_with},
+  specs.ForgettingEnds.{after_with, KeepsEndsForgetting, NeverDeliversAgainUnderWith, NeverDeliversAgainWith},
+  specs.ForgettingEnds.{RefusesBelowEndForgetting, RemembersEndForgetting},
 }
+use Rattle.macsec_secy.proofs.GivenUp.{stays_replaced}
 
 -- ---- what forgetting leaves
 
@@ -32,9 +32,9 @@ same_rx : (k : Keeping) (input : KeepingInput) →
 same_rx k input = forgets_field (λ x. x.secy.rx) (λ x n. refl) (retired_by input) (keeping_step k (taken k input))
 
 -- a key that is given up stays given up
-still_given_up : (o : Option ℕ) (answer : KeepingOutput × Keeping) (m : ℕ) → IsGivenUp answer.1.secy m →
+still_given_up : (o : Option ℕ) (answer : Answer) (m : ℕ) → IsGivenUp answer.1.secy m →
     IsGivenUp (then_forget o answer).1.secy m
-still_given_up None answer m up = up
+still_given_up None _ m up = up
 still_given_up (Some n) answer m up = by_both _
   where
     by_both : (b : Bool) → IsGivenUp (if b then forgetting answer.1 n else answer.1).secy m
@@ -43,14 +43,13 @@ still_given_up (Some n) answer m up = by_both _
 
 given_up_forgetting : (k : Keeping) (input : KeepingInput) (n : ℕ) → IsGivenUp k.secy n →
     IsGivenUp (forgetting_step k input).1.secy n
-given_up_forgetting k input n up = still_given_up _ _ n (keeps_given_up k _ n up)
+given_up_forgetting k _ n up = still_given_up _ _ n (keeps_given_up k _ n up)
 
 given_up_step : (a : Ahead) (input : KeepingInput) (n : ℕ) → IsGivenUp a.k.secy n →
     IsGivenUp (ahead_forgetting_step a input).1.k.secy n
-given_up_step a input n up =
-    by_forgetting (λ k. IsGivenUp k.secy n) a input up (given_up_forgetting a.k input n up)
+given_up_step a input n up = by_forgetting (λ k. IsGivenUp k.secy n) a input up (given_up_forgetting a.k input n up)
 
-given_up_later : (inputs : List KeepingInput) (a : Ahead) (n : ℕ) → IsGivenUp a.k.secy n →
+given_up_later : (inputs : Inputs) (a : Ahead) (n : ℕ) → IsGivenUp a.k.secy n →
     IsGivenUp (ahead_forgetting_after a inputs).k.secy n
 given_up_later [] a n up = up
 given_up_later (input ∷ inputs) a n up = given_up_later inputs _ _ (given_up_step a input n up)
@@ -69,17 +68,17 @@ forgetting_ends_step a (endpoint_input (operator_command c)) key sci an =
     after_command c _ (gives_up a.k c) _ passes a key sci an
 forgetting_ends_step a input key sci an = ends_step a input key sci an
 
-pub keeps_ends_forgetting : (inputs : List KeepingInput) (a : Ahead) (key : ℕ) (sci : Sci) (an : ℕ) →
+pub keeps_ends_forgetting : (inputs : Inputs) (a : Ahead) (key : ℕ) (sci : Sci) (an : ℕ) →
     KeepsEndsForgetting a inputs key sci an
-keeps_ends_forgetting [] a key sci an = inr (omega arith)
+keeps_ends_forgetting [] a _ _ _ = inr (omega arith)
 keeps_ends_forgetting (input ∷ inputs) a key sci an =
     by_step (forgetting_ends_step a input key sci an) (keeps_ends_forgetting inputs _ key sci an)
   where
     by_step : StaysUnless a (ahead_forgetting_step a input).1 key sci an →
         KeepsEndsForgetting (ahead_forgetting_step a input).1 inputs key sci an →
         KeepsEndsForgetting a (input ∷ inputs) key sci an
-    by_step (inl up) later = inl (given_up_later inputs _ _ up)
-    by_step (inr grows) (inl up) = inl up
+    by_step (inl up) _ = inl (given_up_later inputs _ _ up)
+    by_step (inr _) (inl up) = inl up
     by_step (inr grows) (inr later) = inr (omega (arith, grows, later))
 
 keeps_by_retiring : (k : Keeping) (row : RxRow) → rx_row k.secy.rx.rows row.sci row.an ≡ Some row → (c : Command) →
@@ -87,7 +86,7 @@ keeps_by_retiring : (k : Keeping) (row : RxRow) → rx_row k.secy.rx.rows row.sc
 keeps_by_retiring k row there (Retire n) = λ none.
     not_gone k (endpoint_input (operator_command (Retire n))) row refl there
     (rw (same_rx k (endpoint_input (operator_command (Retire n)))) at none)
-keeps_by_retiring k row there c = tt
+keeps_by_retiring k _ _ c = tt
 
 pub remembers_end_forgetting : (a : Ahead) (input : KeepingInput) (row : RxRow) → RemembersEndForgetting a input row
 remembers_end_forgetting a (now_durable r) row = remembers_end a (now_durable r) row
@@ -105,24 +104,21 @@ refuses_below_end_forgetting a sci an key ssci lowest least below =
 
 keeps_taken : (k : Keeping) (sci : Sci) (an : ℕ) (input : KeepingInput) → KeepsAssociation sci an input →
     KeepsAssociation sci an (taken k input)
-keeps_taken k sci an (now_durable r) keeps = tt
-keeps_taken k sci an (endpoint_input (operator_command (Key key))) keeps = refl
-keeps_taken k sci an (endpoint_input input) keeps = keeps
+keeps_taken k _ _ (now_durable r) _ = tt
+keeps_taken k _ _ (endpoint_input (operator_command (Key _))) _ = refl
+keeps_taken k _ _ (endpoint_input _) keeps = keeps
 
 above_forgetting : (a : Ahead) (input : KeepingInput) (sci : Sci) (an n : ℕ) → KeepsAssociation sci an input →
-    IsAbove a.k.secy.rx.rows sci an n →
-    IsAbove (ahead_forgetting_step a input).1.k.secy.rx.rows sci an n
-above_forgetting a input sci an n keeps above =
-    by_forgetting (λ k. IsAbove k.secy.rx.rows sci an n) a input above
+    IsAbove a.k.secy.rx.rows sci an n → IsAbove (ahead_forgetting_step a input).1.k.secy.rx.rows sci an n
+above_forgetting a input sci an n keeps above = by_forgetting (λ k. IsAbove k.secy.rx.rows sci an n) a input above
     (rw (same_rx a.k input) (row_kept a.k _ sci an n (keeps_taken a.k sci an input keeps) above))
 
 above_ahead : (a : Ahead) (input : KeepingInput) (sci : Sci) (an n : ℕ) → KeepsAssociation sci an input →
-    IsAbove a.k.secy.rx.rows sci an n →
-    IsAbove (ahead_step a input).1.k.secy.rx.rows sci an n
+    IsAbove a.k.secy.rx.rows sci an n → IsAbove (ahead_step a input).1.k.secy.rx.rows sci an n
 above_ahead a input sci an n keeps above =
     by_inside (λ k. IsAbove k.secy.rx.rows sci an n) a input above (row_kept a.k input sci an n keeps above)
 
-above_on : (forgets : Bool) (inputs : List KeepingInput) (a : Ahead) {sci : Sci} {an n : ℕ} →
+above_on : (forgets : Bool) (inputs : Inputs) (a : Ahead) {sci : Sci} {an n : ℕ} →
     All (KeepsAssociation sci an) inputs → IsAbove a.k.secy.rx.rows sci an n →
     IsAbove (after_with forgets a inputs).k.secy.rx.rows sci an n
 above_on true (input ∷ inputs) a {sci} {an} {n} keeps above =
@@ -131,12 +127,12 @@ above_on true (input ∷ inputs) a {sci} {an} {n} keeps above =
 above_on false (input ∷ inputs) a {sci} {an} {n} keeps above =
     above_on false inputs _ (All-tail (KeepsAssociation sci an) input inputs keeps)
     (above_ahead a input sci an n (All-head (KeepsAssociation sci an) input inputs keeps) above)
-above_on forgets inputs a keeps above = above
+above_on _ _ a _ above = above
 
 -- ---- what is delivered is above what the journal had saved
 
 module _ (alike : KeepersAlike) (fresh : Fresh) where
-  above_saved : (forgets other : Bool) (later : Run) (inputs : List KeepingInput) (frame : List ℕ) (row : RxRow)
+  above_saved : (forgets other : Bool) (later : Run) (inputs : Inputs) (frame : List ℕ) (row : RxRow)
       (delivered : List ℕ) →
       let s = (after_with forgets (opening_with other later) inputs).k.secy in
       ((m : ℕ) → IsSound (after_with forgets (opening_with other later) (take m inputs)).k.secy) →
@@ -153,16 +149,13 @@ module _ (alike : KeepersAlike) (fresh : Fresh) where
       let judged = judged_same s t same unused frame in
       let replay' : s.options.replay ≡ true = sym (rw same.same) ∙ replay in
       let of_row' : (judgement_of s frame).row ≡ Some row = rw (← judged, of_row) in
-      let above =
-      fresh q q.inputs frame row delivered replay' of_row' (rw (← judged, delivers)) in
+      let above = fresh q q.inputs frame row delivered replay' of_row' (rw (← judged, delivers)) in
       subst (λ n. highest (reservations later.journal) (row_name (salt_of later.journal) t row) < n)
       (sym (ap (λ j. j.number) judged)) (rw (name_same s t same unused _ row (row_there s frame row of_row')) above)
-  above_saved false other later inputs frame row delivered sound replay of_row delivers =
+  above_saved false _ later inputs frame row delivered _ replay of_row delivers =
       let q : Run = record later { inputs = through _ inputs } in
-      let P : Keeping → Type 0 = λ k.
-      k.secy.options.replay ≡ true → (judgement_of k.secy frame).row ≡ Some row →
-      (judgement_of k.secy frame).delivered ≡ Some delivered →
-      highest (reservations later.journal) (row_name
+      let P : Keeping → Type 0 = λ k. k.secy.options.replay ≡ true → (judgement_of k.secy frame).row ≡ Some row →
+      (judgement_of k.secy frame).delivered ≡ Some delivered → highest (reservations later.journal) (row_name
       (salt_of later.journal) k.secy row) < (judgement_of k.secy frame).number in
       let there : P (closing q) = λ replay' of_row' delivers'. fresh q q.inputs frame row delivered replay' of_row'
       delivers' in
@@ -200,8 +193,7 @@ module _ (alike : KeepersAlike) (laws : EndpointLaws) (fresh : Fresh) (saves : S
       let s = l.k.secy in
       let j = judgement_of s saved.frame in
       let link = endpoint_input (link_frame saved.frame) in
-      let tells =
-      laws.delivers s saved.frame saved.from saved.accepted.delivered saved.sound saved.accepted.row
+      let tells = laws.delivers s saved.frame saved.from saved.accepted.delivered saved.sound saved.accepted.row
       saved.accepted.gives in
       let accepted = tells.accepted saved.accepted.step in
       let stepped : IsAbove (step s (link_frame saved.frame)).1.rx.rows saved.from.sci saved.from.an (j.number + 1) =
@@ -220,8 +212,7 @@ module _ (alike : KeepersAlike) (laws : EndpointLaws) (fresh : Fresh) (saves : S
       let granted : (saved_for saved.last.k.salt saved.last.k.secy saved.row).last ≤ highest (reported run)
       (row_name saved.last.k.salt saved.last.k.secy saved.row) =
       All-contains (λ x. x.last ≤ highest (reported run) x.name) _ _ (has_highest _) saved.durable in
-      let under =
-      rw saved.name_is at granted in
+      let under = rw saved.name_is at granted in
       let t = (after_with forgets (opening_with other later) inputs).k.secy in
       let above =
       rw is_name at (above_saved alike fresh forgets other later inputs frame row _ sound replay of_row delivers) in
@@ -229,8 +220,7 @@ module _ (alike : KeepersAlike) (laws : EndpointLaws) (fresh : Fresh) (saves : S
 
   pub never_delivers_again_under_with : (forgets ahead other : Bool) (run later : Run) (bytes : List ℕ) (sci : Sci)
       (an n : ℕ) → NeverDeliversAgainUnderWith forgets ahead other run later bytes sci an n
-  never_delivers_again_under_with forgets ahead other run later bytes sci an n saved salt reads inputs frame row
+  never_delivers_again_under_with forgets ahead other run later _ _ _ n saved salt reads inputs frame row
       delivered sound replay of_row delivers is_key is_sci is_an =
       never_delivers_again_with forgets ahead other run later _ n saved reads
-      inputs frame row delivered sound replay of_row delivers
-      (rw (is_key, salt, is_sci, is_an))
+      inputs frame row delivered sound replay of_row delivers (rw (is_key, salt, is_sci, is_an))

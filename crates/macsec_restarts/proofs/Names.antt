@@ -153,3 +153,18 @@ unfoldable pub use Rattle.{
   },
   macsec_gcm.specs.{Gcm.pre_counter_block, Octets.sum_with_stream},
 }
+
+-- ---- types that are long to write
+
+abbrev pub Inputs : Type 0
+Inputs = List KeepingInput
+
+abbrev pub Events : Type 0
+Events = List Happening
+
+abbrev pub Uses : Type 0
+Uses = List CipherUse
+
+-- what the keeping endpoint answers, and the endpoint after it
+abbrev pub Answer : Type 0
+Answer = KeepingOutput × Keeping

@@ -1,29 +1,194 @@
--- Origin: the other end sent what a strictly validating end delivers, in one of its runs.
-use Rattle.{
-  macsec_tag.specs.Frame.IsTagged,
-  macsec_secy.specs.Delivers.{IsOfOtherSender, IsOpened},
-  macsec_link.{
-    proofs.{EndpointLaws.differ, Members.from_map, Reflections.{not_of_own_end, recovered_most, same_number_asked}},
-    specs.Trace.{Sent, use_to_open_by},
-  },
-  macsec_restarts.proofs.{
-    Names.{[], ◌++◌, ◌∙◌, ◌≡◌, ◌≤◌, ◌⊎◌, A, AgreeOnKey, AgreeOnKeys, All, All-contains, AllPairs, ap, AreOctets},
-    Names.{ArePeers, B, closing, comes_in, contained, Contains, End, endpoint_input, EndpointLaws, Grammar, Happening},
-    Names.{IfSome, if◌then◌else◌, inl, inr, InstalledKey, is_xpn, IsDeliveredFrom, IsFrom, IsGenuineAt, IsHistory},
-    Names.{IsMember, IsSameEnd, IsSound, iv_of, iv_of_parts, IvParts, judgement_of, key_row_facts, last_of, last_run},
-    Names.{link_frame, List, map, map-append, member, MpduParts, None, opening, Option, reading, refl, Run, runs_of},
-    Names.{RxRow, sealed_in_all, sent_in_all, SentIn, Some, State, Strict, sym, the_key, true, use_opened},
-    Names.{use_opened_in, WasSent, ℕ},
-    Lists.{at_end, either_list, in_front},
-    Prefixes.peers_taken,
-    Sends.{IsSentIn, by_runs, last_member, last_or_before, seal_of_sent, seals_of_runs},
-    SoundRuns.{IsSoundRun, closing_sound, stay_after},
-  },
-  macsec_restarts.specs.{
-    Origin.{AlwaysComesFromOther, ComesFromOther},
-    Used.{ArePeersAtAll, ComesFromOtherAtAll, IsSoundHistory},
-  },
+-- Origin, and the premises on two ends at each moment.
+use Rattle.macsec_link.{
+  proofs.{EndpointLaws.differ, Members.from_map, Reflections.{not_of_own_end, recovered_most, same_number_asked}},
+  specs.Trace.{Sent, use_to_open_by},
 }
+use Rattle.macsec_restarts.{
+  proofs.{
+    Names.{[], ◌++◌, ◌∙◌, ◌∷◌, ◌≡◌, ◌≤◌, ◌⊎◌, A, AgreeOnKey, AgreeOnKeys, All, All-cons, All-contains, All-head},
+    Names.{All-nil, All-tail, AllPairs, AllPairs-cons, ap, append-nil, append_assoc, AreOctets, ArePeers, AtEach, B},
+    Names.{closing, comes_in, contained, Contains, End, endpoint_input, EndpointLaws, Events, get_or, Grammar},
+    Names.{Happening, IfSome, if◌then◌else◌, inl, Inputs, inr, InstalledKey, is_xpn, IsDeliveredFrom, IsFrom},
+    Names.{IsGenuineAt, IsHistory, IsMember, IsSameEnd, IsSound, iv_of, iv_of_parts, IvParts, judgement_of, Keeping},
+    Names.{KeepingInput, KeepsDurable, key_row_facts, last_of, last_run, link_frame, List, map, map-append, member},
+    Names.{MpduParts, no_pairs, None, one_alone, opening, Option, pairs-head, pairs-tail, reading, refl, Run, runs_of},
+    Names.{RxRow, SameSalt, sealed_in_all, sent_in_all, SentIn, Some, State, StaysSound, Strict, suc, sym, take},
+    Names.{the_key, true, use_opened, use_opened_in, WasSent, zero, ℕ},
+    Pushed.{at_end, closing-input, either_list, in_front, is_next, IsNext, new_input, new_run, same_runs, with_input},
+    Pushed.with_last,
+    Sends.{by_runs, closing_sound, IsSentIn, IsSoundRun, keys_stay, last_member, last_or_before, seal_of_sent},
+    Sends.{seals_of_runs, stay_after},
+  },
+  specs.{Origin.{AlwaysComesFromOther, ComesFromOther}, Used.{ArePeersAtAll, ComesFromOtherAtAll, IsSoundHistory}},
+}
+use Rattle.macsec_secy.specs.{Delivers.{IsOfOtherSender, IsOpened}, Kept.KeyStaysIn}
+use Rattle.macsec_tag.specs.Frame.{IsTagged}
+
+-- The premises on two ends of all that happens hold of each beginning of it.
+
+-- ---- a run without its last input
+
+pub first_taken : (n : ℕ) (inputs : Inputs) (input : KeepingInput) →
+    (m : ℕ) × (take n inputs ≡ take m (inputs ++ input ∷ []))
+first_taken (suc n) (i ∷ inputs) input = let it = first_taken n inputs input in (suc it.0, rw it.1)
+first_taken n _ _ = (0, refl)
+
+sound_before : (k : Keeping) (inputs : Inputs) (input : KeepingInput) → StaysSound k (inputs ++ input ∷ []) →
+    StaysSound k inputs
+sound_before k inputs input sound n =
+    let it = first_taken n inputs input in
+    rw it.1 (sound it.0)
+
+module _ (laws : EndpointLaws) (input : KeepingInput) where
+  key_stays : (run : Run) → IsSoundRun run → (x : InstalledKey) → Contains (closing run).secy.keys x →
+      KeyStaysIn (closing (with_input input run)).secy.keys x
+  key_stays run sound x there =
+      rw (closing-input input run) ((keys_stay laws _ input (closing_sound run sound)).keys x there)
+
+  pub agree_before : (run later : Run) → IsSoundRun later → AgreeOnKeys run (with_input input later) →
+      AgreeOnKeys run later
+  agree_before _ later sound agree x y here there bytes =
+      let it = key_stays later sound y there in
+      let both = agree x it.later here it.there (bytes ∙ sym it.is_later.bytes) in
+      record { suite = both.suite ∙ it.is_later.suite; salt = λ xpn. both.salt xpn ∙ it.is_later.salt }
+
+  pub same_before : (run later : Run) → IsSoundRun later → IsSameEnd run (with_input input later) → IsSameEnd run later
+  same_before _ later sound same = record {
+    sci = same.sci;
+    ssci = λ x y here there bytes xpn.
+        let it = key_stays later sound y there in
+        same.ssci x it.later here it.there (bytes ∙ sym it.is_later.bytes) xpn ∙ it.is_later.ssci;
+  }
+
+  -- at the other end
+  pub agree_before' : (run other : Run) → IsSoundRun run → AgreeOnKeys (with_input input run) other →
+      AgreeOnKeys run other
+  agree_before' run _ sound agree x y here there bytes =
+      let it = key_stays run sound x here in
+      let both = agree it.later y it.there there (it.is_later.bytes ∙ bytes) in
+      record {
+        suite = sym it.is_later.suite ∙ both.suite;
+        salt = λ xpn. sym it.is_later.salt ∙ both.salt (rw (it.is_later.suite, xpn));
+      }
+
+-- ---- the first runs
+
+pub first_all : {X : Type 0} (P : X → Type 0) (xs ys : List X) → All P (xs ++ ys) → All P xs
+first_all P [] _ _ = All-nil P
+first_all P (x ∷ xs) ys all = All-cons P x xs (All-head P x (xs ++ ys) all) (first_all P xs ys (All-tail P x _ all))
+
+pub first_pairs : {X : Type 0} (R : X → X → Type 0) (xs ys : List X) → AllPairs R (xs ++ ys) → AllPairs R xs
+first_pairs R [] _ _ = no_pairs R
+first_pairs R (x ∷ xs) ys pairs =
+    AllPairs-cons R x xs (first_all (R x) xs ys (pairs-head R x _ pairs)) (first_pairs R xs ys (pairs-tail R x _ pairs))
+
+-- ---- runs, the last one without its last input
+
+module _ (input : KeepingInput) where
+  all_less : (P : Run → Type 0) → ((run : Run) → P (with_input input run) → P run) → (runs : List Run) →
+      All P (with_last input runs) → All P runs
+  all_less P _ [] _ = All-nil P
+  all_less P less (run ∷ []) all = All-cons P run [] (less run (All-head P (with_input input run) [] all)) (All-nil P)
+  all_less P less (run ∷ later ∷ more) all =
+      All-cons P run (later ∷ more) (All-head P run (with_last input (later ∷ more)) all)
+      (all_less P less (later ∷ more) (All-tail P run (with_last input (later ∷ more)) all))
+
+  all_before : (P : Run → Type 0) → ((run : Run) → IsSoundRun run → P (with_input input run) → P run) →
+      (runs : List Run) → All IsSoundRun runs → All P (with_last input runs) → All P runs
+  all_before P _ [] _ _ = All-nil P
+  all_before P weaker (run ∷ []) sounds all = All-cons P run [] (weaker run (All-head IsSoundRun run [] sounds)
+      (All-head P (with_input input run) [] all)) (All-nil P)
+  all_before P weaker (run ∷ later ∷ more) sounds all =
+      All-cons P run (later ∷ more) (All-head P run (with_last input (later ∷ more)) all)
+      (all_before P weaker (later ∷ more) (All-tail IsSoundRun run (later ∷ more) sounds)
+      (All-tail P run (with_last input (later ∷ more)) all))
+
+  pairs_before : (R : Run → Run → Type 0) → ((run later : Run) → IsSoundRun later → R run (with_input input later) →
+      R run later) → (runs : List Run) → All IsSoundRun runs → AllPairs R (with_last input runs) → AllPairs R runs
+  pairs_before R _ [] _ _ = no_pairs R
+  pairs_before R _ (run ∷ []) _ _ = one_alone R run
+  pairs_before R weaker (run ∷ later ∷ more) sounds pairs =
+      let others = All-tail IsSoundRun run (later ∷ more) sounds in
+      AllPairs-cons R run (later ∷ more)
+      (all_before (R run) (weaker run) (later ∷ more) others (pairs-head R run (with_last input (later ∷ more)) pairs))
+      (pairs_before R weaker (later ∷ more) others (pairs-tail R run (with_last input (later ∷ more)) pairs))
+
+-- ---- the runs before one more happening
+
+pub less_next : (P : Run → Type 0) → ((input : KeepingInput) (run : Run) → P (with_input input run) → P run) →
+    {e : End} {runs : List Run} {h : Happening} {after : List Run} → IsNext e runs h after → All P after → All P runs
+less_next P _ (same_runs h) all = all
+less_next P _ {runs} (new_run _ _) all = first_all P runs _ all
+less_next P less {runs} (new_input input) all = all_less input P (less input) runs all
+
+all_next : (P : Run → Type 0) →
+    ((input : KeepingInput) (run : Run) → IsSoundRun run → P (with_input input run) → P run) →
+    {e : End} {runs : List Run} {h : Happening} {after : List Run} → IsNext e runs h after → All IsSoundRun runs →
+    All P after → All P runs
+all_next P _ (same_runs h) _ all = all
+all_next P _ {runs} (new_run _ _) _ all = first_all P runs _ all
+all_next P weaker {runs} (new_input input) sounds all = all_before input P (weaker input) runs sounds all
+
+pub pairs_next : (R : Run → Run → Type 0) →
+    ((input : KeepingInput) (run later : Run) → IsSoundRun later → R run (with_input input later) → R run later) →
+    {e : End} {runs : List Run} {h : Happening} {after : List Run} → IsNext e runs h after → All IsSoundRun runs →
+    AllPairs R after → AllPairs R runs
+pairs_next R _ (same_runs h) _ pairs = pairs
+pairs_next R _ {runs} (new_run _ _) _ pairs = first_pairs R runs _ pairs
+pairs_next R weaker {runs} (new_input input) sounds pairs = pairs_before input R (weaker input) runs sounds pairs
+
+-- the runs of both ends
+pub agree_next : EndpointLaws → {h : Happening} {ra rb a b : List Run} → IsNext A ra h a → IsNext B rb h b →
+    All IsSoundRun ra → All IsSoundRun rb → All (λ run. All (AgreeOnKeys run) b) a →
+    All (λ run. All (AgreeOnKeys run) rb) ra
+agree_next laws {ra} {rb} {a} na nb sa sb agree = all_next (λ run. All (AgreeOnKeys run) rb)
+    (λ input run sound all i d within. agree_before' laws input run (get_or rb i d) sound (all i d within)) na sa
+    (λ i d within. all_next (AgreeOnKeys (get_or a i d))
+    (λ input other. agree_before laws input (get_or a i d) other) nb sb (agree i d within))
+
+history_next : EndpointLaws → {e : End} {runs : List Run} {h : Happening} {after : List Run} → IsNext e runs h after →
+    IsHistory after → IsHistory runs
+history_next laws next is =
+    let sounds = less_next IsSoundRun (λ input run. sound_before (opening run) run.inputs input) next is.sound in
+    record {
+      sound = sounds;
+      agree = pairs_next _ (agree_before laws) next sounds is.agree;
+      salt = pairs_next SameSalt (λ input run later sound same. same) next sounds is.salt;
+      durable = pairs_next KeepsDurable (λ input run later sound keeps. keeps) next sounds is.durable;
+    }
+
+one_less : EndpointLaws → (before : Events) (h : Happening) → ArePeers (before ++ h ∷ []) → ArePeers before
+one_less laws before h peers =
+    let a = history_next laws (is_next A before h) peers.a in
+    let b = history_next laws (is_next B before h) peers.b in
+    record {
+      a = a;
+      b = b;
+      agree = agree_next laws (is_next A before h) (is_next B before h) a.sound b.sound peers.agree;
+      one_a = pairs_next _ (same_before laws) (is_next A before h) a.sound peers.one_a;
+      one_b = pairs_next _ (same_before laws) (is_next B before h) b.sound peers.one_b;
+    }
+
+pub peers_before : EndpointLaws → (before more : Events) → ArePeers (before ++ more) → ArePeers before
+peers_before laws before [] peers = rw (append-nil before) at peers
+peers_before laws before (h ∷ more) peers =
+    one_less laws _ h (peers_before laws _ more (rw (append_assoc before (h ∷ []) more) peers))
+
+pub peers_taken : EndpointLaws → (k : ℕ) (before events : Events) → ArePeers (before ++ events) →
+    ArePeers (before ++ take k events)
+peers_taken laws zero before events peers = rw (append-nil before) (peers_before laws before events peers)
+peers_taken _ (suc k) _ [] peers = peers
+peers_taken laws (suc k) before (h ∷ more) peers =
+    rw (append_assoc before (h ∷ []) (take k more)) at (peers_taken laws k (before ++ h ∷ []) more
+    (rw (append_assoc before (h ∷ []) more) peers))
+
+-- what holds at each moment holds at each moment of a beginning
+pub each_taken : (P : Events → Happening → Type 0) (k : ℕ) (before events : Events) →
+    AtEach P before events → AtEach P before (take k events)
+each_taken P (suc k) _ (h ∷ more) each = (each.0, each_taken P k _ more each.1)
+each_taken P k _ _ _ = tt
+
+-- Origin: the other end sent what a strictly validating end delivers, in one of its runs.
 
 -- as macsec_link has it
 abbrev in_link : SentIn → Sent
@@ -52,8 +217,7 @@ record AreOneKey (s t : State) (x y : InstalledKey) : Type 0 where
 not_of_earlier_run : EndpointLaws → (s t : State) (row : RxRow) (number : ℕ) (p : MpduParts) (x : SentIn) → IsSound s →
     IsSound t → IsOfOtherSender t row →
     number ≤ last_of (the_key t.keys row.key).suite → (from : IsFrom s x.seal x.number) →
-    AreOneKey s t from.key (the_key t.keys row.key) →
-    x.seal ≡ use_to_open_by t row number p → ⊥
+    AreOneKey s t from.key (the_key t.keys row.key) → x.seal ≡ use_to_open_by t row number p → ⊥
 not_of_earlier_run laws s t row number p x sound sound' of most from one asked =
     let key = the_key t.keys row.key in
     let facts = key_row_facts laws t key sound' of.key.there in
@@ -70,12 +234,11 @@ not_of_earlier_run laws s t row number p x sound sound' of most from one asked =
 -- ---- what was opened was sent in a run of one of the ends
 
 sealed_before : (runs others : List Run) (s : State) (frame : List ℕ) (row : RxRow) (delivered : List ℕ) →
-    (judgement_of s frame).row ≡ Some row →
-    (it : IsOpened s frame row delivered) →
+    (judgement_of s frame).row ≡ Some row → (it : IsOpened s frame row delivered) →
     IfSome (use_opened s frame) (Contains (sealed_in_all runs ++ sealed_in_all others)) →
     (x : SentIn) × IsMember (sent_in_all runs ++ sent_in_all others) x ×
     (x.seal ≡ use_to_open_by s row (judgement_of s frame).number it.p)
-sealed_before runs others s frame row delivered of_row it genuine =
+sealed_before runs others s frame row _ of_row it genuine =
     let j = judgement_of s frame in
     let opening' = use_to_open_by s row j.number it.p in
     let opened : use_opened s frame ≡ Some opening' =
@@ -89,8 +252,7 @@ sealed_before runs others s frame row delivered of_row it genuine =
     seals_of_both ps qs = rw (
       map-append seal_of_sent (sent_in_all ps) (sent_in_all qs),
       seals_of_runs ps,
-      seals_of_runs
-          qs,
+      seals_of_runs qs,
     ) refl
 
 -- ---- one end, and the other
@@ -107,13 +269,11 @@ abbrev IsPair : Run → Run → Type 0
 IsPair run later = AgreeOnKeys run later × IsSameEnd run later
 
 pub comes : EndpointLaws → Grammar → (runs others : List Run) → AreRuns runs others → (run : Run) →
-    last_run runs ≡ Some run →
-    (frame : List ℕ) → AreOctets frame → (row : RxRow) (delivered : List ℕ) →
+    last_run runs ≡ Some run → (frame : List ℕ) → AreOctets frame → (row : RxRow) (delivered : List ℕ) →
     let s = (closing run).secy in
     IfSome (use_opened s frame) (Contains (sealed_in_all runs ++ sealed_in_all others)) →
     s.options.mode ≡ Strict → (judgement_of s frame).row ≡ Some row → (judgement_of s frame).delivered ≡ Some
-    delivered →
-    WasSent (sent_in_all others) (the_key s.keys row.key).bytes delivered (judgement_of s frame).number
+    delivered → WasSent (sent_in_all others) (the_key s.keys row.key).bytes delivered (judgement_of s frame).number
 comes laws grammar runs others are run last frame octets row delivered genuine strict of_row delivers = by_side
     (either_list (sent_in_all runs) (sent_in_all others) x found.1)
   where
@@ -179,8 +339,7 @@ comes laws grammar runs others are run last frame octets row delivered genuine s
             let from = is.it.from in
             let agree = pair.0 from.key key from.there of.key.there (sym from.bytes ∙ bytes) in
             not_of_earlier_run laws (closing is.run).secy s row number opened.p x (closing_sound is.run is.sound) sound
-            of most from
-            (record {
+            of most from (record {
               sci = ap (λ c. c.sci) (own_config is.run is.sound) ∙ pair.1.sci ∙
                   ap (λ c. c.sci) (sym (own_config run sound_run));
               suite = agree.suite;
@@ -205,8 +364,7 @@ comes laws grammar runs others are run last frame octets row delivered genuine s
           send = x;
           among = among;
           of_frame = sym (is.it.opens key (iv_of key.suite row.sci row.ssci key.salt number) opened.p opened.plaintext
-              is_tagged.tag lengths.da lengths.sa (sym asked)
-              (rw (asked, opened.opens))) ∙ opened.gives;
+              is_tagged.tag lengths.da lengths.sa (sym asked) (rw (asked, opened.opens))) ∙ opened.gives;
           under = bytes;
           of_number = same_number_asked laws s (closing is.run).secy row number opened.p (in_link x) sound
               (closing_sound is.run is.sound) of from
@@ -218,7 +376,7 @@ comes laws grammar runs others are run last frame octets row delivered genuine s
 pub turned : {x y : InstalledKey} → AgreeOnKey x y → AgreeOnKey y x
 turned it = record { suite = sym it.suite; salt = λ xpn. sym (it.salt (rw (it.suite, xpn))) }
 
-at_a : (before : List Happening) → ArePeersAtAll before → AreRuns (runs_of A before) (runs_of B before)
+at_a : (before : Events) → ArePeersAtAll before → AreRuns (runs_of A before) (runs_of B before)
 at_a before peers = record {
   own = peers.a;
   other = peers.b;
@@ -230,7 +388,7 @@ at_a before peers = record {
       turned (both x y here here' bytes);
 }
 
-at_b : (before : List Happening) → ArePeersAtAll before → AreRuns (runs_of B before) (runs_of A before)
+at_b : (before : Events) → ArePeersAtAll before → AreRuns (runs_of B before) (runs_of A before)
 at_b before peers = record {
   own = peers.b;
   other = peers.a;
@@ -245,24 +403,24 @@ at_b before peers = record {
 -- what was sealed at either end, in the other order
 pub swapped : {X : Type 0} (xs ys : List X) (o : Option X) → IfSome o (Contains (xs ++ ys)) →
     IfSome o (Contains (ys ++ xs))
-swapped xs ys None there = there
+swapped _ _ None there = there
 swapped xs ys (Some x) there = contained _ x (by_list (either_list xs ys x (member _ x there)))
   where
     by_list : IsMember xs x ⊎ IsMember ys x → IsMember (ys ++ xs) x
     by_list (inl here) = at_end ys xs x here
     by_list (inr here) = in_front ys xs x here
 
-genuine_now : (before : List Happening) (e : End) {run : Run} (frame : List ℕ) → last_run (runs_of e before) ≡ Some
+genuine_now : (before : Events) (e : End) {run : Run} (frame : List ℕ) → last_run (runs_of e before) ≡ Some
     run → IsGenuineAt before (comes_in e (endpoint_input (link_frame frame))) →
     IfSome (use_opened (closing run).secy frame)
     (Contains (sealed_in_all (runs_of A before) ++ sealed_in_all (runs_of B before)))
-genuine_now before e frame last genuine = rw last at genuine
+genuine_now _ e _ last genuine = rw last at genuine
 
-pub comes_from_other_at_all : EndpointLaws → Grammar → (before : List Happening) → ComesFromOtherAtAll before
-comes_from_other_at_all laws grammar before peers A run frame row delivered octets genuine last strict of_row delivers =
+pub comes_from_other_at_all : EndpointLaws → Grammar → (before : Events) → ComesFromOtherAtAll before
+comes_from_other_at_all laws grammar before peers A run frame row _ octets genuine last strict of_row delivers =
     comes laws grammar _ _ (at_a _ peers) run last frame octets row _
     (genuine_now before A frame last genuine) strict of_row delivers
-comes_from_other_at_all laws grammar before peers B run frame row delivered octets genuine last strict of_row delivers =
+comes_from_other_at_all laws grammar before peers B run frame row _ octets genuine last strict of_row delivers =
     comes laws grammar _ _ (at_b _ peers) run last frame octets row _
     (swapped (sealed_in_all (runs_of A before)) (sealed_in_all (runs_of B before)) _
     (genuine_now before B frame last genuine)) strict of_row delivers
@@ -270,7 +428,7 @@ comes_from_other_at_all laws grammar before peers B run frame row delivered octe
 without_journal : {runs : List Run} → IsHistory runs → IsSoundHistory runs
 without_journal is = record { sound = is.sound; agree = is.agree }
 
-at_all : {before : List Happening} → ArePeers before → ArePeersAtAll before
+at_all : {before : Events} → ArePeers before → ArePeersAtAll before
 at_all peers = record {
   a = without_journal peers.a;
   b = without_journal peers.b;
@@ -279,11 +437,10 @@ at_all peers = record {
   one_b = peers.one_b;
 }
 
-pub comes_from_other : EndpointLaws → Grammar → (before : List Happening) → ComesFromOther before
+pub comes_from_other : EndpointLaws → Grammar → (before : Events) → ComesFromOther before
 comes_from_other laws grammar before peers = comes_from_other_at_all laws grammar before (at_all peers)
 
-pub always_comes_from_other : EndpointLaws → Grammar → (events : List Happening) → AlwaysComesFromOther events
+pub always_comes_from_other : EndpointLaws → Grammar → (events : Events) → AlwaysComesFromOther events
 always_comes_from_other laws grammar events genuine peers k e run frame row delivered octets happens last strict of_row
-    delivers =
-    comes_from_other laws grammar _ (peers_taken laws k [] events peers) e run frame row delivered octets
+    delivers = comes_from_other laws grammar _ (peers_taken laws k [] events peers) e run frame row delivered octets
     (rw happens at (genuine k)) last strict of_row delivers

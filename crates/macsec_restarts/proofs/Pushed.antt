@@ -1,11 +1,34 @@
+-- One more happening: what it changes in the runs of an end.
+use Rattle.macsec_restarts.proofs.{
+  Names.{[], ◌&&◌, ◌++◌, ◌==◌, ◌∙◌, ◌∷◌, ◌≡◌, ◌⊎◌, A, ap, append-nil, append_assoc, B, begins, Bool, closing, comes_in},
+  Names.{delivered_at, delivered_from, delivered_in, delivered_in_all, Delivery, End, EndConfig, Events, false},
+  Names.{filter-append, Happening, if◌then◌else◌, inl, Inputs, inputs_until, inr, IsMember, Keeping, keeping_after},
+  Names.{keeping_step, KeepingInput, last_run, List, map, map-append, newly_delivered, newly_sent, None, opening},
+  Names.{Option, option_map, passing_from, refl, Run, runs_of, same_end, same_octets, same_sci, Sci, sent_from},
+  Names.{sent_in_all, SentIn, Some, subst, sym, true, ℕ},
+}
+
+-- The members of two lists, one after the other.
+
+pub in_front : {X : Type 0} (ps qs : List X) (x : X) → IsMember ps x → IsMember (ps ++ qs) x
+in_front [] _ x there = absurd there
+in_front (p ∷ _) _ x (inl here) = inl here
+in_front (p ∷ ps) qs x (inr later) = inr (in_front ps qs x later)
+
+pub at_end : {X : Type 0} (ps qs : List X) (x : X) → IsMember qs x → IsMember (ps ++ qs) x
+at_end [] _ x there = there
+at_end (p ∷ ps) qs x there = inr (at_end ps qs x there)
+
+pub either_list : {X : Type 0} (xs ys : List X) (x : X) → IsMember (xs ++ ys) x → IsMember xs x ⊎ IsMember ys x
+either_list [] _ x there = inr there
+either_list (z ∷ _) _ x (inl here) = inl (inl here)
+either_list (z ∷ xs) ys x (inr later) = by_side (either_list xs ys x later)
+  where
+    by_side : IsMember xs x ⊎ IsMember ys x → IsMember (z ∷ xs) x ⊎ IsMember ys x
+    by_side (inl a) = inl (inr a)
+    by_side (inr b) = inr b
+
 -- One more happening: the runs of an end, and what they sent and delivered.
-use Rattle.macsec_restarts.proofs.Names.{[], ◌&&◌, ◌++◌, ◌==◌, ◌∙◌, ◌∷◌, ◌≡◌, A, ap, append-nil, append_assoc, B}
-use Rattle.macsec_restarts.proofs.Names.{begins, Bool, closing, comes_in, delivered_at, delivered_from, delivered_in}
-use Rattle.macsec_restarts.proofs.Names.{delivered_in_all, Delivery, End, EndConfig, false, filter-append, Happening}
-use Rattle.macsec_restarts.proofs.Names.{if◌then◌else◌, inputs_until, Keeping, keeping_after, keeping_step}
-use Rattle.macsec_restarts.proofs.Names.{KeepingInput, last_run, List, newly_delivered, newly_sent, None, opening}
-use Rattle.macsec_restarts.proofs.Names.{Option, option_map, refl, Run, runs_of, same_end, same_octets, same_sci, Sci}
-use Rattle.macsec_restarts.proofs.Names.{sent_from, sent_in_all, SentIn, Some, sym, true, ℕ}
 
 -- a run with one more input
 abbrev pub with_input : KeepingInput → Run → Run
@@ -20,9 +43,9 @@ with_last input (run ∷ later ∷ more) = run ∷ with_last input (later ∷ mo
 -- ---- the inputs until the next run
 
 -- if no run begins later
-until_open : (e f : End) (input : KeepingInput) (more : List Happening) → runs_of e more ≡ [] → same_end e f ≡ true →
+until_open : (e f : End) (input : KeepingInput) (more : Events) → runs_of e more ≡ [] → same_end e f ≡ true →
     inputs_until e (more ++ comes_in f input ∷ []) ≡ inputs_until e more ++ input ∷ []
-until_open e f input [] none same = rw same
+until_open e f _ [] none same = rw same
 until_open e f input (begins g config journal ∷ more) none same =
     by_end (same_end e g) none (λ none'. until_open e f input more none' same)
   where
@@ -43,7 +66,7 @@ until_open e f input (comes_in g i ∷ more) none same = by_end (same_end e g) (
     by_end false rest = rest
 
 -- if a run begins later
-until_closed : (e : End) (h : Happening) (more : List Happening) {run : Run} {runs : List Run} →
+until_closed : (e : End) (h : Happening) (more : Events) {run : Run} {runs : List Run} →
     runs_of e more ≡ run ∷ runs → inputs_until e (more ++ h ∷ []) ≡ inputs_until e more
 until_closed e h [] some = cc
 until_closed e h (begins g config journal ∷ more) {run} {runs} some =
@@ -53,36 +76,36 @@ until_closed e h (begins g config journal ∷ more) {run} {runs} some =
         ∷ runs_of e more else runs_of e more) ≡ run ∷ runs →
         (runs_of e more ≡ run ∷ runs → inputs_until e (more ++ h ∷ []) ≡ inputs_until e more) →
         (if b then [] else inputs_until e (more ++ h ∷ [])) ≡ (if b then [] else inputs_until e more)
-    by_end true some' later = refl
+    by_end true _ _ = refl
     by_end false some' later = later some'
 until_closed e h (comes_in g i ∷ more) some = rw (until_closed e h more some)
 
 -- what happens at the other end
-until_other : (e f : End) (input : KeepingInput) (more : List Happening) → same_end e f ≡ false →
+until_other : (e f : End) (input : KeepingInput) (more : Events) → same_end e f ≡ false →
     inputs_until e (more ++ comes_in f input ∷ []) ≡ inputs_until e more
-until_other e f input [] other = rw other
-until_other e f input (begins g config journal ∷ more) other = rw (until_other e f input more other)
+until_other e f _ [] other = rw other
+until_other e f input (begins g _ _ ∷ more) other = rw (until_other e f input more other)
 until_other e f input (comes_in g i ∷ more) other = rw (until_other e f input more other)
 
-either_way : (b : Bool) {is : List KeepingInput} → (if b then is else is) ≡ is
+either_way : (b : Bool) {is : Inputs} → (if b then is else is) ≡ is
 either_way true = refl
 either_way false = refl
 
 -- a beginning
-until_begins : (e f : End) (config : EndConfig) (journal : List ℕ) (more : List Happening) →
+until_begins : (e f : End) (config : EndConfig) (journal : List ℕ) (more : Events) →
     inputs_until e (more ++ begins f config journal ∷ []) ≡ inputs_until e more
-until_begins e f config journal [] = either_way _
-until_begins e f config journal (begins g config' journal' ∷ more) = rw (until_begins e f config journal more)
+until_begins e f _ _ [] = either_way _
+until_begins e f config journal (begins g _ _ ∷ more) = rw (until_begins e f config journal more)
 until_begins e f config journal (comes_in g i ∷ more) = rw (until_begins e f config journal more)
 
 -- ---- the runs
 
-abbrev pub run_with : EndConfig → List ℕ → List KeepingInput → Run
+abbrev pub run_with : EndConfig → List ℕ → Inputs → Run
 run_with config journal inputs = record { journal = journal; config = config; inputs = inputs }
 
-pub runs_of-input : (e f : End) (input : KeepingInput) (before : List Happening) → same_end e f ≡ true →
+pub runs_of-input : (e f : End) (input : KeepingInput) (before : Events) → same_end e f ≡ true →
     runs_of e (before ++ comes_in f input ∷ []) ≡ with_last input (runs_of e before)
-runs_of-input e f input [] same = refl
+runs_of-input e f _ [] _ = refl
 runs_of-input e f input (comes_in g i ∷ more) same = runs_of-input e f input more same
 runs_of-input e f input (begins g config journal ∷ more) same =
     by_end (same_end e g) (by_rest _ refl (runs_of-input e f input more same)) (runs_of-input e f input more same)
@@ -97,13 +120,12 @@ runs_of-input e f input (begins g config journal ∷ more) same =
         run_with config journal (inputs_until e (more ++ comes_in f input ∷ []))
         ∷ runs_of e (more ++ comes_in f input ∷ []) ≡
         with_last input (run_with config journal (inputs_until e more) ∷ runs_of e more)
-    by_rest [] none later =
-        ap (λ is. run_with config journal is ∷ runs_of e (more ++ comes_in f input ∷ []))
+    by_rest [] none later = ap (λ is. run_with config journal is ∷ runs_of e (more ++ comes_in f input ∷ []))
         (until_open e f input more none same)
         ∙ ap (λ rs. run_with config journal (inputs_until e more ++ input ∷ []) ∷ rs)
         (later ∙ ap (with_last input) none)
         ∙ ap (λ rs. with_last input (run_with config journal (inputs_until e more) ∷ rs)) (sym none)
-    by_rest (run ∷ runs) some later =
+    by_rest (_ ∷ _) some later =
         ap (λ is. run_with config journal is ∷ runs_of e (more ++ comes_in f input ∷ [])) (until_closed e _ more some)
         ∙ ap (λ rs. run_with config journal (inputs_until e more) ∷ rs) (later ∙ ap (with_last input) some)
         ∙ ap (λ rs. with_last input (run_with config journal (inputs_until e more) ∷ rs)) (sym some)
@@ -112,21 +134,21 @@ runs_of-input e f input (begins g config journal ∷ more) same =
         (if b then run_with config journal (inputs_until e (more ++ comes_in f input ∷ []))
         ∷ runs_of e (more ++ comes_in f input ∷ []) else runs_of e (more ++ comes_in f input ∷ [])) ≡
         with_last input (if b then run_with config journal (inputs_until e more) ∷ runs_of e more else runs_of e more)
-    by_end true own later = own
-    by_end false own later = later
+    by_end true own _ = own
+    by_end false _ later = later
 
-pub runs_of-other_input : (e f : End) (input : KeepingInput) (before : List Happening) → same_end e f ≡ false →
+pub runs_of-other_input : (e f : End) (input : KeepingInput) (before : Events) → same_end e f ≡ false →
     runs_of e (before ++ comes_in f input ∷ []) ≡ runs_of e before
-runs_of-other_input e f input [] other = refl
+runs_of-other_input e f _ [] _ = refl
 runs_of-other_input e f input (comes_in g i ∷ more) other = runs_of-other_input e f input more other
-runs_of-other_input e f input (begins g config journal ∷ more) other =
+runs_of-other_input e f input (begins g _ _ ∷ more) other =
     rw (until_other e f input more other, runs_of-other_input e f input more other)
 
 -- a beginning at this end or at the other one
-pub runs_of-begins : (e f : End) (config : EndConfig) (journal : List ℕ) (before : List Happening) →
+pub runs_of-begins : (e f : End) (config : EndConfig) (journal : List ℕ) (before : Events) →
     runs_of e (before ++ begins f config journal ∷ []) ≡
     runs_of e before ++ (if same_end e f then run_with config journal [] ∷ [] else [])
-runs_of-begins e f config journal [] = refl
+runs_of-begins e f _ _ [] = refl
 runs_of-begins e f config journal (comes_in g i ∷ more) = runs_of-begins e f config journal more
 runs_of-begins e f config journal (begins g config' journal' ∷ more) =
     by_end (same_end e g) (runs_of-begins e f config journal more)
@@ -138,16 +160,14 @@ runs_of-begins e f config journal (begins g config' journal' ∷ more) =
         (if b then run_with config' journal' (inputs_until e (more ++ begins f config journal ∷ []))
         ∷ runs_of e (more ++ begins f config journal ∷ []) else runs_of e (more ++ begins f config journal ∷ [])) ≡
         (if b then run_with config' journal' (inputs_until e more) ∷ runs_of e more else runs_of e more) ++ added
-    by_end true later =
-        ap (λ is. run_with config' journal' is ∷ runs_of e (more ++ begins f config journal ∷ []))
-        (until_begins e f config journal more)
-        ∙ ap (λ rs. run_with config' journal' (inputs_until e more) ∷ rs) later
+    by_end true later = ap (λ is. run_with config' journal' is ∷ runs_of e (more ++ begins f config journal ∷ []))
+        (until_begins e f config journal more) ∙ ap (λ rs. run_with config' journal' (inputs_until e more) ∷ rs) later
     by_end false later = later
 
 pub same_is : (e f : End) → same_end e f ≡ true → f ≡ e
 same_is A B same = cc
 same_is B A same = cc
-same_is e f same = refl
+same_is e f _ = refl
 
 pub same_own : (e : End) → same_end e e ≡ true
 same_own A = refl
@@ -160,14 +180,12 @@ pub data IsNext (e : End) (runs : List Run) : Happening → List Run → Type 0 
       IsNext e runs (begins e config journal) (runs ++ run_with config journal [] ∷ [])
   new_input : (input : KeepingInput) → IsNext e runs (comes_in e input) (with_last input runs)
 
-pub is_next : (e : End) (before : List Happening) (h : Happening) →
-    IsNext e (runs_of e before) h (runs_of e (before ++ h ∷ []))
+pub is_next : (e : End) (before : Events) (h : Happening) → IsNext e (runs_of e before) h (runs_of e (before ++ h ∷ []))
 is_next e before (begins f config journal) = by_end (same_end e f) refl
   where
     by_end : (b : Bool) → same_end e f ≡ b → IsNext e (runs_of e before) (begins f config journal)
         (runs_of e (before ++ begins f config journal ∷ []))
-    by_end true same =
-        rw (runs_of-begins e f config journal before, same, same_is e f same) (new_run config journal)
+    by_end true same = rw (runs_of-begins e f config journal before, same, same_is e f same) (new_run config journal)
     by_end false other =
         rw (runs_of-begins e f config journal before, other, append-nil (runs_of e before)) (same_runs _)
 is_next e before (comes_in f input) = by_end (same_end e f) refl
@@ -181,16 +199,16 @@ is_next e before (comes_in f input) = by_end (same_end e f) refl
 
 pub last_run-with_last : (input : KeepingInput) (runs : List Run) →
     last_run (with_last input runs) ≡ option_map (with_input input) (last_run runs)
-last_run-with_last input (run ∷ later ∷ third ∷ more) = last_run-with_last input (later ∷ third ∷ more)
-last_run-with_last input it = refl
+last_run-with_last input (_ ∷ later ∷ third ∷ more) = last_run-with_last input (later ∷ third ∷ more)
+last_run-with_last _ _ = refl
 
 pub last_run-push : (runs : List Run) (run : Run) → last_run (runs ++ run ∷ []) ≡ Some run
 last_run-push (p ∷ q ∷ more) run = last_run-push (q ∷ more) run
-last_run-push runs run = refl
+last_run-push _ _ = refl
 
-pub after-push : (inputs : List KeepingInput) (k : Keeping) (input : KeepingInput) →
+pub after-push : (inputs : Inputs) (k : Keeping) (input : KeepingInput) →
     keeping_after k (inputs ++ input ∷ []) ≡ (keeping_step (keeping_after k inputs) input).1
-after-push [] k input = refl
+after-push [] k _ = refl
 after-push (i ∷ inputs) k input = after-push inputs _ input
 
 -- the end of a run with one more input
@@ -200,38 +218,32 @@ closing-input input run = after-push run.inputs (opening run) input
 
 -- ---- what they delivered and sent
 
-pub delivered_from-push : (inputs : List KeepingInput) (k : Keeping) (input : KeepingInput) →
+pub delivered_from-push : (inputs : Inputs) (k : Keeping) (input : KeepingInput) →
     delivered_from k (inputs ++ input ∷ []) ≡ delivered_from k inputs ++ newly_delivered (keeping_after k inputs) input
 delivered_from-push [] k input = append-nil (newly_delivered k input)
-delivered_from-push (i ∷ inputs) k input =
-    rw (
-      delivered_from-push inputs _ input,
-      ← append_assoc (newly_delivered k i)
-          (delivered_from (keeping_step k i).1 inputs)
-          (newly_delivered (keeping_after (keeping_step k i).1 inputs) input),
-    )
+delivered_from-push (i ∷ inputs) k input = rw (
+  delivered_from-push inputs _ input,
+  ← append_assoc (newly_delivered k i) (delivered_from (keeping_step k i).1 inputs)
+      (newly_delivered (keeping_after (keeping_step k i).1 inputs) input),
+)
 
-sent_from-push : (inputs : List KeepingInput) (k : Keeping) (input : KeepingInput) →
+sent_from-push : (inputs : Inputs) (k : Keeping) (input : KeepingInput) →
     sent_from k (inputs ++ input ∷ []) ≡ sent_from k inputs ++ newly_sent (keeping_after k inputs) input
 sent_from-push [] k input = append-nil (newly_sent k input)
-sent_from-push (i ∷ inputs) k input =
-    rw (
-      sent_from-push inputs _ input,
-      ← append_assoc (newly_sent k i)
-          (sent_from (keeping_step k i).1 inputs)
-          (newly_sent (keeping_after (keeping_step k i).1 inputs) input),
-    )
+sent_from-push (i ∷ inputs) k input = rw (
+  sent_from-push inputs _ input,
+  ← append_assoc (newly_sent k i) (sent_from (keeping_step k i).1 inputs)
+      (newly_sent (keeping_after (keeping_step k i).1 inputs) input),
+)
 
 pub delivered_in-input : (bytes : List ℕ) (sci : Sci) (an : ℕ) (input : KeepingInput) (run : Run) →
     delivered_in (with_input input run) bytes sci an ≡
     delivered_in run bytes sci an ++ delivered_at bytes sci an (newly_delivered (closing run) input)
-delivered_in-input bytes sci an input run =
-    rw (
-      delivered_from-push run.inputs (opening run) input,
-      filter-append (λ d. same_octets d.bytes bytes && same_sci
-          d.sci sci && d.an == an)
-          (delivered_from (opening run) run.inputs) (newly_delivered (closing run) input),
-    )
+delivered_in-input bytes sci an input run = rw (
+  delivered_from-push run.inputs (opening run) input,
+  filter-append (λ d. same_octets d.bytes bytes && same_sci d.sci sci && d.an == an)
+      (delivered_from (opening run) run.inputs) (newly_delivered (closing run) input),
+)
 
 -- what the last run adds, if there is one
 abbrev pub delivered_by_last : Option Run → KeepingInput → List Delivery
@@ -244,58 +256,161 @@ sent_by_last (Some run) input = newly_sent (closing run) input
 
 pub delivered_in_all-with_last : (input : KeepingInput) (runs : List Run) →
     delivered_in_all (with_last input runs) ≡ delivered_in_all runs ++ delivered_by_last (last_run runs) input
-delivered_in_all-with_last input [] = refl
-delivered_in_all-with_last input (run ∷ []) =
-    append-nil (delivered_from (opening run) (run.inputs ++ input ∷ []))
+delivered_in_all-with_last _ [] = refl
+delivered_in_all-with_last input (run ∷ []) = append-nil (delivered_from (opening run) (run.inputs ++ input ∷ []))
     ∙ delivered_from-push run.inputs (opening run) input
     ∙ ap (λ gs. gs ++ newly_delivered (closing run) input) (sym (append-nil (delivered_from (opening run) run.inputs)))
-delivered_in_all-with_last input (run ∷ later ∷ more) =
-    rw (
-      delivered_in_all-with_last input (later ∷ more),
-      ← append_assoc (delivered_from (opening run) run.inputs)
-          (delivered_in_all (later ∷ more))
-          (delivered_by_last (last_run (later ∷ more)) input),
-    )
+delivered_in_all-with_last input (run ∷ later ∷ more) = rw (
+  delivered_in_all-with_last input (later ∷ more),
+  ← append_assoc (delivered_from (opening run) run.inputs) (delivered_in_all (later ∷ more))
+      (delivered_by_last (last_run (later ∷ more)) input),
+)
 
 pub sent_in_all-with_last : (input : KeepingInput) (runs : List Run) →
     sent_in_all (with_last input runs) ≡ sent_in_all runs ++ sent_by_last (last_run runs) input
-sent_in_all-with_last input [] = refl
-sent_in_all-with_last input (run ∷ []) =
-    append-nil (sent_from (opening run) (run.inputs ++ input ∷ []))
+sent_in_all-with_last _ [] = refl
+sent_in_all-with_last input (run ∷ []) = append-nil (sent_from (opening run) (run.inputs ++ input ∷ []))
     ∙ sent_from-push run.inputs (opening run) input
     ∙ ap (λ gs. gs ++ newly_sent (closing run) input) (sym (append-nil (sent_from (opening run) run.inputs)))
-sent_in_all-with_last input (run ∷ later ∷ more) =
-    rw (
-      sent_in_all-with_last input (later ∷ more),
-      ← append_assoc (sent_from (opening run) run.inputs)
-          (sent_in_all (later ∷ more))
-          (sent_by_last (last_run (later ∷ more)) input),
-    )
+sent_in_all-with_last input (run ∷ later ∷ more) = rw (
+  sent_in_all-with_last input (later ∷ more),
+  ← append_assoc (sent_from (opening run) run.inputs) (sent_in_all (later ∷ more))
+      (sent_by_last (last_run (later ∷ more)) input),
+)
 
 -- a run without inputs adds nothing
 pub delivered_in_all-new : (runs : List Run) (run : Run) → run.inputs ≡ [] →
     delivered_in_all (runs ++ run ∷ []) ≡ delivered_in_all runs
-delivered_in_all-new [] run none = rw none
+delivered_in_all-new [] _ none = rw none
 delivered_in_all-new (p ∷ ps) run none = rw (delivered_in_all-new ps run none)
 
 pub sent_in_all-new : (runs : List Run) (run : Run) → run.inputs ≡ [] →
     sent_in_all (runs ++ run ∷ []) ≡ sent_in_all runs
-sent_in_all-new [] run none = rw none
+sent_in_all-new [] _ none = rw none
 sent_in_all-new (p ∷ ps) run none = rw (sent_in_all-new ps run none)
 
 -- ---- what an end sent so far it has sent later
-pub record SendsMore (e : End) (before : List Happening) (h : Happening) : Type 0 where
+pub record SendsMore (e : End) (before : Events) (h : Happening) : Type 0 where
   pub added : List SentIn
   pub more : sent_in_all (runs_of e (before ++ h ∷ [])) ≡ sent_in_all (runs_of e before) ++ added
 
-pub sends_more : (e : End) (before : List Happening) (h : Happening) → SendsMore e before h
+pub sends_more : (e : End) (before : Events) (h : Happening) → SendsMore e before h
 sends_more e before h =
     let it = by_next (is_next e before h) in
     record { added = it.0; more = it.1 }
   where
     by_next : {runs : List Run} {h' : Happening} {after : List Run} → IsNext e runs h' after →
         (added : List SentIn) × (sent_in_all after ≡ sent_in_all runs ++ added)
-    by_next {runs} (same_runs h') = ([], sym (append-nil (sent_in_all runs)))
-    by_next {runs} (new_run config journal) =
-        ([], sent_in_all-new runs _ refl ∙ sym (append-nil (sent_in_all runs)))
+    by_next {runs} (same_runs _) = ([], sym (append-nil (sent_in_all runs)))
+    by_next {runs} (new_run _ _) = ([], sent_in_all-new runs _ refl ∙ sym (append-nil (sent_in_all runs)))
     by_next {runs} (new_input input) = (sent_by_last (last_run runs) input, sent_in_all-with_last input runs)
+
+-- Happenings that pass a test: the runs of an end, if each input passes by the run that it comes to.
+
+pub passing-append : (test : Events → Happening → Bool) (before xs ys : Events) →
+    passing_from test before (xs ++ ys) ≡ passing_from test before xs ++ passing_from test (before ++ xs) ys
+passing-append test before [] ys = ap (λ hs. passing_from test hs ys) (sym (append-nil before))
+passing-append test before (x ∷ xs) ys = by_test (test before x)
+    (rw (passing-append test (before ++ x ∷ []) xs ys, append_assoc before (x ∷ []) xs))
+  where
+    first : Events
+    first = passing_from test (before ++ x ∷ []) xs
+
+    by_test : (b : Bool) → passing_from test (before ++ x ∷ []) (xs ++ ys) ≡ first ++ passing_from test
+        (before ++ x ∷ xs) ys →
+        (if b then x ∷ passing_from test (before ++ x ∷ []) (xs ++ ys) else passing_from test (before ++ x ∷ [])
+        (xs ++ ys)) ≡ (if b then x ∷ first else first) ++ passing_from test (before ++ x ∷ xs) ys
+    by_test true rest = ap (λ hs. x ∷ hs) rest
+    by_test false rest = rest
+
+-- one more happening passes, or it does not
+pub passing-push : (test : Events → Happening → Bool) (before : Events) (h : Happening) →
+    passing_from test [] (before ++ h ∷ []) ≡ passing_from test [] before ++ (if test before h then h ∷ [] else [])
+passing-push test before h = passing-append test [] before _
+
+-- what comes in before the first run passes
+abbrev pub reaches : (Run → Bool) → Option Run → Bool
+reaches lets None = true
+reaches lets (Some run) = lets run
+
+module _ (test : Events → Happening → Bool) (of : End → Run → Run) (lets : End → KeepingInput → Run → Bool)
+    (begins_pass : (before : Events) (e : End) (config : EndConfig) (journal : List ℕ) →
+    test before (begins e config journal) ≡ true)
+    (inputs_pass : (before : Events) (e : End) (input : KeepingInput) → test before (comes_in e input) ≡ reaches
+    (lets e input) (last_run (runs_of e before)))
+    (begun : (e : End) (config : EndConfig) (journal : List ℕ) → of e (run_with config journal []) ≡ run_with config
+    journal []) (pushed : (e : End) (input : KeepingInput) (run : Run) →
+    of e (with_input input run) ≡ (if lets e input run then with_input input (of e run) else of e run)) where
+  abbrev those : Events → Events
+  those events = passing_from test [] events
+
+  map_with_last : (e : End) (input : KeepingInput) (rs : List Run) →
+      map (of e) (with_last input rs) ≡ (if reaches (lets e input) (last_run rs) then with_last input (map (of e) rs)
+      else map (of e) rs)
+  map_with_last e _ [] = refl
+  map_with_last e input (run ∷ []) = rw (pushed e input run, by_test (lets e input run))
+    where
+      by_test : (b : Bool) → (if b then with_input input (of e run) else of e run) ∷ [] ≡
+          (if b then with_last input (of e run ∷ []) else of e run ∷ [])
+      by_test true = refl
+      by_test false = refl
+  map_with_last e input (run ∷ later ∷ more) = by_test (reaches (lets e input) (last_run (later ∷ more)))
+      (map_with_last e input (later ∷ more))
+    where
+      rest : List Run
+      rest = map (of e) (later ∷ more)
+
+      by_test : (b : Bool) → map (of e) (with_last input (later ∷ more)) ≡ (if b then with_last input rest else rest) →
+          of e run ∷ map (of e) (with_last input (later ∷ more)) ≡ (if b then with_last input (of e run ∷ rest) else of
+          e run ∷ rest)
+      by_test true it = ap (λ rs. of e run ∷ rs) it
+      by_test false it = rw it
+
+  run_more : (e : End) (before : Events) (h : Happening) → runs_of e (those before) ≡ map (of e) (runs_of e before) →
+      runs_of e (those (before ++ h ∷ [])) ≡ map (of e) (runs_of e (before ++ h ∷ []))
+  run_more e before (begins f config journal) same = rw (
+    passing-push test before _,
+    begins_pass before f config journal,
+    runs_of-begins e f config journal _,
+    same,
+    by_end (same_end e f),
+    ← map-append (of e) (runs_of e before) (if same_end e f then run_with config journal [] ∷ [] else []),
+    ← runs_of-begins e f config journal before,
+  )
+    where
+      by_end : (b : Bool) → (if b then run_with config journal [] ∷ [] else []) ≡ map (of e)
+          (if b then run_with config journal [] ∷ [] else [])
+      by_end true = ap (λ r. r ∷ []) (sym (begun e config journal))
+      by_end false = refl
+  run_more e before (comes_in f input) same = rw (passing-push test before _) (by_end (same_end e f) refl)
+    where
+      own : (b : Bool) → runs_of e (those before ++ (if b then comes_in e input ∷ [] else [])) ≡
+          (if b then with_last input (map (of e) (runs_of e before)) else map (of e) (runs_of e before))
+      own true = rw (runs_of-input e e input _ (same_own e), same)
+      own false = rw (append-nil (those before), same)
+
+      other : (b : Bool) → same_end e f ≡ false → runs_of e (those before ++ (if b then comes_in f input ∷ [] else []))
+          ≡ map (of e) (runs_of e before)
+      other true is = rw (runs_of-other_input e f input _ is, same)
+      other false is = rw (append-nil (those before), same)
+
+      by_end : (b : Bool) → same_end e f ≡ b →
+          runs_of e (those before ++ (if test before (comes_in f input) then comes_in f input ∷ [] else [])) ≡
+          map (of e) (runs_of e (before ++ comes_in f input ∷ []))
+      by_end false is = rw (runs_of-other_input e f input before is) (other _ is)
+      by_end true is = rw (
+        same_is e f is,
+        inputs_pass before e input,
+        runs_of-input e e input before (same_own e),
+        map_with_last e input _,
+      ) (own _)
+
+  runs_from : (e : End) (before more : Events) → runs_of e (those before) ≡ map (of e) (runs_of e before) →
+      runs_of e (those (before ++ more)) ≡ map (of e) (runs_of e (before ++ more))
+  runs_from e before [] same = subst (λ hs. runs_of e (those hs) ≡ map (of e) (runs_of e hs))
+      (sym (append-nil before)) same
+  runs_from e before (h ∷ more) same =
+      rw (append_assoc before (h ∷ []) more) at (runs_from e (before ++ h ∷ []) more (run_more e before h same))
+
+  pub runs_passing : (e : End) (events : Events) → runs_of e (those events) ≡ map (of e) (runs_of e events)
+  runs_passing e events = runs_from e [] events refl

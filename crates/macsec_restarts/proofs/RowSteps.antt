@@ -1,28 +1,154 @@
+-- What a step does to a receive SA, and what it delivers from the SA.
+use Rattle.macsec_commands.specs.declared.command.Command.TheVariants.{RxLow, RxOff}
+use Rattle.macsec_reserve.specs.Replay.{DeliversAbove}
+use Rattle.macsec_restarts.proofs.{
+  Names.{[], ◌&&◌, ◌++◌, ◌+◌, ◌<◌, ◌==◌, ◌∙◌, ◌∷◌, ◌≡◌, ◌≤◌, All, All-cons, All-filter, All-nil, All-weaker, AllPairs},
+  Names.{and_parts, ap, arith, Bool, bytes_eq-Decides, client_frame, closing, Command, cond, contained, Contains},
+  Names.{delivered_at, delivered_by, Delivery, effect, endpoint_input, EndpointLaws, eqb-true, false, filter},
+  Names.{frame_fault, FrameFault, get_or, HasStrictOrder, highest, holds_of, if◌then◌else◌, inl, Input, Inputs, inr},
+  Names.{is_at, IsAbove, IsMember, IsSound, IsUnder, judgement_of, Keeping, keeping_step, KeepingInput, last_of},
+  Names.{link_frame, List, ltb-false, map, nat_lt, newly_delivered, no_pairs, None, not, now_durable, one_alone},
+  Names.{operator_command, Option, option_map, or_parts, Output, received_output, received_step, receiving_name, refl},
+  Names.{Refusal, refusal, Replay, reservations, row_name, Run, rx_row, RxDel, RxOn, RxRow, RxSa, RxScDel, salt_of},
+  Names.{same_octets, same_sci, Sci, sending_name, sending_of, sent_output, Some, State, state_after_receiving},
+  Names.{state_after_sending, step, subst, sym, the_key, true, uncontrolled_frame, unless_fault, unless_refused},
+  Names.{unwrap_or, ℕ},
+  Sends.by_keeping,
+}
+use Rattle.macsec_rx.specs.{
+  Channels.at_place,
+  Commands.{is_below_lowest, row_narrowed, row_raised, row_switched, rx_low_refusals, rx_sa_refusals},
+  Judge.{accepted_number, rows_accepting},
+}
+use Rattle.macsec_secy.{
+  proofs.{
+    AfterCommands.none_hold,
+    RxRowsStay.{accepts, at_one_place, KeepsPlace, narrows, raises, rx_row-map, switches},
+    Sums.one_sci,
+  },
+  specs.Kept.{deletes, is_deleting, RxRowStays},
+}
+use Rattle.macsec_suite.specs.Refusals.{is_outside}
+use Rattle.std.proofs.lemmas.Bool.{eqb-false}
+
+-- The next packet number of a receive SA does not fall while the SA exists. So a number below it stays below it, if
+-- each SA that is created begins above the number.
+
+abbrev pub RowsStay : Type 0
+RowsStay = (s : State) (input : Input) (sci : Sci) (an n : ℕ) → RxRowStays s input sci an n
+
+pub same_place : (sci other : Sci) (an n : ℕ) → same_sci sci other && an == n ≡ true → (sci ≡ other) × (an ≡ n)
+same_place sci other an n same =
+    let parts = and_parts (same_sci sci other) (an == n) same in
+    (one_sci sci other parts.0, eqb-true an n parts.1)
+
+-- the number is below the next one of the SA under these key octets, if there is one
+abbrev pub IsBelowNext : State → List ℕ → Sci → ℕ → ℕ → Type 0
+IsBelowNext s bytes sci an n = (row : RxRow) → rx_row s.rx.rows sci an ≡ Some row → IsUnder s bytes row →
+    n + 1 ≤ row.next
+
+pub below_above : (s : State) (bytes : List ℕ) (sci : Sci) (an n : ℕ) → IsAbove s.rx.rows sci an (n + 1) →
+    IsBelowNext s bytes sci an n
+below_above s _ _ _ n it row there under =
+    let one : it.row ≡ row = ap (λ r. unwrap_or r row) (sym it.there ∙ there) in
+    rw one at it.above
+
+-- ---- a deleted SA is not there
+
+none_left : (sci : Sci) (an : ℕ) (test : RxRow → Bool) → ((row : RxRow) → is_at sci an row ≡ true → test row ≡ false) →
+    (rows : List RxRow) → rx_row (filter test rows) sci an ≡ None
+none_left _ _ _ _ [] = refl
+none_left sci an test fails (row ∷ rows) = by_test _ refl (none_left sci an test fails rows)
+  where
+    by_place : (b : Bool) → is_at sci an row ≡ b → test row ≡ true → rx_row (filter test rows) sci an ≡ None →
+        (if b then Some row else rx_row (filter test rows) sci an) ≡ None
+    by_place true here passes none = let no = sym passes ∙ fails row here in cc
+    by_place false _ _ none = none
+
+    by_test : (b : Bool) → test row ≡ b → rx_row (filter test rows) sci an ≡ None →
+        rx_row (cond b (row ∷ filter test rows) (filter test rows)) sci an ≡ None
+    by_test true passes none = by_place _ refl passes none
+    by_test false _ none = none
+
+not_true : (b : Bool) → b ≡ true → not b ≡ false
+not_true true _ = refl
+not_true false is = cc
+
+by_refusal : (r : Option Refusal) (s : State) (c : Command) (sci : Sci) (an : ℕ) (row later : RxRow) →
+    rx_row s.rx.rows sci an ≡ Some row →
+    rx_row (unless_refused None s c).rx.rows sci an ≡ None → rx_row (unless_refused r s c).rx.rows sci an ≡ Some later →
+    row.next ≤ later.next
+by_refusal None s c _ _ _ _ there none there' = let no = sym none ∙ there' in cc
+by_refusal (Some r) s c _ _ row later there none there' =
+    let one : row ≡ later = ap (λ o. unwrap_or o later) (sym there ∙ there') in
+    rw (← one) (omega arith)
+
+deleted_by : (s : State) (c : Command) (sci : Sci) (an : ℕ) {row later : RxRow} → deletes sci an c ≡ true →
+    rx_row s.rx.rows sci an ≡ Some row →
+    rx_row (step s (operator_command c)).1.rx.rows sci an ≡ Some later → row.next ≤ later.next
+deleted_by s (RxScDel of_sci) sci an {row} {later} deleted there there' =
+    by_refusal _ s _ sci an row later there (none_left sci an (λ r. not (same_sci r.sci of_sci)) (λ r here. not_true _
+    (rw ((same_place r.sci sci r.an an here).0, deleted))) _) there'
+deleted_by s (RxDel of_sci of_an) sci an {row} {later} deleted there there' =
+    let same = same_place sci of_sci an of_an deleted in
+    by_refusal _ s _ sci an row later there (none_left sci an (λ r. not (is_at of_sci of_an r))
+    (λ r here. not_true _ (rw (← same.0, ← same.1, here))) _) there'
+deleted_by s c _ _ deleted there there' = cc
+
+-- ---- a step
+
+stays_there : (row later : RxRow) (rows : List RxRow) (sci : Sci) (an : ℕ) → rx_row rows sci an ≡ Some row →
+    rx_row rows sci an ≡ Some later → row.next ≤ later.next
+stays_there row later _ _ _ there there' =
+    let one : row ≡ later = ap (λ o. unwrap_or o later) (sym there ∙ there') in
+    rw (← one) (omega arith)
+
+by_input : RowsStay → (s : State) (input : Input) (sci : Sci) (an : ℕ) (row later : RxRow) → (b : Bool) →
+    is_deleting sci an input ≡ b → rx_row s.rx.rows sci an ≡ Some row →
+    rx_row (step s input).1.rx.rows sci an ≡ Some later → row.next ≤ later.next
+by_input stay s input sci an row later false kept there there' =
+    let it = stay s input sci an row.next kept (record { row = row; there = there; above = omega arith }) in
+    let one : it.row ≡ later = ap (λ o. unwrap_or o later) (sym it.there ∙ there') in
+    rw one at it.above
+by_input _ s (operator_command c) sci an _ _ true deleted there there' = deleted_by s c sci an deleted there there'
+by_input stay s _ _ _ _ _ true deleted there there' = cc
+
+next_stays : RowsStay → (k : Keeping) (input : KeepingInput) (sci : Sci) (an : ℕ) (row later : RxRow) →
+    rx_row k.secy.rx.rows sci an ≡ Some row →
+    rx_row (keeping_step k input).1.secy.rx.rows sci an ≡ Some later → row.next ≤ later.next
+next_stays _ k (now_durable r) sci an row later there = stays_there row later _ sci an there
+next_stays stay k (endpoint_input input) sci an row later there =
+    by_keeping (λ s. rx_row s.rx.rows sci an ≡ Some later → row.next ≤ later.next) k input
+    (stays_there row later _ sci an there) (by_input stay k.secy input sci an row later _ refl there)
+
+pub below_after : RowsStay → (k : Keeping) (input : KeepingInput) (bytes : List ℕ) (sci : Sci) (an n : ℕ) →
+    IsBelowNext k.secy bytes sci an n →
+    ((row : RxRow) → rx_row (keeping_step k input).1.secy.rx.rows sci an ≡ Some row →
+    IsUnder (keeping_step k input).1.secy bytes row →
+    ((earlier : RxRow) → rx_row k.secy.rx.rows sci an ≡ Some earlier → IsUnder k.secy bytes earlier → ⊥) →
+    n < row.next) → IsBelowNext (keeping_step k input).1.secy bytes sci an n
+below_after stay k input bytes sci an n below creates later there' under = by_row (rx_row k.secy.rx.rows sci an) refl
+  where
+    by_row : (o : Option RxRow) → rx_row k.secy.rx.rows sci an ≡ o → n + 1 ≤ later.next
+    by_row None none = omega
+        (arith, creates later there' under (λ earlier there under'. let no = sym there ∙ none in cc))
+    by_row (Some row) there = by_key (same_octets (the_key k.secy.keys row.key).bytes bytes) refl
+      where
+        by_key : (b : Bool) → same_octets (the_key k.secy.keys row.key).bytes bytes ≡ b → n + 1 ≤ later.next
+        by_key true same =
+            let first = below row there ((bytes_eq-Decides (the_key k.secy.keys row.key).bytes bytes).0 same) in
+            omega (arith, first, next_stays stay k input sci an row later there there')
+        by_key false other = omega (
+          arith,
+          creates later there' under (λ earlier at under'.
+              let one : row ≡ earlier = ap (λ o. unwrap_or o earlier) (sym there ∙ at) in
+              let same : same_octets (the_key k.secy.keys row.key).bytes bytes ≡ true =
+              (bytes_eq-Decides (the_key k.secy.keys row.key).bytes bytes).1 (rw (one, under')) in
+              let no = sym same ∙ other in cc),
+        )
+
 -- What a step does to the receive SA at a place: the SA stays with its key, and its lowest acceptable packet number
 -- does not fall; or it is deleted; or a command creates it.
-use Rattle.{
-  std.proofs.lemmas.Bool.eqb-false,
-  macsec_suite.specs.Refusals.is_outside,
-  macsec_commands.specs.declared.command.Command.TheVariants.{RxOff, RxLow},
-  macsec_rx.specs.{
-    Channels.at_place,
-    Commands.{is_below_lowest, row_narrowed, row_raised, row_switched, rx_low_refusals, rx_sa_refusals},
-    Judge.{accepted_number, rows_accepting},
-  },
-  macsec_secy.proofs.{
-    AfterCommands.none_hold,
-    RxRowsStay.{KeepsPlace, accepts, at_one_place, narrows, raises, rx_row-map, switches},
-  },
-  macsec_restarts.proofs.{
-    Names.{[], ◌&&◌, ◌++◌, ◌==◌, ◌∙◌, ◌∷◌, ◌≡◌, ◌≤◌, ap, arith, Bool, client_frame, Command, cond, effect, false},
-    Names.{filter, frame_fault, FrameFault, holds_of, if◌then◌else◌, inl, Input, inr, is_at, IsMember, judgement_of},
-    Names.{last_of, link_frame, List, ltb-false, map, nat_lt, None, not, operator_command, Option, option_map},
-    Names.{or_parts, Output, received_output, refl, Refusal, refusal, Replay, rx_row, RxDel, RxOn, RxRow, RxSa},
-    Names.{RxScDel, same_sci, Sci, sending_of, sent_output, Some, State, state_after_receiving, state_after_sending},
-    Names.{step, subst, sym, the_key, true, uncontrolled_frame, unless_fault, unless_refused, ℕ},
-    NextNumbers.same_place,
-  },
-}
 
 -- it has the same key, and its lowest acceptable PN has not fallen
 pub record IsLaterRow (row later : RxRow) : Type 0 where
@@ -42,22 +168,22 @@ RowStep input (Some row) (Some later) = IsLaterRow row later
 RowStep input None (Some row) = IsCreatedBy input row
 
 pub still : (input : Input) (o : Option RxRow) → RowStep input o o
-still input None = tt
-still input (Some row) = record { key = refl; lowest = omega arith }
+still _ None = tt
+still _ (Some _) = record { key = refl; lowest = omega arith }
 
 pub found_at : (rows : List RxRow) (sci : Sci) (an : ℕ) (row : RxRow) → rx_row rows sci an ≡ Some row →
     is_at sci an row ≡ true
-found_at [] sci an row found = cc
+found_at [] _ _ _ found = cc
 found_at (r ∷ rows) sci an row found = by_test (is_at sci an r) refl found (found_at rows sci an row)
   where
     by_test : (b : Bool) → is_at sci an r ≡ b → (if b then Some r else rx_row rows sci an) ≡ Some row →
         (rx_row rows sci an ≡ Some row → is_at sci an row ≡ true) → is_at sci an row ≡ true
     by_test true here found' later = let one : r ≡ row = cc in subst (λ x. is_at sci an x ≡ true) one here
-    by_test false elsewhere found' later = later found'
+    by_test false _ found' later = later found'
 
 pub found_row : (sci : Sci) (an : ℕ) (rows : List RxRow) (row : RxRow) → rx_row rows sci an ≡ Some row →
     IsMember rows row
-found_row sci an [] row found = cc
+found_row _ _ [] _ found = cc
 found_row sci an (x ∷ xs) row found = by_test (is_at sci an x) found (found_row sci an xs row)
   where
     by_test : (b : Bool) → (if b then Some x else rx_row xs sci an) ≡ Some row →
@@ -70,25 +196,23 @@ found_row sci an (x ∷ xs) row found = by_test (is_at sci an x) found (found_ro
 mapped : (input : Input) (f : RxRow → RxRow) → KeepsPlace f → (rows : List RxRow) (sci : Sci) (an : ℕ) →
     ((row : RxRow) → rx_row rows sci an ≡ Some row → IsLaterRow row (f row)) →
     RowStep input (rx_row rows sci an) (rx_row (map f rows) sci an)
-mapped input f keeps rows sci an later =
-    rw (rx_row-map f keeps rows sci an) (by_row _ refl)
+mapped input f keeps rows sci an later = rw (rx_row-map f keeps rows sci an) (by_row _ refl)
   where
     by_row : (o : Option RxRow) → rx_row rows sci an ≡ o → RowStep input o (option_map f o)
-    by_row None none = tt
+    by_row None _ = tt
     by_row (Some row) there = later row there
 
 at_one : (input : Input) (f : RxRow → RxRow) → KeepsPlace f →
     (of_sci : Sci) (of_an : ℕ) (rows : List RxRow) (sci : Sci) (an : ℕ) →
     ((row : RxRow) → rx_row rows sci an ≡ Some row → is_at of_sci of_an row ≡ true → IsLaterRow row (f row)) →
     RowStep input (rx_row rows sci an) (rx_row (map (at_place f of_sci of_an) rows) sci an)
-at_one input f keeps of_sci of_an rows sci an later =
-    mapped input _ (at_one_place f keeps of_sci of_an) rows sci an
+at_one input f keeps of_sci of_an rows sci an later = mapped input _ (at_one_place f keeps of_sci of_an) rows sci an
     (λ row there. by_test (is_at of_sci of_an row) row there refl)
   where
     by_test : (b : Bool) → (row : RxRow) → rx_row rows sci an ≡ Some row → is_at of_sci of_an row ≡ b →
         IsLaterRow row (if b then f row else row)
     by_test true row there here = later row there here
-    by_test false row there elsewhere = record { key = refl; lowest = omega arith }
+    by_test false _ there elsewhere = record { key = refl; lowest = omega arith }
 
 -- ---- SAs are deleted and created
 
@@ -96,16 +220,16 @@ at_one input f keeps of_sci of_an rows sci an later =
 kept_or_none : {keep : RxRow → Bool} (b : Bool) (rows : List RxRow) (sci : Sci) (an : ℕ) →
     ((r : RxRow) → is_at sci an r ≡ true → keep r ≡ b) →
     rx_row (filter keep rows) sci an ≡ (if b then rx_row rows sci an else None)
-kept_or_none true [] sci an same = refl
-kept_or_none false [] sci an same = refl
+kept_or_none true [] _ _ _ = refl
+kept_or_none false [] _ _ _ = refl
 kept_or_none {keep} b (r ∷ rows) sci an same =
     by_tests (is_at sci an r) (keep r) refl refl (kept_or_none b rows sci an same)
   where
     by_same : (left c : Bool) → left ≡ c → rx_row (filter keep rows) sci an ≡ (if c then rx_row rows sci an else None) →
         is_at sci an r ≡ true →
         rx_row (cond left (r ∷ filter keep rows) (filter keep rows)) sci an ≡ (if c then Some r else None)
-    by_same true true is rest here = ap (λ t. if t then Some r else rx_row (filter keep rows) sci an) here
-    by_same false false is rest here = rest
+    by_same true true _ _ here = ap (λ t. if t then Some r else rx_row (filter keep rows) sci an) here
+    by_same false false _ rest _ = rest
     by_same true false is rest here = cc
     by_same false true is rest here = cc
 
@@ -114,13 +238,13 @@ kept_or_none {keep} b (r ∷ rows) sci an same =
         rx_row (cond left (r ∷ filter keep rows) (filter keep rows)) sci an ≡
         (if b then (if here then Some r else rx_row rows sci an) else None)
     by_tests true left here is rest = by_same left b (sym is ∙ same r here) rest here
-    by_tests false true here is rest = ap (λ t. if t then Some r else rx_row (filter keep rows) sci an) here ∙ rest
-    by_tests false false here is rest = rest
+    by_tests false true here _ rest = ap (λ t. if t then Some r else rx_row (filter keep rows) sci an) here ∙ rest
+    by_tests false false _ _ rest = rest
 
 filtered : (input : Input) (keep : RxRow → Bool) (b : Bool) (rows : List RxRow) (sci : Sci) (an : ℕ) →
     ((r : RxRow) → is_at sci an r ≡ true → keep r ≡ b) →
     RowStep input (rx_row rows sci an) (rx_row (filter keep rows) sci an)
-filtered input keep b rows sci an same = rw (kept_or_none b rows sci an same) (by_test b)
+filtered input _ b rows sci an same = rw (kept_or_none b rows sci an same) (by_test b)
   where
     by_test : (b' : Bool) → RowStep input (rx_row rows sci an) (if b' then rx_row rows sci an else None)
     by_test true = still input _
@@ -138,13 +262,13 @@ appended input (r ∷ rows) new sci an created = by_test (is_at sci an r) (appen
     by_test : (b : Bool) → RowStep input (rx_row rows sci an) (rx_row (rows ++ new ∷ []) sci an) →
         RowStep input (if b then Some r else rx_row rows sci an)
         (if b then Some r else rx_row (rows ++ new ∷ []) sci an)
-    by_test true rest = still input (Some r)
+    by_test true _ = still input (Some r)
     by_test false rest = rest
 
 -- ---- commands
 
 first_least : (last first : ℕ) → is_outside last first ≡ false → 1 ≤ first
-first_least last first inside = by_zero (eqb-false first 0 (or_parts _ _ inside).0)
+first_least _ first inside = by_zero (eqb-false first 0 (or_parts _ _ inside).0)
   where
     by_zero : (first ≡ 0 → ⊥) → 1 ≤ first
     by_zero differs = omega (arith, differs)
@@ -156,8 +280,7 @@ raised rows of_sci of_an pn above sci an row there here =
     let own = same_place row.sci sci row.an an (found_at rows sci an row there) in
     let other = same_place row.sci of_sci row.an of_an here in
     let found : rx_row rows of_sci of_an ≡ Some row = rw ((sym other.0 ∙ own.0), (sym other.1 ∙ own.1), there) in
-    let not_below : nat_lt pn row.lowest ≡ false = ap (holds_of (λ r. nat_lt pn r.lowest)) (sym found)
-    ∙ above in
+    let not_below : nat_lt pn row.lowest ≡ false = ap (holds_of (λ r. nat_lt pn r.lowest)) (sym found) ∙ above in
     record { key = refl; lowest = ltb-false pn row.lowest not_below }
 
 by_effect : (s : State) (c : Command) (sci : Sci) (an : ℕ) → refusal s c ≡ None →
@@ -167,8 +290,7 @@ by_effect s (Replay protect window) sci an none =
     (λ row there. record { key = refl; lowest = omega arith })
 by_effect s (RxScDel of_sci) sci an none =
     filtered (operator_command (RxScDel of_sci)) (λ r. not (same_sci r.sci of_sci))
-    (not (same_sci sci of_sci)) s.rx.rows sci an
-    (λ r here. rw ((same_place r.sci sci r.an an here).0))
+    (not (same_sci sci of_sci)) s.rx.rows sci an (λ r here. rw ((same_place r.sci sci r.an an here).0))
 by_effect s (RxSa of_sci of_an key ssci lowest) sci an none =
     appended (operator_command (RxSa of_sci of_an key ssci lowest)) s.rx.rows
     (record { sci = of_sci; an = of_an; key = key; ssci = ssci; next = lowest; lowest = lowest; on = false }) sci an
@@ -190,32 +312,30 @@ by_effect s (RxLow of_sci of_an pn) sci an none =
     (raised s.rx.rows of_sci of_an pn (none_hold (rx_low_refusals s.keys s.rx of_sci of_an pn) none).1.1.1.0 sci an)
 by_effect s (RxDel of_sci of_an) sci an none =
     filtered (operator_command (RxDel of_sci of_an)) (λ r. not (is_at of_sci of_an r))
-    (not (same_sci sci of_sci && an == of_an)) s.rx.rows sci an
-    (λ r here.
+    (not (same_sci sci of_sci && an == of_an)) s.rx.rows sci an (λ r here.
     let same = same_place r.sci sci r.an an here in
     rw (same.0, same.1))
-by_effect s c sci an none = still (operator_command c) (rx_row s.rx.rows sci an)
+by_effect s c sci an _ = still (operator_command c) (rx_row s.rx.rows sci an)
 
 by_command : (s : State) (c : Command) (sci : Sci) (an : ℕ) (r : Option Refusal) → refusal s c ≡ r →
     RowStep (operator_command c) (rx_row s.rx.rows sci an) (rx_row (unless_refused r s c).rx.rows sci an)
 by_command s c sci an None is = by_effect s c sci an is
-by_command s c sci an (Some r) is = still _ _
+by_command s c _ _ (Some r) _ = still _ _
 
 -- ---- frames
 
 accepting : (input : Input) (window : ℕ) (number : Option ℕ) (row : Option RxRow) (rows : List RxRow) (sci : Sci)
-    (an : ℕ) →
-    RowStep input (rx_row rows sci an) (rx_row (rows_accepting window number row rows) sci an)
+    (an : ℕ) → RowStep input (rx_row rows sci an) (rx_row (rows_accepting window number row rows) sci an)
 accepting input window (Some number) (Some row) rows sci an =
     at_one input _ (accepts window number) row.sci row.an rows sci an
     (λ r there here. record { key = refl; lowest = omega arith })
-accepting input window number row rows sci an = still input _
+accepting input _ _ _ _ _ _ = still input _
 
 by_fault : (input : Input) (s after : State) (output : Output) (fault : Option FrameFault) (sci : Sci) (an : ℕ) →
     RowStep input (rx_row s.rx.rows sci an) (rx_row after.rx.rows sci an) →
     RowStep input (rx_row s.rx.rows sci an) (rx_row (unless_fault fault s (output, after)).1.rx.rows sci an)
-by_fault input s after output None sci an stepped = stepped
-by_fault input s after output (Some f) sci an stepped = still input _
+by_fault _ s _ _ None _ _ stepped = stepped
+by_fault input s _ _ (Some f) _ _ _ = still input _
 
 -- ---- every input
 
@@ -226,9 +346,137 @@ row_step s (client_frame frame) sci an =
     by_fault (client_frame frame) s (state_after_sending s frame (sending_of s frame))
     (sent_output frame (sending_of s frame).leaving) (frame_fault frame) sci an
     (still (client_frame frame) (rx_row s.rx.rows sci an))
-row_step s (uncontrolled_frame frame) sci an =
-    by_fault _ s s _ _ sci an (still _ _)
+row_step s (uncontrolled_frame _) sci an = by_fault _ s s _ _ sci an (still _ _)
 row_step s (link_frame frame) sci an =
     let j = judgement_of s frame in
     by_fault (link_frame frame) s (state_after_receiving s frame j) (received_output frame j) (frame_fault frame) sci an
     (accepting (link_frame frame) s.options.window (accepted_number j) j.row s.rx.rows sci an)
+
+-- What an input delivers from an SA: at most one client frame, with a packet number above what the journal had saved,
+-- and
+-- above what is below the SA's next number.
+
+abbrev pub Fresh : Type 0
+Fresh = (run : Run) (inputs : Inputs) (frame : List ℕ) (row : RxRow) (delivered : List ℕ) →
+    DeliversAbove run inputs frame row delivered
+
+pub all_pass : {X : Type 0} (p : X → Bool) (xs : List X) → All (λ x. p x ≡ true) (filter p xs)
+all_pass p [] = All-nil (λ x. p x ≡ true)
+all_pass p (x ∷ xs) = by_test (p x) refl (all_pass p xs)
+  where
+    by_test : (b : Bool) → p x ≡ b → All (λ y. p y ≡ true) (filter p xs) →
+        All (λ y. p y ≡ true) (cond b (x ∷ filter p xs) (filter p xs))
+    by_test true is rest = All-cons (λ y. p y ≡ true) x _ is rest
+    by_test false _ rest = rest
+
+pub all_there : {X : Type 0} (gs : List X) → All (Contains gs) gs
+all_there {X} gs i d within = contained gs (get_or gs i d) (members gs i d within)
+  where
+    members : (xs : List X) → All (IsMember xs) xs
+    members [] = All-nil (IsMember [])
+    members (x ∷ xs) = All-cons (IsMember (x ∷ xs)) x xs (inl refl) (All-weaker (IsMember xs) (IsMember (x ∷ xs))
+        (λ y there. inr there) xs (members xs))
+
+-- ---- a delivery, with the frame and the SA
+
+pub data IsGiven (s : State) : KeepingInput → Delivery → Type 0 where
+  is_given : (frame : List ℕ) (row : RxRow) (delivered : List ℕ) → frame_fault frame ≡ None →
+      (judgement_of s frame).row ≡ Some row → (judgement_of s frame).delivered ≡ Some delivered →
+      IsGiven s (endpoint_input (link_frame frame)) (record {
+        bytes = (the_key s.keys row.key).bytes;
+        sci = row.sci;
+        an = row.an;
+        number = (judgement_of s frame).number;
+        frame = delivered;
+      })
+
+pub each_given : (k : Keeping) (input : KeepingInput) → All (IsGiven k.secy input) (newly_delivered k input)
+each_given k (endpoint_input (link_frame frame)) =
+    by_delivery (frame_fault frame) refl (judgement_of k.secy frame).row refl (judgement_of k.secy frame).delivered refl
+  where
+    P : Delivery → Type 0
+    P = IsGiven k.secy (endpoint_input (link_frame frame))
+
+    by_delivery : (f : Option FrameFault) → frame_fault frame ≡ f → (o : Option RxRow) →
+        (judgement_of k.secy frame).row ≡ o → (d : Option (List ℕ)) → (judgement_of k.secy frame).delivered ≡ d →
+        All P (delivered_by k.secy (judgement_of k.secy frame) f o d)
+    by_delivery None fits (Some row) of_row (Some _) delivers =
+        All-cons P _ [] (is_given frame row _ fits of_row delivers) (All-nil P)
+    by_delivery f _ o _ d _ = All-nil P
+each_given k _ = All-nil _
+
+module _ (bytes : List ℕ) (sci : Sci) (an : ℕ) where
+  abbrev pub is_ours : Delivery → Bool
+  is_ours g = same_octets g.bytes bytes && same_sci g.sci sci && g.an == an
+
+  -- what holds of each delivery from the SA of this SCI and AN, under these key octets
+  pub of_ours : (P : Delivery → Type 0) (k : Keeping) (input : KeepingInput) →
+      ((g : Delivery) → Contains (delivered_at bytes sci an (newly_delivered k input)) g → IsGiven k.secy input g →
+      g.bytes ≡ bytes → g.sci ≡ sci → g.an ≡ an → P g) → All P (delivered_at bytes sci an (newly_delivered k input))
+  of_ours P k input holds i d within =
+      let ds = newly_delivered k input in
+      let g = get_or (delivered_at bytes sci an ds) i d in
+      let parts = and_parts (same_octets g.bytes bytes && same_sci g.sci sci) (g.an == an)
+      (all_pass is_ours ds i d within) in
+      let octets = and_parts (same_octets g.bytes bytes) (same_sci g.sci sci) parts.0 in
+      let place = same_place g.sci sci g.an an (rw (octets.1, parts.1)) in
+      holds g (all_there _ i d within) (All-filter is_ours (IsGiven k.secy input) ds (each_given k input) i d within)
+      ((bytes_eq-Decides g.bytes bytes).0 octets.0) place.0 place.1
+
+-- ---- deliveries in rising order
+
+abbrev pub Before : Delivery → Delivery → Type 0
+Before g h = g.number < h.number
+
+pub at_most_one : (k : Keeping) (input : KeepingInput) → AllPairs Before (newly_delivered k input)
+at_most_one k (endpoint_input (link_frame frame)) = by_delivery (frame_fault frame) (judgement_of k.secy frame).row
+    (judgement_of k.secy frame).delivered
+  where
+    by_delivery : (f : Option FrameFault) (o : Option RxRow) (d : Option (List ℕ)) →
+        AllPairs Before (delivered_by k.secy (judgement_of k.secy frame) f o d)
+    by_delivery None (Some _) (Some _) = one_alone Before _
+    by_delivery f o d = no_pairs Before
+at_most_one k _ = no_pairs Before
+
+module _ (laws : EndpointLaws) (fresh : Fresh) (bytes : List ℕ) (sci : Sci) (an : ℕ) where
+  abbrev pub name_in : List ℕ → List ℕ
+  name_in journal = receiving_name (sending_name (salt_of journal) bytes) sci an
+
+  pub record IsPlaced (run : Run) (after : State) (g : Delivery) : Type 0 where
+    pub later : (n : ℕ) → IsBelowNext (closing run).secy bytes sci an n → n < g.number
+    pub saved : highest (reservations run.journal) (name_in run.journal) < g.number
+    pub above : IsAbove after.rx.rows sci an (g.number + 1)
+
+  placed : (run : Run) → IsSound (closing run).secy → HasStrictOrder (closing run).secy →
+      (input : KeepingInput) (g : Delivery) →
+      IsGiven (closing run).secy input g → g.bytes ≡ bytes → g.sci ≡ sci → g.an ≡ an →
+      IsPlaced run (keeping_step (closing run) input).1.secy g
+  placed run sound order _ _ (is_given frame row delivered fits of_row delivers) is_bytes is_sci is_an =
+      let k = closing run in
+      let s = k.secy in
+      let tells = laws.delivers s frame row delivered sound of_row delivers in
+      let name : row_name (salt_of run.journal) s row ≡ name_in run.journal = rw (is_bytes, is_sci, is_an) in
+      let place : rx_row s.rx.rows sci an ≡ Some row =
+      rw (← is_an) (subst (λ x. rx_row s.rx.rows x row.an ≡ Some row) is_sci tells.at_place) in
+      let stepped : IsAbove (step s (link_frame frame)).1.rx.rows row.sci row.an ((judgement_of s frame).number + 1) =
+      rw fits (tells.accepted (tells.opened order.mode).thirteen) in
+      let ours : IsAbove (step s (link_frame frame)).1.rx.rows sci an ((judgement_of s frame).number + 1) =
+      rw (← is_an) (rw is_sci at stepped) in
+      record {
+        later = λ n below. omega (
+          arith,
+          below row place is_bytes,
+          tells.window,
+          order.window,
+          tells.on_time order.replay,
+        );
+        saved = rw name at (fresh run run.inputs frame row delivered order.replay of_row delivers);
+        above = rw (received_step k frame) ours;
+      }
+
+  pub all_placed : (run : Run) → IsSound (closing run).secy → (input : KeepingInput) →
+      ((g : Delivery) → Contains (delivered_at bytes sci an (newly_delivered (closing run) input)) g →
+      HasStrictOrder (closing run).secy) → All (IsPlaced run (keeping_step (closing run) input).1.secy)
+      (delivered_at bytes sci an (newly_delivered (closing run) input))
+  all_placed run sound input order =
+      of_ours bytes sci an _ (closing run) input (λ g there. placed run sound (order g there) input g)

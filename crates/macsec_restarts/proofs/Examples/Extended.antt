@@ -5,31 +5,31 @@
 -- one IV.
 use Rattle.macsec_counterexamples.proofs.Restarts.Tables.{begins_well}
 use Rattle.macsec_restarts.proofs.{
+  Examples.{
+    Blocks.{after_own, AgreeAtBothBut, AgreeOnKeyBut, AreOwn, ArePeersBut, AreSteps, blocks, commands_do},
+    Blocks.{commands_steps, Does, does_end, does_next, EndRun, first_link, gives_by, HasOneSalt, HasOneSuite},
+    Blocks.{HasStrictOrderBut, heard_by, is_strict, IsMetBy, KeepsSalt, KeepsSsci, KeepsSuite, LawWithout},
+    Blocks.{link_step_by, no_step, NoPremise, Premise, StaysSoundAlways, step_next},
+    Histories.{meets_all, MeetsAll, nothing_saved, one_run_each, refuted, seals_are},
+    NotSent.{names_differ, not_of_none, two_runs_of_b},
+    Tags.{small_at, tag_is},
+    TwoRunsEach.{is_durable, is_free, none_is, reads, reserved_2, reserved_is},
+  },
   Names.{[], ◌*◌, ◌++◌, ◌+◌, ◌<◌, ◌^◌, ◌∷◌, ◌≡◌, ◌≢◌, A, aad_sent, add_round_key, added_word, aes},
   Names.{affine_transformation, after_commands, after_rounds, All-append, all_fit, ap, are_small, AreNew, AreOctets},
   Names.{arith, at_row, B, begins_sound, Bool, byte_product, bytes, cipher_use, CipherUse, client, client_frame},
   Names.{closing, Command, command, commands_sound, commands_stay, Contains, delivered_at, delivered_in_all, Delivery},
   Names.{EndConfig, endpoint_input, false, frame_fault, frame_step, frame_with, genuine_at, highest, highest_of_one},
-  Names.{IfSome, installed_key, InstalledKey, inverse, is_new, is_within, is_xpn, IsSound, IsSubsequence, items, iv_of},
-  Names.{journal, Judgement, judgement_of, Keeping, keeping_step, KeepingInput, kept, Key, key_expansion, key_words},
-  Names.{link_frame, List, map, may_go, may_send, mix_columns, name_of, new_key, newly_delivered, newly_sent, no_salt},
-  Names.{no_tx_counters, None, none_refused, now_durable, only, open_of, opening, opens, parts_with, Passed},
-  Names.{polynomial_product, pre_counter_block, raised_alone, refl, remainder, replicate, Reservation, rot_word},
-  Names.{round_key, row_at, Run, rx_from, RxOn, RxRow, RxSa, RxSc, s_box, salt, SavedIn, Sci, sci_a, sci_b, Sealed},
-  Names.{sealed, sealed_in_all, sending_name, sent_sound, SentIn, shift_rows, slice_get, small, Some, sound_end},
-  Names.{sound_next, start, State, state_after_receiving, StaysSound, sub_bytes, sub_word, subst, sum_below},
-  Names.{sum_of_words, sum_with_stream, sym, tables_fit, tag_of, tag_sent, take, true, tx_from, tx_options, TxOn},
-  Names.{TxOptions, TxRow, TxSa, use_opened, use_sent, with_tag, Xpn128, zero, ℕ},
-  Examples.{
-    Blocks.{AreOwn, AreSteps, Does, EndRun, IsMetBy, after_own, blocks, commands_do, commands_steps, does_end},
-    Blocks.{does_next, first_link, gives_by, is_strict, link_step_by, no_step, heard_by, step_next},
-    Histories.{MeetsAll, meets_all, nothing_saved, one_run_each, refuted, seals_are},
-    NotSent.{names_differ, not_of_none, two_runs_of_b},
-    Premises.{AgreeAtBothBut, AgreeOnKeyBut, ArePeersBut, HasOneSalt, HasOneSuite, HasStrictOrderBut, KeepsSalt},
-    Premises.{KeepsSsci, KeepsSuite, LawWithout, NoPremise, Premise, StaysSoundAlways},
-    Tags.{small_at, tag_is},
-    TwoRunsEach.{is_durable, is_free, none_is, reads, reserved_2, reserved_is},
-  },
+  Names.{IfSome, Inputs, installed_key, InstalledKey, inverse, is_new, is_within, is_xpn, IsSound, IsSubsequence},
+  Names.{items, iv_of, journal, Judgement, judgement_of, Keeping, keeping_step, KeepingInput, kept, Key, key_expansion},
+  Names.{key_words, link_frame, List, map, may_go, may_send, mix_columns, name_of, new_key, newly_delivered},
+  Names.{newly_sent, no_salt, no_tx_counters, None, none_refused, now_durable, only, open_of, opening, opens},
+  Names.{parts_with, Passed, polynomial_product, pre_counter_block, raised_alone, refl, remainder, replicate},
+  Names.{Reservation, rot_word, round_key, row_at, Run, rx_from, RxOn, RxRow, RxSa, RxSc, s_box, salt, SavedIn, Sci},
+  Names.{sci_a, sci_b, Sealed, sealed, sealed_in_all, sending_name, sent_sound, SentIn, shift_rows, slice_get, small},
+  Names.{Some, sound_end, sound_next, start, State, state_after_receiving, StaysSound, sub_bytes, sub_word, subst},
+  Names.{sum_below, sum_of_words, sum_with_stream, sym, tables_fit, tag_of, tag_sent, take, true, tx_from, tx_options},
+  Names.{TxOn, TxOptions, TxRow, TxSa, use_opened, use_sent, Uses, with_tag, Xpn128, zero, ℕ},
 }
 use Rattle.macsec_commands.specs.declared.form.TagForm.TheVariants as form
 
@@ -87,8 +87,7 @@ abbrev front : List ℕ
 front = take 22 (frame_of [])
 
 pub octets : (s : Salt) → AreOctets (frame_of (icv s))
-octets s =
-    All-append (λ x. x < 256) front (items 16 (icv s)) (small front refl)
+octets s = All-append (λ x. x < 256) front (items 16 (icv s)) (small front refl)
     (rw (sealed bytes (iv s) aad) at (tag_is bytes _ aad (small_at _ (block s))))
 
 -- ---- the run that sends it, at either end
@@ -96,19 +95,13 @@ octets s =
 abbrev pub frame_in : KeepingInput
 frame_in = endpoint_input (client_frame (client 1))
 
-abbrev pub sa_in : KeepingInput
-sa_in = command (TxSa 0 0 1 false)
-
-abbrev pub on_in : KeepingInput
-on_in = command (TxOn 0)
-
 abbrev pub report_in : KeepingInput
 report_in = now_durable reserved_2
 
 abbrev pub tx_set_up : Salt → List Command
 tx_set_up s = Key (new_key (of_salt s) 1) ∷ TxSa 0 0 1 false ∷ TxOn 0 ∷ []
 
-abbrev pub sends : Salt → List KeepingInput
+abbrev pub sends : Salt → Inputs
 sends s = map command (tx_set_up s) ++ report_in ∷ frame_in ∷ []
 
 abbrev tx_state : Salt → Sci → ℕ → List TxRow → ℕ → State
@@ -164,8 +157,7 @@ module _ (sci : Sci) where
   lists s = rw (goes s, seals s)
 
   sender_does : (s : Salt) → Does k_begun (sends s) (sent_1 s ∷ []) [] (k_sent s)
-  sender_does s =
-      commands_do (tx_set_up s) (tx_new s) (tx_none s)
+  sender_does s = commands_do (tx_set_up s) (tx_new s) (tx_none s)
       (does_next refl refl (reserves s) (does_next (lists s) refl
       (frame_step (k_reserved s) (client 1) (goes s)) does_end))
 
@@ -180,8 +172,7 @@ module _ (sci : Sci) where
     last_sound_a = sent_sound (client 1) refl refl on_sound
 
     sender_sound : StaysSound k_begun (sends Zeros)
-    sender_sound =
-        commands_stay (tx_set_up Zeros) k_begun _ (tx_new Zeros) refl refl first_sound
+    sender_sound = commands_stay (tx_set_up Zeros) k_begun _ (tx_new Zeros) refl refl first_sound
         (sound_next (k_on Zeros) report_in _ on_sound (reserves Zeros)
         (sound_next _ frame_in [] on_sound (frame_step (k_reserved Zeros) (client 1) (goes Zeros))
         (sound_end (k_sent Zeros) last_sound_a)))
@@ -238,7 +229,7 @@ set_up r = Key (new_key (salt_of_key r) (own_ssci r)) ∷ RxSc sci_a ∷ RxSa sc
 abbrev pub ready : Receiver → State
 ready r = after_commands (start (config_of sci_b)) (set_up r)
 
-abbrev pub commands : Receiver → List KeepingInput
+abbrev pub commands : Receiver → Inputs
 commands r = map command (set_up r)
 
 abbrev pub f : Receiver → List ℕ
@@ -256,7 +247,7 @@ accepts r = at_row (row_from r) (number_of r) 13 Passed (Some (client 1))
 iv_is : (r : Receiver) → iv_of Xpn128 sci_a (peer_ssci r) (salt_of_key r) (number_of r) ≡ iv (sender_salt r)
 unfolding sum_with_stream
 iv_is Same = refl
-iv_is it = refl
+iv_is _ = refl
 
 opens_as : (r : Receiver) → open_of bytes (iv_of Xpn128 sci_a (peer_ssci r) (salt_of_key r) (number_of r)) aad []
     (items 16 (icv (sender_salt r))) ≡ Some []
@@ -269,7 +260,7 @@ judged it = rw (opens_as it)
 
 whole : (r : Receiver) → frame_fault (f r) ≡ None
 whole Same = refl
-whole it = refl
+whole _ = refl
 
 abbrev pub heard : Receiver → State
 heard r = state_after_receiving (ready r) (f r) (accepts r)
@@ -284,11 +275,11 @@ module _ (before : List Reservation) (free : highest (reads before) (name_of (sa
   pub are_new : (r : Receiver) → AreNew (at (start (config_of sci_b))) (set_up r)
   are_new Same = (refl, (refl, (is_new (reads before) (name_of (salt false)) 1 free, (refl, tt))))
   are_new Turned = (refl, (refl, (is_new (reads before) (name_of (salt false)) 1 free, (refl, tt))))
-  are_new it = (refl, (refl, (is_new (reads before) (name_of (salt false)) (2 ^ 32) (omega (arith, free)), (refl, tt))))
+  are_new _ = (refl, (refl, (is_new (reads before) (name_of (salt false)) (2 ^ 32) (omega (arith, free)), (refl, tt))))
 
   pub none : (r : Receiver) → none_refused (start (config_of sci_b)) (set_up r) ≡ true
   none Same = refl
-  none it = refl
+  none _ = refl
 
   pub hears : (r : Receiver) → (keeping_step (at (ready r)) (link r)).1 ≡ at (heard r)
   hears r = link_step_by (at (ready r)) (f r) _ (whole r) (judged r)
@@ -301,21 +292,18 @@ module _ (before : List Reservation) (free : highest (reads before) (name_of (sa
       (at (heard r))
   receiver_does r = commands_do (set_up r) (are_new r) (none r) (does_next refl (gives r) (hears r) does_end)
 
-  pub genuine : (r : Receiver) (uses : List CipherUse) → Contains uses (use_of (sender_salt r)) →
+  pub genuine : (r : Receiver) (uses : Uses) → Contains uses (use_of (sender_salt r)) →
       IfSome (use_opened (ready r) (f r)) (Contains uses)
-  genuine Unsalted uses there =
-      genuine_at (ready Unsalted) (f Unsalted) (accepts Unsalted) uses (judged Unsalted)
+  genuine Unsalted uses there = genuine_at (ready Unsalted) (f Unsalted) (accepts Unsalted) uses (judged Unsalted)
       (rw (iv_is Unsalted) there)
-  genuine it uses there =
-      genuine_at (ready it) (f it) (accepts it) uses (judged it)
-      (rw (iv_is it) there)
+  genuine it uses there = genuine_at (ready it) (f it) (accepts it) uses (judged it) (rw (iv_is it) there)
 
   strict : {left_out : Premise} (r : Receiver) → HasStrictOrderBut left_out (ready r)
   strict Same = is_strict refl refl refl
-  strict it = is_strict refl refl refl
+  strict _ = is_strict refl refl refl
 
   receiver_steps : (left_out : Premise) (r : Receiver) (b : Run) → opening b ≡ at (start (config_of sci_b)) →
-      (uses : List CipherUse) → Contains uses (use_of (sender_salt r)) →
+      (uses : Uses) → Contains uses (use_of (sender_salt r)) →
       AreSteps left_out bytes sci_a 0 (opening b) [] uses (commands r ++ link r ∷ [])
   receiver_steps left_out r b opened uses there =
       rw opened (commands_steps left_out bytes sci_a 0 (set_up r) (are_new r) (none r)
@@ -333,14 +321,14 @@ module _ (before : List Reservation) (free : highest (reads before) (name_of (sa
 
   all_are_fit : (r : Receiver) → has_salt r ≡ true → all_fit (start (config_of sci_b)) (set_up r) ≡ true
   all_are_fit Unsalted is = cc
-  all_are_fit it is = refl
+  all_are_fit _ _ = refl
 
   pub ready_sound : (r : Receiver) → has_salt r ≡ true → IsSound (ready r)
   ready_sound r is = commands_sound (set_up r) (none r) (all_are_fit r is) rx_start
 
   heard_fits : (r : Receiver) → has_salt r ≡ true → tables_fit (heard r) ≡ true
   heard_fits Unsalted is = cc
-  heard_fits r is = refl
+  heard_fits r _ = refl
 
   pub heard_is_sound : (r : Receiver) → has_salt r ≡ true → IsSound (heard r)
   heard_is_sound r is = heard_by (f r) (whole r) (judged r) (heard_fits r is) (ready_sound r is)
@@ -401,48 +389,39 @@ module _ (left_out : Premise) (r : Receiver) (salted : has_salt (reserved_2 ∷ 
   keys_s = rw does_s.ends
 
   reflected_peers : ArePeersBut left_out (blocks (reflected r))
-  reflected_peers =
-      two_runs_of_b left_out first_run (run_r r) (sender_sound sci_b refl)
+  reflected_peers = two_runs_of_b left_out first_run (run_r r) (sender_sound sci_b refl)
       (receiver_sound (reserved_2 ∷ []) free_r r salted)
       (of_last (λ x y. x.bytes ≡ y.bytes → AgreeOnKeyBut KeepsSuite KeepsSalt left_out x y) first_run (run_r r)
-      (key_at no_salt 1 2) (rx_key r) keys_s keys (λ same. agree))
-      refl (is_durable reserved_2 reserved_is) (record {
+      (key_at no_salt 1 2) (rx_key r) keys_s keys (λ same. agree)) refl (is_durable reserved_2 reserved_is) (record {
         sci = λ d. refl;
         ssci = λ d. of_last (λ x y. x.bytes ≡ y.bytes → is_xpn x.suite ≡ true → x.ssci ≡ y.ssci) first_run (run_r r)
             (key_at no_salt 1 2) (rx_key r) keys_s keys (λ same xpn. ssci d);
       })
 
   reflects : LawWithout left_out (blocks (reflected r)) → ⊥
-  reflects =
-      refuted left_out (reflected r) [] (delivery r ∷ []) (
-        (
-          (λ d. nothing_saved first_run.journal),
-          after_own left_out bytes sci_a 0 (sends Zeros) [] (opening first_run) (sealed_in_all [] ++ sealed_in_all [])
-              (tt, (tt, (tt, (tt, (tt, tt))))) no_step,
-        ),
-        (
-          (
-            (λ d. subst (λ xs. SavedIn (run_r r).journal bytes sci_a 0
-                (delivered_at bytes sci_a 0 xs)) (sym none_yet) (nothing_saved (run_r r).journal)),
-            receiver_steps (reserved_2 ∷ []) free_r left_out r (run_r r) refl
-                (sealed_in_all [] ++ sealed_in_all (first_run ∷ []))
-                (rw seals sealed_s),
-          ),
-          tt,
-        ),
-      )
-      reflected_peers refl
-      (rw (does_s.delivers, (does_r r).delivers))
-      (not_of_none (number_of r ∷ client 1))
+  reflects = refuted left_out (reflected r) [] (delivery r ∷ []) (
+    (
+      (λ d. nothing_saved first_run.journal),
+      after_own left_out bytes sci_a 0 (sends Zeros) [] (opening first_run) (sealed_in_all [] ++ sealed_in_all [])
+          (tt, (tt, (tt, (tt, (tt, tt))))) no_step,
+    ),
+    (
+      (
+        (λ d. subst (λ xs. SavedIn (run_r r).journal bytes sci_a 0
+            (delivered_at bytes sci_a 0 xs)) (sym none_yet) (nothing_saved (run_r r).journal)),
+        receiver_steps (reserved_2 ∷ []) free_r left_out r (run_r r) refl
+            (sealed_in_all [] ++ sealed_in_all (first_run ∷ [])) (rw seals sealed_s),
+      ),
+      tt,
+    ),
+  ) reflected_peers refl (rw (does_s.delivers, (does_r r).delivers)) (not_of_none (number_of r ∷ client 1))
 
 pub same_ssci_needed : LawWithout KeepsSsci (blocks (reflected Same)) → ⊥
-same_ssci_needed =
-    reflects _ Same refl (rw ((does_r Same).ends)) refl
+same_ssci_needed = reflects _ Same refl (rw ((does_r Same).ends)) refl
     (record { suite = λ d. refl; salt = λ d xpn. refl }) (λ d. absurd (d refl))
 
 pub kept_salt_needed : LawWithout KeepsSalt (blocks (reflected Turned)) → ⊥
-kept_salt_needed =
-    reflects _ Turned refl (rw ((does_r Turned).ends)) refl
+kept_salt_needed = reflects _ Turned refl (rw ((does_r Turned).ends)) refl
     (record { suite = λ d. refl; salt = λ d. absurd (d refl) }) (λ d. refl)
 
 -- ---- the key has another salt at B, or none at both: B delivers A's frame with another packet number
@@ -465,9 +444,7 @@ does_b : (r : Receiver) → Does (opening (run_b r)) (commands r ++ link r ∷ [
 does_b r = receiver_does [] free_b r
 
 sealed_a : (r : Receiver) → Contains (sealed_in_all (run_a r ∷ []) ++ sealed_in_all []) (use_of (sender_salt r))
-sealed_a r =
-    rw (seals_are (run_a r ∷ []) (sent_1 (sender_salt r) ∷ [])
-    (rw ((does_a r).sends))) (0, omega arith, refl)
+sealed_a r = rw (seals_are (run_a r ∷ []) (sent_1 (sender_salt r) ∷ []) (rw ((does_a r).sends))) (0, omega arith, refl)
 
 abbrev shifted : Receiver → List EndRun
 shifted r = (A, run_a r) ∷ (B, run_b r) ∷ []
@@ -477,8 +454,7 @@ ends_agree : (left_out : Premise) (r : Receiver) →
     AgreeAtBothBut left_out (run_a r) (run_b r)
 ends_agree left_out r agree =
     of_last (λ x y. x.bytes ≡ y.bytes → AgreeOnKeyBut HasOneSuite HasOneSalt left_out x y) (run_a r) (run_b r)
-    (key_at (of_salt (sender_salt r)) 1 2) (rx_key r)
-    (rw ((does_a r).ends)) (keys_at_end r) (λ same. agree)
+    (key_at (of_salt (sender_salt r)) 1 2) (rx_key r) (rw ((does_a r).ends)) (keys_at_end r) (λ same. agree)
   where
     keys_at_end : (r' : Receiver) → (closing (run_b r')).secy.keys ≡ rx_key r' ∷ []
     keys_at_end Same = ap (λ k. k.secy.keys) (does_b Same).ends
@@ -489,8 +465,8 @@ not_of_other : (m n : ℕ) (x y : List ℕ) → (m ≡ n → ⊥) → IsSubseque
 not_of_other m n x y differ it = by_places it.0 it.2
   where
     by_places : (places : List ℕ) → map (slice_get ((n ∷ y) ∷ [])) places ≡ Some (m ∷ x) ∷ [] → ⊥
-    by_places (zero ∷ ps) same = let one : n ≡ m = cc in differ (sym one)
-    by_places places same = cc
+    by_places (zero ∷ _) same = let one : n ≡ m = cc in differ (sym one)
+    by_places _ same = cc
 
 receives_it : (left_out : Premise) (r : Receiver) → IsMetBy left_out bytes sci_a 0 ((A, run_a r) ∷ []) B (run_b r)
 receives_it left_out r = (
@@ -505,35 +481,29 @@ own_unsalted : AreOwn (sends Empty)
 own_unsalted = (tt, (tt, (tt, (tt, (tt, tt)))))
 
 pub same_salt_needed : LawWithout HasOneSalt (blocks (shifted Salted)) → ⊥
-same_salt_needed =
-    refuted HasOneSalt (shifted Salted) (sent_1 Zeros ∷ []) (delivery Salted ∷ [])
+same_salt_needed = refuted HasOneSalt (shifted Salted) (sent_1 Zeros ∷ []) (delivery Salted ∷ [])
     (own_a, (receives_it HasOneSalt Salted, tt))
     (one_run_each HasOneSalt (run_a Salted) (run_b Salted) (λ d. sender_sound sci_a refl)
     (λ d. receiver_sound [] free_b Salted refl)
     (ends_agree HasOneSalt Salted (record { suite = λ d. refl; salt = λ d. absurd (d refl) })))
-    (rw ((does_a Salted).sends))
-    (rw ((does_b Salted).delivers))
+    (rw ((does_a Salted).sends)) (rw ((does_b Salted).delivers))
     (not_of_other (2 ^ 32 + 1) 1 (client 1) (client 1) (λ same. omega (arith, same)))
 
 -- no call installs a key whose salt has no octets: its endpoint is not sound
 pub soundness_needed : LawWithout StaysSoundAlways (blocks (shifted Unsalted)) → ⊥
-soundness_needed =
-    refuted StaysSoundAlways (shifted Unsalted) (sent_1 Empty ∷ []) (delivery Unsalted ∷ [])
+soundness_needed = refuted StaysSoundAlways (shifted Unsalted) (sent_1 Empty ∷ []) (delivery Unsalted ∷ [])
     (own_unsalted, (receives_it StaysSoundAlways Unsalted, tt))
     (one_run_each StaysSoundAlways (run_a Unsalted) (run_b Unsalted) (λ d. absurd (d refl)) (λ d. absurd (d refl))
     (ends_agree StaysSoundAlways Unsalted (record { suite = λ d. refl; salt = λ d xpn. refl })))
-    (rw ((does_a Unsalted).sends))
-    (rw ((does_b Unsalted).delivers))
+    (rw ((does_a Unsalted).sends)) (rw ((does_b Unsalted).delivers))
     (not_of_other (2 ^ 32 + 1) 1 (client 1) (client 1) (λ same. omega (arith, same)))
 
 -- ---- the key has the same salt at both ends, and another own SSCI: all premises are met, and B delivers what A sent
 
 pub extended_meets : MeetsAll (shifted Same) ((1 ∷ client 1) ∷ []) ((1 ∷ client 1) ∷ [])
-extended_meets =
-    meets_all (shifted Same) (sent_1 Zeros ∷ []) (delivery Same ∷ [])
+extended_meets = meets_all (shifted Same) (sent_1 Zeros ∷ []) (delivery Same ∷ [])
     (own_a, (receives_it NoPremise Same, tt))
     (one_run_each NoPremise (run_a Same) (run_b Same) (λ d. sender_sound sci_a refl)
     (λ d. receiver_sound [] free_b Same refl)
-    (ends_agree NoPremise Same (record { suite = λ d. refl; salt = λ d xpn. refl })))
-    (rw ((does_a Same).sends))
+    (ends_agree NoPremise Same (record { suite = λ d. refl; salt = λ d xpn. refl }))) (rw ((does_a Same).sends))
     (rw ((does_b Same).delivers))

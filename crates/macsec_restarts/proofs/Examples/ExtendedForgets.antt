@@ -3,42 +3,45 @@
 -- the endpoint forgets the key, and has an SA under another key. They meet all premises of order of endpoints that
 -- forget.
 use Rattle.macsec_aes.specs.declared.Key.TheVariants.{K128}
+use Rattle.macsec_counterexamples.proofs.Restarts.{Goes.{command_step, commands_end}, Tables.first_sound as sound_first}
+use Rattle.macsec_restarts.{
+  proofs.{
+    Examples.{
+      Blocks.{blocks, EndRun, goes_on},
+      Extended.{are_new, at, commands, config_of, delivery, does_a, f, first_sound, frame_in, free_b, genuine, gives},
+      Extended.{goes, heard, heard_is_sound, hears, judged, k_begun, k_on, k_reserved, k_sent, key_at, last_sound_a},
+      Extended.{link, lists, none, octets, of_last, on_sound, ready, ready_sound, report_in, reserves, run_a, rx_key},
+      Extended.{rx_start, sends, sent_1, set_up, tx_new, tx_set_up, use_of},
+      Extended.Receiver.Same,
+      Extended.Salt.Zeros,
+      Forgets.is_row,
+      TwoRunsEach.{is_free, none_is, reads},
+    },
+    Names.{[], ◌++◌, ◌<◌, ◌∷◌, ◌≡◌, A, after_commands, AgreeOnKey, AgreeOnKeys, Ahead, ahead_forgetting_after},
+    Names.{ahead_forgetting_step, ahead_step, All, All-cons, All-nil, all_fit, AllPairs, append-nil, append_assoc},
+    Names.{AreKeyRows, AreNew, ArePeerRuns, arith, AtEach, B, begins, begins_again, Bool, bytes, can_replace},
+    Names.{carried_step, client, closing, closing_of, comes_in, Command, command, commands_sound, compress, Contains},
+    Names.{delivered_at, delivered_from_forgetting, delivered_of_all, Delivery, digest_bytes, effect, End, ended_after},
+    Names.{Ends, Events, false, fingerprint, first_carried, first_words, forgetting, forgetting_step, frame_step},
+    Names.{Happening, hash_after, HasStrictOrder, highest, IfSome, if◌then◌else◌, inner, Inputs, inside_of},
+    Names.{installs_retired, is_new, IsFair, IsFairHere, IsSameEnd, IsSound, IsSoundWith, journal, Keeping},
+    Names.{keeping_step, KeepingInput, KeepsDelivered, KeepsSent, Key, keys_replacing, length, lets_through},
+    Names.{link_frame, List, map, max_frame_len, member, new_key, newly_delivered, newly_delivered_with, newly_sent},
+    Names.{no_ends, no_salt, None, none_refused, numbered_delivery, numbered_sent, one_alone, opening_with},
+    Names.{operator_command, Option, others_with, ready_by_keys, receiving_name, refl, refusal, replacing, replicate},
+    Names.{Retire, rounds, Run, runs_at, RunWith, RxDel, RxSa, salt, schedule, sci_a, sci_b, seal_of, sending_name},
+    Names.{sent_from_forgetting, sent_of_all, sent_under, SentIn, sha256, Some, start, State, step, subst, suc, sym},
+    Names.{take, through, true, use_opened, zero, ℕ},
+  },
+  specs.Kept.{IsGenuineFrom, last_of},
+}
 use Rattle.macsec_rx.specs.Rows.{IsRxRow}
 use Rattle.macsec_secy.proofs.StaysSound.{after_effect}
-use Rattle.macsec_counterexamples.proofs.Restarts.{Goes.{command_step, commands_end}, Tables.first_sound as sound_first}
-use Rattle.macsec_restarts.proofs.{
-  Names.{[], ◌++◌, ◌<◌, ◌∷◌, ◌≡◌, A, after_commands, AgreeOnKey, AgreeOnKeys, Ahead, ahead_forgetting_after},
-  Names.{ahead_forgetting_step, ahead_step, All, All-cons, All-nil, all_fit, AllPairs, append-nil, append_assoc},
-  Names.{AreKeyRows, AreNew, ArePeerRuns, arith, AtEach, B, begins, begins_again, Bool, bytes, can_replace},
-  Names.{carried_step, client, closing, closing_of, comes_in, Command, command, commands_sound, compress, Contains},
-  Names.{delivered_at, delivered_from_forgetting, delivered_of_all, Delivery, digest_bytes, effect, End, ended_after},
-  Names.{Ends, false, fingerprint, first_carried, first_words, forgetting, forgetting_step, frame_step, Happening},
-  Names.{hash_after, HasStrictOrder, highest, IfSome, if◌then◌else◌, inner, inside_of, installs_retired, is_new},
-  Names.{IsFair, IsFairHere, IsSameEnd, IsSound, IsSoundWith, journal, Keeping, keeping_step, KeepingInput},
-  Names.{KeepsDelivered, KeepsSent, Key, keys_replacing, length, lets_through, link_frame, List, map, max_frame_len},
-  Names.{member, new_key, newly_delivered, newly_delivered_with, newly_sent, no_ends, no_salt, None, none_refused},
-  Names.{numbered_delivery, numbered_sent, one_alone, opening_with, operator_command, Option, others_with},
-  Names.{ready_by_keys, receiving_name, refl, refusal, replacing, replicate, Retire, rounds, Run, runs_at, RunWith},
-  Names.{RxDel, RxSa, salt, schedule, sci_a, sci_b, seal_of, sending_name, sent_from_forgetting, sent_of_all},
-  Names.{sent_under, SentIn, sha256, Some, start, State, step, subst, suc, sym, take, through, true, use_opened, zero},
-  Names.ℕ,
-  Examples.{
-    Blocks.{EndRun, blocks},
-    Extended.{are_new, at, commands, config_of, delivery, does_a, f, first_sound, frame_in, free_b, genuine, gives},
-    Extended.{goes, heard, heard_is_sound, hears, judged, k_begun, k_on, k_reserved, k_sent, key_at, last_sound_a},
-    Extended.{link, lists, none, octets, of_last, on_sound, ready, ready_sound, report_in, reserves, run_a, rx_key},
-    Extended.{rx_start, sends, sent_1, set_up, tx_new, tx_set_up, use_of, Receiver.Same, Salt.Zeros},
-    Forgets.is_row,
-    InsideBlocks.goes_on,
-    TwoRunsEach.{is_free, none_is, reads},
-  },
-}
-use Rattle.macsec_restarts.specs.Kept.{last_of, IsGenuineFrom}
 
 abbrev a_of : Keeping → Ahead
 a_of k = record { k = k; ahead = false; taken = []; ended = no_ends }
 
-record DoesWith (a : Ahead) (inputs : List KeepingInput) (xs : List SentIn) (ds : List Delivery)
+record DoesWith (a : Ahead) (inputs : Inputs) (xs : List SentIn) (ds : List Delivery)
     (last : Ahead) : Type 0 where
   sends : sent_from_forgetting a inputs ≡ xs
   delivers : delivered_from_forgetting a inputs ≡ ds
@@ -52,7 +55,7 @@ with_end a sound = record { sends = refl; delivers = refl; ends = refl; sound = 
     at_each zero = sound
     at_each (suc n) = sound
 
-with_next : {a after last : Ahead} {input : KeepingInput} {inputs : List KeepingInput} {now sends : List SentIn}
+with_next : {a after last : Ahead} {input : KeepingInput} {inputs : Inputs} {now sends : List SentIn}
     {new ds : List Delivery} → IsSound a.k.secy → newly_sent a.k input ≡ now → newly_delivered_with a input ≡ new →
     (ahead_forgetting_step a input).1 ≡ after → DoesWith after inputs sends ds last →
     DoesWith a (input ∷ inputs) (now ++ sends) (new ++ ds) last
@@ -69,15 +72,14 @@ with_next {a} {input} {inputs} {now} {new} sound is_now is_new is_after rest = r
         (rest.sound n)
 
 -- all inputs come to the endpoint that forgets none, and to the keeping endpoint inside
-record IsWhole (a : Ahead) (inputs : List KeepingInput) : Type 0 where
+record IsWhole (a : Ahead) (inputs : Inputs) : Type 0 where
   given : others_with a inputs ≡ inputs
   reaches : through a inputs ≡ inputs
 
 whole_end : (a : Ahead) → IsWhole a []
 whole_end a = record { given = refl; reaches = refl }
 
-whole_next : {a after : Ahead} {input : KeepingInput} {inputs : List KeepingInput} →
-    installs_retired a.k input ≡ false →
+whole_next : {a after : Ahead} {input : KeepingInput} {inputs : Inputs} → installs_retired a.k input ≡ false →
     lets_through a input ≡ true → (ahead_forgetting_step a input).1 ≡ after → (ahead_step a input).1 ≡ after →
     IsWhole after inputs → IsWhole a (input ∷ inputs)
 whole_next {a} {input} {inputs} new lets forgets goes' rest = record {
@@ -86,7 +88,7 @@ whole_next {a} {input} {inputs} new lets forgets goes' rest = record {
 }
 
 inside_whole : (run : Run) → IsWhole (opening_with false run) run.inputs → inner false run ≡ run
-inside_whole run it = rw (it.given, it.reaches)
+inside_whole _ it = rw (it.given, it.reaches)
 
 newly_none : (a : Ahead) (c : Command) → newly_delivered_with a (command c) ≡ []
 newly_none a c = by_test (lets_through a (command c))
@@ -101,13 +103,13 @@ command_goes : (k k' : Keeping) (ended : Ends) (c : Command) → begins_again (a
     (keeping_step k (command c)).1 ≡ k' → ended_after (a_of k) (operator_command c)
     ((keeping_step k (command c)).0, k') ≡ ended → (ahead_forgetting_step (a_of k) (command c)).1 ≡ record (a_of k')
     { ended = ended }
-command_goes k k' ended c again same is ends = rw (again, same, is, ends)
+command_goes k _ _ c again same is ends = rw (again, same, is, ends)
 
 command_goes_on : (k k' : Keeping) (c : Command) → begins_again (a_of k) (operator_command c) ≡ false →
     (keeping_step k (command c)).1 ≡ k' →
     ended_after (a_of k) (operator_command c) ((keeping_step k (command c)).0, k') ≡ no_ends →
     (ahead_step (a_of k) (command c)).1 ≡ a_of k'
-command_goes_on k k' c again is ends = rw (again, is, ends)
+command_goes_on k _ c again is ends = rw (again, is, ends)
 
 -- commands that forget nothing, install no key again and end no SA
 record IsPlain (k : Keeping) (c : Command) : Type 0 where
@@ -122,11 +124,11 @@ abbrev ArePlain : Keeping → List Command → Type 0
 ArePlain k [] = Unit {0}
 ArePlain k (c ∷ cs) = IsPlain k c × ArePlain (record k { secy = effect k.secy c }) cs
 
-commands_with : (cs : List Command) {k : Keeping} {last : Ahead} {inputs : List KeepingInput} {xs : List SentIn}
+commands_with : (cs : List Command) {k : Keeping} {last : Ahead} {inputs : Inputs} {xs : List SentIn}
     {ds : List Delivery} → AreNew k cs → none_refused k.secy cs ≡ true → all_fit k.secy cs ≡ true → ArePlain k cs →
     IsSound k.secy → DoesWith (a_of (record k { secy = after_commands k.secy cs })) inputs xs ds last →
     DoesWith (a_of k) (map command cs ++ inputs) xs ds last
-commands_with [] new none fit plain sound rest = rest
+commands_with [] _ none _ _ _ rest = rest
 commands_with (c ∷ cs) {k} new none fit plain sound rest =
     let it = first_carried k.secy c cs none in
     let now = sound_first k.secy c cs it.0 fit sound in
@@ -135,23 +137,21 @@ commands_with (c ∷ cs) {k} new none fit plain sound rest =
     (command_goes k _ _ c p.again p.same (carried_step k c new.0 it.0) p.ends)
     (commands_with cs new.1 it.1 now.1 plain.1 now.0 rest)
 
-commands_whole : (cs : List Command) {k : Keeping} {inputs : List KeepingInput} → AreNew k cs →
-    none_refused k.secy cs ≡ true →
+commands_whole : (cs : List Command) {k : Keeping} {inputs : Inputs} → AreNew k cs → none_refused k.secy cs ≡ true →
     ArePlain k cs → IsWhole (a_of (record k { secy = after_commands k.secy cs })) inputs →
     IsWhole (a_of k) (map command cs ++ inputs)
-commands_whole [] new none plain rest = rest
+commands_whole [] _ none _ rest = rest
 commands_whole (c ∷ cs) {k} new none plain rest =
     let it = first_carried k.secy c cs none in
     let k' = record k { secy = effect k.secy c } in
     let p = plain.0 in
     let step = carried_step k c new.0 it.0 in
     whole_next p.new p.lets (command_goes k _ _ c p.again p.same step p.ends)
-    (command_goes_on k k' c p.again step p.ends)
-    (commands_whole cs new.1 it.1 plain.1 rest)
+    (command_goes_on k k' c p.again step p.ends) (commands_whole cs new.1 it.1 plain.1 rest)
 
 -- A's run
 
-abbrev a_sends : List KeepingInput
+abbrev a_sends : Inputs
 a_sends = sends Zeros
 
 reserves_a : (ahead_step (a_of (k_on sci_a Zeros)) report_in).1 ≡ a_of (k_reserved sci_a Zeros)
@@ -163,8 +163,7 @@ sends_a = rw (frame_step (k_reserved sci_a Zeros) (client 1) (goes sci_a Zeros))
 is_plain : {k : Keeping} {c : Command} → begins_again (a_of k) (operator_command c) ≡ false →
     forgetting_step k (command c) ≡ keeping_step k (command c) →
     ended_after (a_of k) (operator_command c) ((keeping_step k (command c)).0, record k { secy = effect k.secy c }) ≡
-    no_ends →
-    installs_retired k (command c) ≡ false → lets_through (a_of k) (command c) ≡ true → IsPlain k c
+    no_ends → installs_retired k (command c) ≡ false → lets_through (a_of k) (command c) ≡ true → IsPlain k c
 is_plain again same ends new lets = record { again = again; same = same; ends = ends; new = new; lets = lets }
 
 plain_a : ArePlain (k_begun sci_a) (tx_set_up Zeros)
@@ -174,14 +173,12 @@ plain_a = (
 )
 
 a_does : DoesWith (a_of (k_begun sci_a)) a_sends (sent_1 Zeros ∷ []) [] (a_of (k_sent sci_a Zeros))
-a_does =
-    commands_with (tx_set_up Zeros) (tx_new sci_a Zeros) refl refl plain_a (first_sound sci_a refl)
+a_does = commands_with (tx_set_up Zeros) (tx_new sci_a Zeros) refl refl plain_a (first_sound sci_a refl)
     (with_next (on_sound sci_a refl) refl refl reserves_a
     (with_next (on_sound sci_a refl) (lists sci_a Zeros) refl sends_a (with_end _ (last_sound_a sci_a refl))))
 
 a_whole : IsWhole (a_of (k_begun sci_a)) a_sends
-a_whole =
-    commands_whole (tx_set_up Zeros) (tx_new sci_a Zeros) refl plain_a
+a_whole = commands_whole (tx_set_up Zeros) (tx_new sci_a Zeros) refl plain_a
     (whole_next refl refl reserves_a reserves_a (whole_next refl refl sends_a sends_a (whole_end _)))
 
 -- B's run: the commands, the frame, then the SA is deleted and the key retired, and another key is installed and used
@@ -208,7 +205,7 @@ sa_2 = RxSa sci_a 0 1 1 1
 abbrev then_commands : List Command
 then_commands = RxDel sci_a 0 ∷ Retire 0 ∷ key_2 ∷ sa_2 ∷ []
 
-abbrev then_on : List KeepingInput
+abbrev then_on : Inputs
 then_on = map command then_commands
 
 abbrev run_f : Run
@@ -270,8 +267,7 @@ forgotten_is = (is_row (omega arith) long_b refl (omega arith) (omega arith) (om
 
 forgotten_sound : IsSound forgotten
 forgotten_sound =
-    let it =
-    ready_by_keys retired 0 print (keys_replacing retired.keys 0 print) true max_frame_len
+    let it = ready_by_keys retired 0 print (keys_replacing retired.keys 0 print) true max_frame_len
     (sym can_b) refl tt forgotten_is (record { sound = retired_sound; room = refl }) in
     it.sound
 
@@ -304,8 +300,7 @@ keys_2 : (ahead_forgetting_step (a_of k_forgot) (command key_2)).1 ≡ a_of k_tw
 keys_2 = command_goes k_forgot _ _ key_2 refl not_known installs_2 refl
 
 two_are : AreKeyRows with_two.keys
-two_are =
-    (forgotten_is.0, refl, (is_row (omega arith) refl refl (omega arith) (omega arith) (omega arith), refl, tt))
+two_are = (forgotten_is.0, refl, (is_row (omega arith) refl refl (omega arith) (omega arith) (omega arith), refl, tt))
 
 two_sound : IsSound with_two
 two_sound = after_effect forgotten key_2 is_fit
@@ -354,11 +349,9 @@ last_b = a_of k_last
 
 b_does : DoesWith (a_of (b_at (start (config_of sci_b)))) (commands Same ++ link Same ∷ then_on) []
     (delivery Same ∷ []) last_b
-b_does =
-    commands_with (set_up Same) (are_new [] free_b Same) refl refl plain_b (rx_start [] free_b)
+b_does = commands_with (set_up Same) (are_new [] free_b Same) refl refl plain_b (rx_start [] free_b)
     (with_next (ready_sound [] free_b Same refl) refl gives_b hears_b
-    (with_next (heard_is_sound [] free_b Same refl) refl refl deletes_b
-    (with_next deleted_sound refl refl retires_b
+    (with_next (heard_is_sound [] free_b Same refl) refl refl deletes_b (with_next deleted_sound refl refl retires_b
     (with_next forgotten_sound refl refl keys_2 (with_next two_sound refl refl sas_2 (with_end last_b last_sound))))))
 
 b_commands : DoesWith (a_of (b_at (start (config_of sci_b)))) (commands Same) [] [] (a_of (b_at (ready Same)))
@@ -402,8 +395,7 @@ keys_so_far : (closing so_far).secy.keys ≡ rx_key Same ∷ []
 keys_so_far = rw (commands_end (set_up Same) (b_at (start (config_of sci_b))) [] (are_new [] free_b Same) refl refl)
 
 agree_so_far : AgreeOnKeys (run_a Same) so_far
-agree_so_far =
-    of_last (λ x y. x.bytes ≡ y.bytes → AgreeOnKey x y) (run_a Same) so_far _
+agree_so_far = of_last (λ x y. x.bytes ≡ y.bytes → AgreeOnKey x y) (run_a Same) so_far _
     _ keys_of_a keys_so_far (λ same. record { suite = refl; salt = λ xpn. refl })
 
 peers_so_far : ArePeerRuns (with_none (run_a Same) ∷ []) (with_none so_far ∷ [])
@@ -424,8 +416,7 @@ fair_frame : IsFair (with_none (run_a Same) ∷ []) (with_none so_far ∷ []) (c
 fair_frame =
     let sends : sent_of_all (with_none (run_a Same) ∷ []) ++ sent_of_all (with_none so_far ∷ []) ≡ sent_1 Zeros ∷ [] =
     rw (a_does.sends, b_commands.sends) in
-    let there =
-    genuine [] free_b Same (use_of Zeros ∷ []) (0, omega arith, refl) in
+    let there = genuine [] free_b Same (use_of Zeros ∷ []) (0, omega arith, refl) in
     let own : IfSome (use_opened (ready Same) (f Same))
     (Contains (map seal_of (sent_of_all (with_none (run_a Same) ∷ []) ++ sent_of_all (with_none so_far ∷ [])))) =
     rw sends there in
@@ -440,22 +431,21 @@ fair_frame =
     }
 
 -- nothing is asked at an input of A, and at a command of B
-abbrev IsFairB : List Happening → Happening → Type 0
+abbrev IsFairB : Events → Happening → Type 0
 IsFairB = IsFairHere never B bytes sci_a 0
 
-fair_a : (inputs : List KeepingInput) (before more : List Happening) →
-    AtEach IsFairB (before ++ map (comes_in A) inputs) more →
+fair_a : (inputs : Inputs) (before more : Events) → AtEach IsFairB (before ++ map (comes_in A) inputs) more →
     AtEach IsFairB before (map (comes_in A) inputs ++ more)
-fair_a [] before more rest = rw (append-nil before) at rest
+fair_a [] before _ rest = rw (append-nil before) at rest
 fair_a (input ∷ inputs) before more rest = (
   (λ same. cc),
   fair_a inputs _ more (rw (append_assoc before (comes_in A input ∷ []) (map (comes_in A) inputs)) rest),
 )
 
-fair_b : (cs : List Command) (before more : List Happening) →
+fair_b : (cs : List Command) (before more : Events) →
     AtEach IsFairB (before ++ map (comes_in B) (map command cs)) more →
     AtEach IsFairB before (map (comes_in B) (map command cs) ++ more)
-fair_b [] before more rest = rw (append-nil before) at rest
+fair_b [] before _ rest = rw (append-nil before) at rest
 fair_b (c ∷ cs) before more rest = (
   (λ same. by_run (last_of (runs_at never B before))),
   fair_b cs (before ++ comes_in B (command c) ∷ []) more
@@ -468,7 +458,7 @@ fair_b (c ∷ cs) before more rest = (
     by_run None = tt
     by_run (Some r) = λ d there. absurd (no_command (closing_of r) c d there)
 
-abbrev b_begun : List Happening
+abbrev b_begun : Events
 b_begun = blocks ((A, run_a Same) ∷ []) ++ begins B (config_of sci_b) (journal false []) ∷ []
 
 abbrev forgets_its : List EndRun

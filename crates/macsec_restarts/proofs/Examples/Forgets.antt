@@ -1,14 +1,13 @@
 -- A run in which a key is installed and retired, with the option of reserving ahead: the endpoint that forgets keys is
 -- sound at each moment. In the end the key has its fingerprint instead of its octets.
-use Rattle.macsec_suite.specs.{KeyRows.IsKeyRow, Suites.key_length}
 use Rattle.macsec_restarts.proofs.{
-  Names.{◌<◌, ◌^◌, ◌≤◌, InstalledKey, [], ◌∷◌, ◌≡◌, AreKeyRows, arith, begins_sound, bytes, can_replace},
-  Names.{closing_forgetting, command, commands_sound, compress, digest_bytes, effect, false, fingerprint, first_words},
-  Names.{gcm_b, hash_after, IsSound, IsSoundForgetting, journal, Keeping, KeepingInput, kept, Key, key_row},
-  Names.{keys_replacing, length, List, max_frame_len, new_key, no_salt, ready_by_keys, refl, replacing, Retire, rounds},
-  Names.{Run, salt, schedule, sha256, start, State, suc, sym, true, zero, ℕ},
-  Examples.TwoRunsEach.reads,
+  Names.{[], ◌<◌, ◌^◌, ◌∷◌, ◌≡◌, ◌≤◌, AreKeyRows, arith, begins_sound, bytes, can_replace, closing_forgetting, command},
+  Names.{commands_sound, compress, digest_bytes, effect, false, fingerprint, first_words, gcm_b, hash_after, Inputs},
+  Names.{InstalledKey, IsSound, IsSoundForgetting, journal, Key, key_row, keys_replacing, length, List, max_frame_len},
+  Names.{new_key, no_salt, ready_by_keys, refl, replacing, Retire, rounds, Run, salt, schedule, sha256, start, State},
+  Names.{suc, sym, true, zero, ℕ},
 }
+use Rattle.macsec_suite.specs.{KeyRows.IsKeyRow, Suites.key_length}
 
 pub is_row : {row : InstalledKey} → row.number < 4096 → length row.bytes ≡ key_length row.suite →
     length row.salt ≡ 12 → row.ssci < 2 ^ 32 → 1 ≤ row.first_unused → row.first_unused ≤ 2 ^ 64 → IsKeyRow row
@@ -21,7 +20,7 @@ is_row number bytes salt ssci least most = record {
   first_unused = most;
 }
 
-abbrev inputs : List KeepingInput
+abbrev inputs : Inputs
 inputs = command (Key (new_key no_salt 2)) ∷ command (Retire 0) ∷ []
 
 abbrev run : Run
@@ -64,15 +63,11 @@ forgotten_is = (is_row (omega arith) long refl (omega arith) (omega arith) (omeg
 
 forgotten_sound : IsSound forgotten
 forgotten_sound =
-    let it =
-    ready_by_keys retired 0 octets (keys_replacing retired.keys 0 octets) true max_frame_len
+    let it = ready_by_keys retired 0 octets (keys_replacing retired.keys 0 octets) true max_frame_len
     (sym can) refl tt forgotten_is (record { sound = retired_sound; room = refl }) in
     it.sound
 
 -- ---- the run
-
-abbrev k_retired : Keeping
-k_retired = kept (salt false) (reads []) [] retired
 
 is_forgotten : (closing_forgetting true run).k.secy ≡ forgotten
 is_forgotten = rw can

@@ -2,37 +2,35 @@
 -- GCM-AES-XPN-128, at the two ends, or at B in two runs. Under GCM-AES-128 a frame is sent with packet number 1, by A
 -- or by B itself. B receives it under the other suite, with the salt under which the IV of packet number 2^32 + 1 is
 -- that of the frame. So B delivers it with a packet number that A never used.
-use Rattle.macsec_suite.specs.declared.suite.Suite.TheVariants.{Gcm128}
 use Rattle.macsec_counterexamples.proofs.Link.WorkedEnds.{xpn_b}
 use Rattle.macsec_restarts.proofs.{
+  Examples.{
+    Blocks.{after_own, AgreeAtBothBut, AgreeInRunsBut, AgreeOnKeyBut, AreOwn, AreSteps, blocks, commands_steps},
+    Blocks.{commands_told, first_link, gives_by, HasOneSuite, HasStrictOrderBut, heard_by, is_strict, KeepsSalt},
+    Blocks.{KeepsSuite, LawWithout, link_step_by, no_step, Premise, step_next, Told, told_end, told_next},
+    Histories.{nothing_saved, one_run_each, refuted, seals_are},
+    NotSent.{not_of_none, two_runs_of_b},
+    Tags.{octets_1, small_at, tag_is},
+    TwoRunsEach.{at_most, Facts, facts_a, is_durable, is_free, none_is, opens_1, reads, reserved_2, reserved_is, run_a},
+    TwoRunsEach.{t, use_1},
+  },
   Names.{[], ◌*◌, ◌++◌, ◌+◌, ◌<◌, ◌^◌, ◌∙◌, ◌∷◌, ◌≡◌, A, aad, aad_sent, add_round_key, added_word, aes},
   Names.{affine_transformation, after_commands, after_rounds, All-append, all_fit, ap, append-nil, are_small, AreNew},
   Names.{AreOctets, arith, at_row, B, begins_sound, byte_product, bytes, cipher_use, CipherUse, client, client_frame},
   Names.{closing, Command, command, commands_sound, Contains, delivered_in_all, Delivery, End, EndConfig},
-  Names.{endpoint_input, false, frame_fault, frame_step, frame_with, genuine_at, highest, IfSome, installed_key},
-  Names.{InstalledKey, inverse, is_new, is_within, is_xpn, IsSound, IsSubsequence, items, iv, iv_of, journal},
-  Names.{Judgement, judgement_of, Keeping, keeping_step, KeepingInput, KeepsDurable, kept, Key, key_expansion, key_row},
-  Names.{key_words, link_frame, List, map, may_go, may_send, mix_columns, name_of, new_key, newly_delivered},
+  Names.{endpoint_input, false, frame_fault, frame_step, frame_with, genuine_at, highest, IfSome, Inputs},
+  Names.{installed_key, InstalledKey, inverse, is_new, is_within, is_xpn, IsSound, IsSubsequence, items, iv, iv_of},
+  Names.{journal, Judgement, judgement_of, Keeping, keeping_step, KeepingInput, KeepsDurable, kept, Key, key_expansion},
+  Names.{key_row, key_words, link_frame, List, map, may_go, may_send, mix_columns, name_of, new_key, newly_delivered},
   Names.{newly_sent, no_salt, no_tx_counters, None, none_refused, only, open_of, opening, opens, parts_with, Passed},
   Names.{polynomial_product, pre_counter_block, raised_alone, refl, remainder, replicate, Reservation, rot_word},
   Names.{round_key, row_at, Run, rx_from, RxOn, RxSa, RxSc, s_box, salt, SameSalt, sci_a, sci_b, Sealed, sealed},
   Names.{sealed_in_all, sending_name, sent_in_all, sent_sound, SentIn, shift_rows, slice_get, small, Some, start},
   Names.{State, state_after_receiving, sub_bytes, sub_word, suc, sum_below, sum_of_words, sum_with_stream, sym},
   Names.{tables_fit, tag_of, tag_sent, take, true, tx_from, tx_options, TxOn, TxOptions, TxRow, TxSa, use_opened},
-  Names.{use_sent, with_tag, Xpn128, zero},
-  Names.ℕ,
-  Examples.{
-    Blocks.{AreOwn, AreSteps, Told, after_own, blocks, no_step, step_next, told_end, told_next, commands_steps},
-    Blocks.{commands_told, first_link, gives_by, is_strict, link_step_by, heard_by},
-    Histories.{nothing_saved, one_run_each, refuted, seals_are},
-    NotSent.{not_of_none, two_runs_of_b},
-    Premises.{AgreeAtBothBut, AgreeInRunsBut, AgreeOnKeyBut, HasOneSuite, HasStrictOrderBut, KeepsSalt, KeepsSuite},
-    Premises.{LawWithout, Premise},
-    Tags.{octets_1, small_at, tag_is},
-    TwoRunsEach.{Facts, at_most, facts_a, is_durable, is_free, none_is, opens_1, reads, reserved_2, reserved_is, run_a},
-    TwoRunsEach.{t, use_1},
-  },
+  Names.{use_sent, Uses, with_tag, Xpn128, zero, ℕ},
 }
+use Rattle.macsec_suite.specs.declared.suite.Suite.TheVariants.{Gcm128}
 use Rattle.macsec_commands.specs.declared.form.TagForm.TheVariants as form
 use Rattle.macsec_restarts.proofs.Examples.Extended as extended
 use Rattle.macsec_restarts.proofs.Examples.Receivers as receiver
@@ -80,8 +78,7 @@ abbrev own_front : List ℕ
 own_front = take 22 (own_frame [])
 
 own_octets : AreOctets (own_frame own_icv)
-own_octets =
-    All-append (λ x. x < 256) own_front (items 16 own_icv) (small own_front refl)
+own_octets = All-append (λ x. x < 256) own_front (items 16 own_icv) (small own_front refl)
     (rw (sealed bytes own_iv own_aad) at (tag_is bytes own_iv own_aad (small_at _ own_block)))
 
 -- ---- the run of B that sends it
@@ -89,7 +86,7 @@ own_octets =
 abbrev own_set_up : List Command
 own_set_up = Key (new_key no_salt 2) ∷ TxSa 0 0 1 false ∷ TxOn 0 ∷ []
 
-abbrev own_sends : List KeepingInput
+abbrev own_sends : Inputs
 own_sends = map command own_set_up ++ extended.report_in ∷ extended.frame_in ∷ []
 
 abbrev first_run : Run
@@ -138,8 +135,7 @@ own_lists = rw (own_goes, own_seals)
 told_own : Told (opening first_run) own_sends (sent_own ∷ []) [] own_last
 told_own =
     commands_told own_set_up (refl, (is_new (reads []) extended.tx_name 1 extended.name_free, (refl, tt))) refl refl
-    own_start_sound
-    (told_next own_on_sound refl refl own_reserves
+    own_start_sound (told_next own_on_sound refl refl own_reserves
     (told_next own_on_sound own_lists refl (frame_step own_reserved (client 1) own_goes)
     (told_end own_last (sent_sound (client 1) refl refl own_on_sound))))
 
@@ -200,7 +196,7 @@ set_up e = Key (new_key (key_salt e) 2) ∷ RxSc sci_a ∷ RxSa sci_a 0 0 1 lowe
 abbrev ready : End → State
 ready e = after_commands (start xpn_b) (set_up e)
 
-abbrev commands : End → List KeepingInput
+abbrev commands : End → Inputs
 commands e = map command (set_up e)
 
 abbrev link : End → KeepingInput
@@ -254,8 +250,7 @@ free : (e : End) → highest (reads (before e)) (name_of (salt false)) < 2 ^ 32
 free A = let least : highest (reads []) (name_of (salt false)) < 1 =
     is_free [] _ 1 none_is (omega arith) in omega (arith, least)
 free B =
-    let least =
-    is_free (reserved_2 ∷ []) (name_of (salt false)) 3 reserved_is
+    let least = is_free (reserved_2 ∷ []) (name_of (salt false)) 3 reserved_is
     (at_most (sending_name (salt false) bytes) (name_of (salt false)) 2 3 (omega arith)) in
     omega (arith, least)
 
@@ -270,8 +265,7 @@ gives A = gives_by (at A (ready A)) (f A) _ refl (judged A)
 gives B = gives_by (at B (ready B)) (f B) _ refl (judged B)
 
 told_link_of : (e : End) → Told (at e (start xpn_b)) (commands e ++ link e ∷ []) [] (delivery ∷ []) (at e (heard e))
-told_link_of e =
-    commands_told (set_up e) (are_new e) (works e).none (works e).fit start_sound
+told_link_of e = commands_told (set_up e) (are_new e) (works e).none (works e).fit start_sound
     (told_next (ready_sound e) refl (gives e) (hears e) (told_end _ (heard_is_sound e)))
 
 abbrev run_b : End → Run
@@ -283,16 +277,12 @@ told_b B = told_link_of B
 
 -- it meets the premises
 
-genuine : (e : End) (uses : List CipherUse) → Contains uses (sent_use e) →
-    IfSome (use_opened (ready e) (f e)) (Contains uses)
-genuine A uses there = genuine_at (ready A) (f A) accepts uses (judged A)
-    (rw (iv_is A) there)
-genuine B uses there = genuine_at (ready B) (f B) accepts uses (judged B)
-    (rw (iv_is B) there)
+genuine : (e : End) (uses : Uses) → Contains uses (sent_use e) → IfSome (use_opened (ready e) (f e)) (Contains uses)
+genuine A uses there = genuine_at (ready A) (f A) accepts uses (judged A) (rw (iv_is A) there)
+genuine B uses there = genuine_at (ready B) (f B) accepts uses (judged B) (rw (iv_is B) there)
 
-steps_b : (left_out : Premise) (e : End) → opening (run_b e) ≡ at e (start xpn_b) → (uses : List CipherUse) →
-    Contains uses (sent_use e) →
-    AreSteps left_out bytes sci_a 0 (opening (run_b e)) [] uses (commands e ++ link e ∷ [])
+steps_b : (left_out : Premise) (e : End) → opening (run_b e) ≡ at e (start xpn_b) → (uses : Uses) →
+    Contains uses (sent_use e) → AreSteps left_out bytes sci_a 0 (opening (run_b e)) [] uses (commands e ++ link e ∷ [])
 steps_b left_out e opened uses there =
     rw opened (commands_steps left_out bytes sci_a 0 (set_up e) (are_new e) (works e).none
     (step_next (first_link (λ d. genuine e uses there) (octets e) (works e).strict) (hears e) (gives e) no_step))
@@ -305,9 +295,9 @@ not_of_two : (m n k : ℕ) (x y z : List ℕ) → (m ≡ n → ⊥) → (m ≡ k
 not_of_two m n k x y z first second it = by_places it.0 it.2
   where
     by_places : (places : List ℕ) → map (slice_get ((n ∷ y) ∷ (k ∷ z) ∷ [])) places ≡ Some (m ∷ x) ∷ [] → ⊥
-    by_places (zero ∷ ps) same = let one : n ≡ m = cc in first (sym one)
-    by_places (suc zero ∷ ps) same = let one : k ≡ m = cc in second (sym one)
-    by_places places same = cc
+    by_places (zero ∷ _) same = let one : n ≡ m = cc in first (sym one)
+    by_places (suc zero ∷ _) same = let one : k ≡ m = cc in second (sym one)
+    by_places _ same = cc
 
 module _ (a b : Run) (sends : Facts 1 sci_a a (sender.sent false) []) (last : Keeping)
     (told : Told (opening b) b.inputs [] (delivery ∷ []) last) (keys : last.secy.keys ≡ key_b A ∷ []) where
@@ -326,14 +316,12 @@ module _ (a b : Run) (sends : Facts 1 sci_a a (sender.sent false) []) (last : Ke
   sealed_a : Contains (sealed_in_all (a ∷ []) ++ []) use_1
   sealed_a = rw (seals_are _ _ sent_is) (0, omega arith, refl)
 
-  widened : AreOwn a.inputs → ((uses : List CipherUse) → Contains uses use_1 →
+  widened : AreOwn a.inputs → ((uses : Uses) → Contains uses use_1 →
       AreSteps HasOneSuite bytes sci_a 0 (opening b) [] uses b.inputs) →
       LawWithout HasOneSuite (blocks ((A, a) ∷ (B, b) ∷ [])) → ⊥
-  widened own steps =
-      refuted HasOneSuite ((A, a) ∷ (B, b) ∷ []) (sender.sent false) (delivery ∷ [])
+  widened own steps = refuted HasOneSuite ((A, a) ∷ (B, b) ∷ []) (sender.sent false) (delivery ∷ [])
       (own, (((λ d. nothing_saved b.journal), steps (sealed_in_all (a ∷ []) ++ []) sealed_a), tt))
-      (one_run_each HasOneSuite a b (λ d. sends.of.sound) (λ d. told.sound) agree_at_both)
-      sent_is (rw told.delivers)
+      (one_run_each HasOneSuite a b (λ d. sends.of.sound) (λ d. told.sound) agree_at_both) sent_is (rw told.delivers)
       (not_of_two (2 ^ 32 + 1) 1 2 (client 1) (client 1) (client 1) (λ same. omega (arith, same))
       (λ same. omega (arith, same)))
 
@@ -356,8 +344,7 @@ module _ (s r : Run) (first last : Keeping) (sends : Told (opening s) s.inputs (
   agree_in_runs : AgreeInRunsBut KeepsSuite s r
   agree_in_runs =
       extended.of_last (λ x y. x.bytes ≡ y.bytes → AgreeOnKeyBut KeepsSuite KeepsSalt KeepsSuite x y) s r (key_row 2 2)
-      (key_b B) keys_s keys_r
-      (λ same. record { suite = λ d. absurd (d refl); salt = λ d xpn. cc })
+      (key_b B) keys_s keys_r (λ same. record { suite = λ d. absurd (d refl); salt = λ d xpn. cc })
 
   sealed_s : Contains (sealed_in_all [] ++ sealed_in_all (s ∷ [])) own_use
   sealed_s = rw (seals_are (s ∷ []) (sent_own ∷ []) (rw sends.sends)) (0, omega arith, refl)
@@ -366,34 +353,27 @@ module _ (s r : Run) (first last : Keeping) (sends : Told (opening s) s.inputs (
   none_yet = rw sends.delivers
 
   reflected : AreOwn s.inputs → s.config.sci ≡ r.config.sci → SameSalt s r → KeepsDurable s r →
-      ((uses : List CipherUse) → Contains uses own_use →
-      AreSteps KeepsSuite bytes sci_a 0 (opening r) [] uses r.inputs) →
+      ((uses : Uses) → Contains uses own_use → AreSteps KeepsSuite bytes sci_a 0 (opening r) [] uses r.inputs) →
       LawWithout KeepsSuite (blocks ((B, s) ∷ (B, r) ∷ [])) → ⊥
-  reflected own one_sci salts durable steps =
-      refuted KeepsSuite ((B, s) ∷ (B, r) ∷ []) [] (delivery ∷ []) (
-        (
-          (λ d. nothing_saved s.journal),
-          rw (append-nil s.inputs) at (after_own KeepsSuite bytes sci_a 0 s.inputs [] (opening s)
-              (sealed_in_all [] ++ sealed_in_all []) own no_step),
-        ),
-        (
-          (
-            (λ d. rw none_yet (nothing_saved r.journal)),
-            steps (sealed_in_all [] ++ sealed_in_all (s ∷ [])) sealed_s,
-          ),
-          tt,
-        ),
-      )
-      (two_runs_of_b KeepsSuite s r sends.sound receives.sound agree_in_runs salts durable (record {
-        sci = λ d. one_sci;
-        ssci = λ d. extended.of_last (λ x y. x.bytes ≡ y.bytes → is_xpn x.suite ≡ true → x.ssci ≡ y.ssci) s r
-            (key_row 2 2) (key_b B) keys_s keys_r (λ same xpn. refl);
-      }))
-      refl
-      (rw (sends.delivers, receives.delivers))
-      (not_of_none (number ∷ client 1))
+  reflected own one_sci salts durable steps = refuted KeepsSuite ((B, s) ∷ (B, r) ∷ []) [] (delivery ∷ []) (
+    (
+      (λ d. nothing_saved s.journal),
+      rw (append-nil s.inputs) at (after_own KeepsSuite bytes sci_a 0 s.inputs [] (opening s)
+          (sealed_in_all [] ++ sealed_in_all []) own no_step),
+    ),
+    (
+      (
+        (λ d. rw none_yet (nothing_saved r.journal)),
+        steps (sealed_in_all [] ++ sealed_in_all (s ∷ [])) sealed_s,
+      ),
+      tt,
+    ),
+  ) (two_runs_of_b KeepsSuite s r sends.sound receives.sound agree_in_runs salts durable (record {
+    sci = λ d. one_sci;
+    ssci = λ d. extended.of_last (λ x y. x.bytes ≡ y.bytes → is_xpn x.suite ≡ true → x.ssci ≡ y.ssci) s r
+        (key_row 2 2) (key_b B) keys_s keys_r (λ same xpn. refl);
+  })) refl (rw (sends.delivers, receives.delivers)) (not_of_none (number ∷ client 1))
 
 pub kept_suite_needed : LawWithout KeepsSuite (blocks ((B, first_run) ∷ (B, run_b B) ∷ [])) → ⊥
-kept_suite_needed =
-    reflected _ _ own_last (at B (heard B)) told_own (told_b B) refl refl
+kept_suite_needed = reflected _ _ own_last (at B (heard B)) told_own (told_b B) refl refl
     (tt, (tt, (tt, (tt, (tt, tt))))) refl refl (is_durable _ reserved_is) (steps_b _ B refl)

@@ -2,12 +2,12 @@
 -- that is known of a frame's ICV is that it is valid.
 use Rattle.macsec_counterexamples.proofs.Link.Exchange.{link_frame_of}
 use Rattle.macsec_restarts.proofs.{
-  Names.{[], ◌++◌, ◌<◌, ◌∷◌, ◌≡◌, after_commands, all_fit, AreNew, at_row, begins_sound, Bool, bytes, CipherUse},
-  Names.{client, Command, command, commands_sound, delivered_by, Delivery, endpoint_input, false, gcm_b, highest},
-  Names.{is_new, IsSound, Judgement, judgement_of, Keeping, KeepingInput, kept, Key, Late, link_frame, List, map},
-  Names.{name_of, new_key, newly_delivered, no_salt, None, none_refused, Opens, Passed, refl, Reservation, rx_from},
-  Names.{RxOn, RxSa, RxSc, sci_a, Some, start, State, state_after_receiving, true, ℕ},
-  Examples.{Blocks.{AreSteps, Told, commands_steps, commands_told, heard_by}, Premises.Premise},
+  Examples.Blocks.{AreSteps, commands_steps, commands_told, heard_by, Premise, Told},
+  Names.{[], ◌++◌, ◌<◌, ◌∷◌, ◌≡◌, after_commands, all_fit, AreNew, at_row, begins_sound, Bool, bytes, client, Command},
+  Names.{command, commands_sound, delivered_by, Delivery, endpoint_input, false, gcm_b, highest, Inputs, is_new},
+  Names.{IsSound, Judgement, judgement_of, Keeping, KeepingInput, kept, Key, Late, link_frame, List, map, name_of},
+  Names.{new_key, newly_delivered, no_salt, None, none_refused, Opens, Passed, refl, Reservation, rx_from, RxOn, RxSa},
+  Names.{RxSc, sci_a, Some, start, State, state_after_receiving, true, Uses, ℕ},
 }
 
 -- the frame that the other end sealed with this packet number, with this tag
@@ -29,7 +29,7 @@ lowest_of true = 2
 abbrev pub set_up : Bool → List Command
 set_up again = Key (new_key no_salt 2) ∷ RxSc sci_a ∷ RxSa sci_a 0 0 1 (lowest_of again) ∷ RxOn sci_a 0 ∷ []
 
-abbrev pub commands : Bool → List KeepingInput
+abbrev pub commands : Bool → Inputs
 commands again = map command (set_up again)
 
 -- ---- its states
@@ -106,7 +106,7 @@ heard_3_sound t u is = heard_by (frame 3 u) refl (judged_3 t u is) refl (dropped
 
 pub delivers : (k : Keeping) (number : ℕ) (t : List ℕ) (j : Judgement) → judgement_of k.secy (frame number t) ≡ j →
     newly_delivered k (link number t) ≡ delivered_by k.secy j None j.row j.delivered
-delivers k number t j is = rw is
+delivers k _ t j is = rw is
 
 -- ---- its steps, with any journal that has not saved the packet numbers
 
@@ -119,14 +119,14 @@ module _ (salt : List ℕ) (before : List Reservation) where
   are_new again free = (refl, (refl, (is_new before (name_of salt) (lowest_of again) free, (refl, tt))))
 
   -- the commands, and what follows them
-  pub told : (again : Bool) {inputs : List KeepingInput} {ds : List Delivery} {last : Keeping} →
+  pub told : (again : Bool) {inputs : Inputs} {ds : List Delivery} {last : Keeping} →
       highest before (name_of salt) < lowest_of again → Told (at (ready again)) inputs [] ds last →
       Told (at (start gcm_b)) (commands again ++ inputs) [] ds last
   told again free rest =
       commands_told (set_up again) (are_new again free) (none_is_refused again) (all_are_fit again) start_sound rest
 
   -- and the premises at what follows them
-  pub steps : (left_out : Premise) (again : Bool) {uses : List CipherUse} {more : List KeepingInput} →
+  pub steps : (left_out : Premise) (again : Bool) {uses : Uses} {more : Inputs} →
       highest before (name_of salt) < lowest_of again →
       AreSteps left_out bytes sci_a 0 (at (ready again)) [] uses more →
       AreSteps left_out bytes sci_a 0 (at (start gcm_b)) [] uses (commands again ++ more)

@@ -2,22 +2,23 @@
 -- has not saved the packet number; the SA is created again at it; the replay window is 1; late frames are not dropped.
 use Rattle.macsec_reserve.specs.Keeping.{begins_at}
 use Rattle.macsec_restarts.proofs.{
-  Names.{[], ◌++◌, ◌<◌, ◌∙◌, ◌∷◌, ◌≡◌, A, after_commands, All-cons, All-nil, all_fit, ap, AreNew, arith, at_row, B},
-  Names.{begins_sound, bytes, carried_step, CipherUse, client, Command, command, commands_sound, Contains, Delayed},
-  Names.{delivered_in_all, Delivery, effect, false, gcm_b, genuine_at, highest, IfSome, is_new, IsStrictlyIncreasing},
-  Names.{IsSubsequence, IsUnder, journal, Judgement, judgement_of, Keeping, keeping_step, KeepingInput, KeepsDurable},
-  Names.{key_row, List, map, member, name_of, newly_delivered, None, none_refused, one_alone, opening, Passed, refl},
-  Names.{Replay, Run, rx_from, rx_row, RxDel, RxOn, RxRow, RxSa, salt, SameSalt, sci_a, sci_b, sealed_in_all},
-  Names.{sent_in_all, slice_get, Some, start, State, state_after_receiving, suc, tables_fit, true, use_opened, zero, ℕ},
   Examples.{
-    Blocks.{AreOwn, AreSteps, IsStep, Told, blocks, commands_steps, commands_told, first_link, gives_by, is_strict},
-    Blocks.{link_step_by, no_step, heard_by, step_link, step_next, told_end, told_link, told_next},
+    Blocks.{AreOwn, AreSteps, blocks, commands_steps, commands_told, DropsLate, first_link, gives_by},
+    Blocks.{HasStrictOrderBut, HasWindowOf0, heard_by, is_strict, IsCreatedAbove, IsSaved, IsStep, LawWithout},
+    Blocks.{link_step_by, no_step, Premise, step_link, step_next, Told, told_end, told_link, told_next},
     Histories.{IsRunOf, nothing_saved, peers, refuted, seals_are},
     NotSent.{accepts_now, plain, plain_told},
-    Premises.{DropsLate, HasStrictOrderBut, HasWindowOf0, IsCreatedAbove, IsSaved, LawWithout, Premise},
     Tags.octets_1,
-    TwoRunsEach.{Facts, both, facts_a, facts_of, is_free, none_is, opens_1, pair, reads, run_a, t, use_1},
+    TwoRunsEach.{both, Facts, facts_a, facts_of, is_free, none_is, opens_1, pair, reads, run_a, t, use_1},
   },
+  Names.{[], ◌++◌, ◌<◌, ◌∙◌, ◌∷◌, ◌≡◌, A, after_commands, All-cons, All-nil, all_fit, ap, AreNew, arith, at_row, B},
+  Names.{begins_sound, bytes, carried_step, client, Command, command, commands_sound, Contains, Delayed},
+  Names.{delivered_in_all, Delivery, effect, false, gcm_b, genuine_at, highest, IfSome, Inputs, is_new},
+  Names.{IsStrictlyIncreasing, IsSubsequence, IsUnder, journal, Judgement, judgement_of, Keeping, keeping_step},
+  Names.{KeepingInput, KeepsDurable, key_row, List, map, member, name_of, newly_delivered, None, none_refused},
+  Names.{one_alone, opening, Passed, refl, Replay, Run, rx_from, rx_row, RxDel, RxOn, RxRow, RxSa, salt, SameSalt},
+  Names.{sci_a, sci_b, sealed_in_all, sent_in_all, slice_get, Some, start, State, state_after_receiving, suc},
+  Names.{tables_fit, true, use_opened, Uses, zero, ℕ},
 }
 use Rattle.macsec_restarts.proofs.Examples.Receivers as receiver
 use Rattle.macsec_restarts.proofs.Examples.Senders as sender
@@ -31,7 +32,7 @@ abbrev sent : List (List ℕ)
 sent = (1 ∷ client 1) ∷ (2 ∷ client 1) ∷ []
 
 only_first : (p : ℕ) → slice_get sent p ≡ Some (1 ∷ client 1) → p ≡ 0
-only_first zero is = refl
+only_first zero _ = refl
 only_first (suc zero) is = let no : ◌≡◌ {A = ℕ} 2 1 = cc in absurd (omega (arith, no))
 only_first (suc (suc p)) is = cc
 
@@ -40,11 +41,11 @@ not_twice it = by_places it.0 it.1 it.2
   where
     by_places : (places : List ℕ) → IsStrictlyIncreasing places →
         map (slice_get sent) places ≡ Some (1 ∷ client 1) ∷ Some (1 ∷ client 1) ∷ [] → ⊥
-    by_places (p ∷ q ∷ more) rise same =
+    by_places (p ∷ q ∷ _) rise same =
         let second : slice_get sent q ≡ Some (1 ∷ client 1) = cc in
         let less = rise 0 (omega arith) in
         omega (arith, less, only_first q second)
-    by_places places rise same = cc
+    by_places _ rise same = cc
 
 -- ---- one run of each end
 
@@ -59,17 +60,15 @@ module _ (left_out : Premise) (a b : Run) (sends : Facts 1 sci_a a (sender.sent 
   sealed : Contains (sealed_in_all (a ∷ []) ++ sealed_in_all []) use_1
   sealed = rw (seals_are _ _ sent_is) (0, omega arith, refl)
 
-  twice : AreOwn a.inputs → ((uses : List CipherUse) → Contains uses use_1 →
+  twice : AreOwn a.inputs → ((uses : Uses) → Contains uses use_1 →
       AreSteps left_out bytes sci_a 0 (opening b) [] uses b.inputs) →
       LawWithout left_out (blocks ((A, a) ∷ (B, b) ∷ [])) → ⊥
-  twice own steps =
-      refuted left_out ((A, a) ∷ (B, b) ∷ []) (sender.sent false) (twice_1)
+  twice own steps = refuted left_out ((A, a) ∷ (B, b) ∷ []) (sender.sent false) (twice_1)
       (own, (((λ d. nothing_saved b.journal), steps (sealed_in_all (a ∷ []) ++ sealed_in_all []) sealed), tt))
       (peers left_out ((A, a) ∷ (B, b) ∷ []) (All-cons (IsRunOf 1 sci_a) a [] sends.of (All-nil (IsRunOf 1 sci_a)))
       (one_alone SameSalt a) (one_alone KeepsDurable a)
       (All-cons (IsRunOf 2 sci_b) b [] receives.of (All-nil (IsRunOf 2 sci_b))) (one_alone SameSalt b)
-      (one_alone KeepsDurable b))
-      sent_is (rw receives.told.delivers) not_twice
+      (one_alone KeepsDurable b)) sent_is (rw receives.told.delivers) not_twice
 
 abbrev own_a : AreOwn (run_a false).inputs
 own_a = (tt, (tt, (tt, (tt, (tt, (tt, tt))))))
@@ -80,7 +79,7 @@ at_b s = receiver.at (salt false) (reads []) s
 free_b : highest (reads []) (name_of (salt false)) < 1
 free_b = is_free [] _ 1 none_is (omega arith)
 
-abbrev run_with : List KeepingInput → Run
+abbrev run_with : Inputs → Run
 run_with inputs = record { journal = journal false []; config = gcm_b; inputs = receiver.commands false ++ inputs }
 
 abbrev f : List ℕ
@@ -140,8 +139,8 @@ record Works (k : Kind) : Type 0 where
   gives : newly_delivered (at_b (set k)) link ≡ receiver.delivery 1 ∷ []
   gives_again : newly_delivered (at_b (once k)) link ≡ receiver.delivery 1 ∷ []
   order : HasStrictOrderBut (premise_of k) (set k)
-  genuine : (uses : List CipherUse) → Contains uses use_1 → IfSome (use_opened (set k) f) (Contains uses)
-  genuine_again : (uses : List CipherUse) → Contains uses use_1 → IfSome (use_opened (once k) f) (Contains uses)
+  genuine : (uses : Uses) → Contains uses use_1 → IfSome (use_opened (set k) f) (Contains uses)
+  genuine_again : (uses : Uses) → Contains uses use_1 → IfSome (use_opened (once k) f) (Contains uses)
   -- the SA is there
   still : ((earlier : RxRow) → rx_row (once k).rx.rows sci_a 0 ≡ Some earlier → IsUnder (once k) bytes earlier → ⊥) → ⊥
   keys : (again k).keys ≡ key_row 2 1 ∷ []
@@ -203,21 +202,19 @@ kind_told k =
     let w = works k in
     let first = commands_sound (set_up k) w.none w.fit (begins_sound gcm_b refl) in
     let second = heard_by f refl (first_judged k) w.once_fit first in
-    commands_told (set_up k) w.new w.none w.fit (begins_sound gcm_b refl)
-    (told_next first refl w.gives (first_step k)
+    commands_told (set_up k) w.new w.none w.fit (begins_sound gcm_b refl) (told_next first refl w.gives (first_step k)
     (told_next second refl w.gives_again (second_step k)
     (told_end _ (heard_by f refl (second_judged k) w.again_fit second))))
 
 kind_facts : (k : Kind) → Facts 2 sci_b (run_of k) [] twice_1
 kind_facts k = facts_of 1 refl (works k).keys (kind_told k)
 
-kind_steps : (k : Kind) (uses : List CipherUse) → Contains uses use_1 →
+kind_steps : (k : Kind) (uses : Uses) → Contains uses use_1 →
     AreSteps (premise_of k) bytes sci_a 0 (opening (run_of k)) [] uses (run_of k).inputs
 kind_steps k uses there =
     let w = works k in
     commands_steps _ bytes sci_a 0 (set_up k) w.new w.none
-    (step_next (first_link (λ d. w.genuine uses there) octets_1 w.order) (first_step k) w.gives
-    (step_next (record {
+    (step_next (first_link (λ d. w.genuine uses there) octets_1 w.order) (first_step k) w.gives (step_next (record {
       genuine = λ d. w.genuine_again uses there;
       octets = octets_1;
       order = λ d among. record { mode = w.order.mode; replay = w.order.replay; window = w.order.window };
@@ -247,7 +244,7 @@ enabled = after_commands (receiver.heard_1 t) cs
 enabled_judged : judgement_of enabled f ≡ receiver.accepts_1
 enabled_judged = rw opens_1
 
-abbrev creates_again : List KeepingInput
+abbrev creates_again : Inputs
 creates_again = map command cs
 
 abbrev begun : Run
@@ -269,8 +266,7 @@ begun_told =
     (told_link _ refl enabled_judged last (told_end _ (heard_by f refl enabled_judged refl last)))))
 
 -- a command after the delivery, where the premise on creation is left out
-command_now : {uses : List CipherUse} {s : State} {c : Command} →
-    IsStep IsCreatedAbove bytes sci_a 0 (at_b s) d1 uses (command c)
+command_now : {uses : Uses} {s : State} {c : Command} → IsStep IsCreatedAbove bytes sci_a 0 (at_b s) d1 uses (command c)
 command_now =
     record {
       genuine = λ d. tt;
@@ -279,10 +275,9 @@ command_now =
       creates = λ d. absurd (d refl);
     }
 
-begun_steps : (uses : List CipherUse) → Contains uses use_1 →
+begun_steps : (uses : Uses) → Contains uses use_1 →
     AreSteps IsCreatedAbove bytes sci_a 0 (opening begun) [] uses begun.inputs
-begun_steps uses there =
-    receiver.steps (salt false) (reads []) IsCreatedAbove false free_b
+begun_steps uses there = receiver.steps (salt false) (reads []) IsCreatedAbove false free_b
     (step_link _ refl (receiver.judged_1 t opens_1) (accepts_now _ _ uses there)
     (step_next command_now (carried_step (at_b (receiver.heard_1 t)) (RxDel sci_a 0) refl refl) refl
     (step_next command_now (carried_step (at_b deleted) (RxSa sci_a 0 0 1 1)
@@ -304,21 +299,25 @@ module _ (a b : Run) (sends : Facts 1 sci_a a (sender.sent false) []) (receives 
   sent_so : sent_in_all (a ∷ []) ≡ sender.sent false
   sent_so = rw sends.told.sends
 
-  among : (us : List CipherUse) → Contains (sealed_in_all (a ∷ []) ++ us) use_1
-  among us = rw (seals_are _ _ sent_so) (0, omega arith, refl)
+  among : (us : Uses) → Contains (sealed_in_all (a ∷ []) ++ us) use_1
+  among _ = rw (seals_are _ _ sent_so) (0, omega arith, refl)
 
   crashed : AreOwn a.inputs → KeepsDurable b b →
-      ((uses : List CipherUse) → Contains uses use_1 → AreSteps IsSaved bytes sci_a 0 (opening b) [] uses b.inputs) →
+      ((uses : Uses) → Contains uses use_1 → AreSteps IsSaved bytes sci_a 0 (opening b) [] uses b.inputs) →
       LawWithout IsSaved (blocks ((A, a) ∷ (B, b) ∷ (B, b) ∷ [])) → ⊥
-  crashed own durable steps =
-      refuted IsSaved ((A, a) ∷ (B, b) ∷ (B, b) ∷ []) (sender.sent false) (twice_1) (
-        own,
+  crashed own durable steps = refuted IsSaved ((A, a) ∷ (B, b) ∷ (B, b) ∷ []) (sender.sent false) (twice_1) (
+    own,
+    (
+      ((λ d. absurd (d refl)), steps (sealed_in_all (a ∷ []) ++ sealed_in_all []) (among (sealed_in_all []))),
+      (
         (
-          ((λ d. absurd (d refl)), steps (sealed_in_all (a ∷ []) ++ sealed_in_all []) (among (sealed_in_all []))),
-          (((λ d. absurd (d refl)), steps (sealed_in_all (a ∷ []) ++ sealed_in_all (b ∷ [])) (among (sealed_in_all (b ∷ [])))), tt),
+          (λ d. absurd (d refl)),
+          steps (sealed_in_all (a ∷ []) ++ sealed_in_all (b ∷ [])) (among (sealed_in_all (b ∷ []))),
         ),
-      )
-      (peers IsSaved ((A, a) ∷ (B, b) ∷ (B, b) ∷ [])
+        tt,
+      ),
+    ),
+  ) (peers IsSaved ((A, a) ∷ (B, b) ∷ (B, b) ∷ [])
       (All-cons (IsRunOf 1 sci_a) a [] sends.of (All-nil (IsRunOf 1 sci_a))) (one_alone SameSalt a)
       (one_alone KeepsDurable a)
       (both (IsRunOf 2 sci_b) b b receives.of receives.of) (pair SameSalt b b refl) (pair KeepsDurable b b durable))

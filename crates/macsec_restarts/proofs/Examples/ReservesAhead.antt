@@ -2,34 +2,32 @@
 -- number (PN) is not reserved; once a record is durable it delivers it, and drops its replay as late. Then it deletes
 -- the SA, and refuses to create it again at the same PN. Then both restart. B drops the first frame again, and delivers
 -- one with PN 3.
-use Rattle.macsec_suite.specs.declared.refusal.Refusal.TheVariants.{PnFloor}
-use Rattle.macsec_reserve.specs.Keeping.{for_each_key}
 use Rattle.macsec_ahead.specs.Ahead.{kept as an_output, wanted_to_accept}
+use Rattle.macsec_reserve.specs.Keeping.{for_each_key}
 use Rattle.macsec_restarts.proofs.{
+  AheadInside.{accepts_above_in_all, delivered_in_all_inside, sent_in_all_inside},
+  AheadOrder.runs_inside,
+  Examples.{
+    Blocks.{AreSteps, blocks, commands_pass, drops_next, EndRun, first_link, gives_by, goes_on, inside_blocks},
+    Blocks.{is_strict, link_step_by, no_step, NoPremise, own_step, passes_next, step_link, step_next, Through},
+    Blocks.{through_end, Told, told_end, told_link, told_next},
+    Histories.MeetsAll,
+    Tags.{octets_1, octets_3},
+    TwoRunsEach.{at_most, Facts, facts_a, facts_of, is_durable, is_free, is_saved, meets, none_is, opens_1, opens_3},
+    TwoRunsEach.{pair, reads, reserved_is, run_a, saved_1, saved_is, t, u, use_1, use_3},
+  },
   Names.{[], ◌++◌, ◌<◌, ◌==◌, ◌∙◌, ◌∷◌, ◌≡◌, ◌≢◌, ◌≤◌, A, accepted_in, Ahead, ahead_step, ap, AreOfOneSa, ArePeers},
-  Names.{arith, AtEach, B, begins, Bool, bytes, carried_step, CipherUse, client, closing, comes_in, command},
-  Names.{commands_sound, Contains, delivered_in_all, delivered_so_far_with, Delivery, dropped_not_reserved, effect},
-  Names.{End, EndedSa, endpoint_output, false, gcm_b, genuine_at, get_or, Happening, highest, IfSome, inside, is_valid},
+  Names.{arith, AtEach, B, begins, Bool, bytes, carried_step, client, closing, comes_in, command, commands_sound},
+  Names.{Contains, delivered_in_all, delivered_so_far_with, Delivery, dropped_not_reserved, effect, End, EndedSa},
+  Names.{endpoint_output, false, gcm_b, genuine_at, get_or, Happening, highest, IfSome, Inputs, inside, is_valid},
   Names.{IsOrderedInput, IsOrderly, IsOrderlyInside, IsSound, IsStrictInput, journal, Judgement, Keeping, keeping_step},
   Names.{KeepingInput, KeepsDurable, kept, key_row, last_run, lets_through, link_frame, List, lt-leb, map, max},
   Names.{name_of, nat_le, newly_accepted, newly_delivered, no_ends, None, not_yet, now_durable, numbered_delivery},
   Names.{numbered_sent, opening, operator_command, Option, passes, raised_alone, raised_by, refl, refused, Reservation},
   Names.{Run, run_inside, runs_of, rx_from, RxDel, RxPn, RxSa, salt, same_octets-refl, SameSalt, sci_a, sci_b},
-  Names.{sent_in_all, sent_in_all_with, sent_under, Some, standing_by, start, State, step, subst, sym, true, ℕ},
-  AheadAccepts.accepts_above_in_all,
-  AheadInside.{delivered_in_all_inside, sent_in_all_inside},
-  AheadOrder.runs_inside,
-  Examples.{
-    Blocks.{AreSteps, EndRun, Told, blocks, first_link, gives_by, is_strict, link_step_by, no_step, own_step},
-    Blocks.{step_link, step_next, told_end, told_link, told_next},
-    Histories.MeetsAll,
-    InsideBlocks.{Through, commands_pass, drops_next, goes_on, inside_blocks, passes_next, through_end},
-    Premises.NoPremise,
-    Tags.{octets_1, octets_3},
-    TwoRunsEach.{Facts, facts_of, at_most, facts_a, is_durable, is_free, is_saved, meets, none_is, opens_1, opens_3},
-    TwoRunsEach.{pair, reads, reserved_is, run_a, saved_1, saved_is, t, u, use_1, use_3},
-  },
+  Names.{sent_in_all, sent_in_all_with, sent_under, Some, standing_by, start, State, step, subst, sym, true, Uses, ℕ},
 }
+use Rattle.macsec_suite.specs.declared.refusal.Refusal.TheVariants.{PnFloor}
 use Rattle.macsec_restarts.proofs.Examples.Receivers as receiver
 
 -- ---- the receiver's states
@@ -79,15 +77,15 @@ link_3 = receiver.link 3 u
 
 -- ---- its runs, and the runs of the keeping endpoint inside
 
-abbrev run_of : Bool → List KeepingInput → Run
+abbrev run_of : Bool → Inputs → Run
 run_of again inputs =
     record { journal = journal false (before_b again); config = gcm_b; inputs = receiver.commands again ++ inputs }
 
-abbrev comes : Bool → List KeepingInput
+abbrev comes : Bool → Inputs
 comes false = link_1 ∷ now_durable saved_1 ∷ link_1 ∷ link_1 ∷ deletes ∷ creates ∷ []
 comes true = link_1 ∷ now_durable saved_3 ∷ link_3 ∷ []
 
-abbrev reaches : Bool → List KeepingInput
+abbrev reaches : Bool → Inputs
 reaches false = now_durable saved_1 ∷ link_1 ∷ link_1 ∷ deletes ∷ []
 reaches true = link_1 ∷ now_durable saved_3 ∷ link_3 ∷ []
 
@@ -138,13 +136,11 @@ delivered_b true = receiver.delivery 3 ∷ []
 
 frames_told : (again : Bool) → Told (k_at again [] (receiver.ready again)) (reaches again) [] (delivered_b again)
     (last_b again)
-frames_told false =
-    told_next (receiver.ready_sound false) refl refl refl
+frames_told false = told_next (receiver.ready_sound false) refl refl refl
     (told_link _ refl (receiver.judged_1 t opens_1) (receiver.ready_sound false)
     (told_link _ refl (receiver.late_then t) (receiver.heard_1_sound t opens_1)
     (told_next (receiver.dropped_1_sound t opens_1) refl refl does_delete (told_end _ deleted_sound))))
-frames_told true =
-    told_link _ refl (receiver.late_again t) (receiver.ready_sound true)
+frames_told true = told_link _ refl (receiver.late_again t) (receiver.ready_sound true)
     (told_next (receiver.dropped_2_sound t) refl refl refl
     (told_link _ refl (receiver.judged_3 t u opens_3) (receiver.dropped_2_sound t)
     (told_end _ (receiver.heard_3_sound t u opens_3))))
@@ -159,10 +155,9 @@ facts_b true = facts_of 1 refl refl (told_b true)
 
 -- ---- its premises, input by input
 
-steps_1 : (uses : List CipherUse) → Contains uses use_1 →
+steps_1 : (uses : Uses) → Contains uses use_1 →
     AreSteps NoPremise bytes sci_a 0 (opening (inner_b false)) [] uses (inner_b false).inputs
-steps_1 uses there =
-    receiver.steps (salt false) (reads []) NoPremise false (free false)
+steps_1 uses there = receiver.steps (salt false) (reads []) NoPremise false (free false)
     (step_next (own_step _ bytes sci_a 0 _ uses _ tt) refl refl (step_link _ refl (receiver.judged_1 t opens_1)
     (first_link (λ d. genuine_at (receiver.ready false) f1 _ uses (receiver.judged_1 t opens_1) there)
     octets_1 (is_strict refl refl refl)) (step_link _ refl (receiver.late_then t) (record {
@@ -170,18 +165,16 @@ steps_1 uses there =
       octets = octets_1;
       order = λ d among. is_strict refl refl refl;
       creates = λ d row at under fresh. absurd (fresh (rx_from 2) refl refl);
-    })
-    (step_next (record {
+    }) (step_next (record {
       genuine = λ d. tt;
       octets = tt;
       order = λ d among. is_strict refl refl refl;
       creates = λ d row at under fresh. absurd (fresh (rx_from 2) refl refl);
     }) does_delete refl no_step))))
 
-steps_2 : (uses : List CipherUse) → Contains uses use_3 →
+steps_2 : (uses : Uses) → Contains uses use_3 →
     AreSteps NoPremise bytes sci_a 0 (opening (inner_b true)) [] uses (inner_b true).inputs
-steps_2 uses there =
-    receiver.steps (salt false) (reads (saved_1 ∷ [])) NoPremise true (free true)
+steps_2 uses there = receiver.steps (salt false) (reads (saved_1 ∷ [])) NoPremise true (free true)
     (step_link _ refl (receiver.late_again t)
     (first_link (λ d. genuine_at (receiver.ready true) f1 _ uses (receiver.late_again t) tt) octets_1
     (is_strict refl refl refl)) (step_next (own_step _ bytes sci_a 0 _ uses _ tt) refl refl
@@ -198,8 +191,7 @@ abbrev all_delivered : List (List ℕ)
 all_delivered = (1 ∷ client 1) ∷ (3 ∷ client 3) ∷ []
 
 inner_meets : MeetsAll inner_runs all_sent all_delivered
-inner_meets =
-    meets _ _ _ _ (facts_a false) (facts_a true) (facts_b false) (facts_b true)
+inner_meets = meets _ _ _ _ (facts_a false) (facts_a true) (facts_b false) (facts_b true)
     (tt, (tt, (tt, (tt, (tt, (tt, tt)))))) (tt, (tt, (tt, (tt, (tt, tt))))) refl
     (is_durable _ reserved_is) refl (is_durable saved_1 saved_is) is_saved steps_1 steps_2
 
@@ -215,7 +207,7 @@ old_is again number least = let less = free again in
 
 new_is : (number last : ℕ) → nat_le number (max last 0) ≡ true →
     nat_le number (highest (record { name = name; last = last } ∷ []) name) ≡ true
-new_is number last is = rw (same_octets-refl name, is)
+new_is _ _ is = rw (same_octets-refl name, is)
 
 -- before anything is reserved
 not_reserved : standing_by (a_at false [] [] [] (receiver.ready false)) receiver.accepts_1 None (Some (rx_from 1)) ≡
@@ -262,14 +254,14 @@ last_a true = a_at true (granted_after saved_3) (saved_3 ∷ []) [] (receiver.he
 -- a valid frame that passes, one that does not, and one that is not valid
 valid_passes : (a : Ahead) (input : KeepingInput) (new : List Delivery) → is_valid a.k.secy input ≡ true →
     lets_through a input ≡ true → newly_delivered a.k input ≡ new → newly_accepted a input ≡ new
-valid_passes a input new valid lets is = rw (valid, lets, is)
+valid_passes a _ _ valid lets is = rw (valid, lets, is)
 
 valid_drops : (a : Ahead) (input : KeepingInput) → is_valid a.k.secy input ≡ true → lets_through a input ≡ false →
     newly_accepted a input ≡ []
-valid_drops a input valid lets = rw (valid, lets)
+valid_drops a _ valid lets = rw (valid, lets)
 
 not_valid : (a : Ahead) (input : KeepingInput) → is_valid a.k.secy input ≡ false → newly_accepted a input ≡ []
-not_valid a input is = rw is
+not_valid a _ is = rw is
 
 abbrev number_13 : Judgement → Bool
 number_13 j = j.step == 13
@@ -298,8 +290,7 @@ frames_through true =
     (gives_by a3.k f3 _ refl (receiver.judged_3 t u opens_3)))
     (goes_on a3 (link_frame f3) _ passes_3 hears_3) (through_end _)))
 
-all_through : (again : Bool) →
-    Through (a_at again [] [] [] (start gcm_b)) (receiver.commands again ++ comes again)
+all_through : (again : Bool) → Through (a_at again [] [] [] (start gcm_b)) (receiver.commands again ++ comes again)
     (receiver.commands again ++ reaches again) (delivered_b again) (last_a again)
 all_through false =
     commands_pass (receiver.set_up false) {a = a_at false [] [] [] (start gcm_b)}
@@ -327,8 +318,7 @@ abbrev runs : List EndRun
 runs = (A, run_a false) ∷ (B, run_b false) ∷ (A, run_a true) ∷ (B, run_b true) ∷ []
 
 these_inside : inside both_ahead (blocks runs) ≡ blocks inner_runs
-these_inside =
-    inside_blocks both_ahead [] runs
+these_inside = inside_blocks both_ahead [] runs
     ∙ ap (λ b. blocks ((A, run_a false) ∷ (B, b) ∷ (A, run_a true) ∷ (B, run_inside true (run_b true)) ∷ []))
     (inside_b false)
     ∙ ap (λ b. blocks ((A, run_a false) ∷ (B, inner_b false) ∷ (A, run_a true) ∷ (B, b) ∷ [])) (inside_b true)
@@ -336,11 +326,11 @@ these_inside =
 -- the premises of order hold for the keeping endpoints inside
 orderly_inside : (before h : List Happening) → AtEach (IsOrderly B bytes sci_a 0) before h →
     AtEach (IsOrderlyInside true B bytes sci_a 0) before h
-orderly_inside before [] each = tt
+orderly_inside _ [] _ = tt
 orderly_inside before (h ∷ more) each = (one h each.0, orderly_inside (before ++ h ∷ []) more each.1)
   where
     one : (h' : Happening) → IsOrderly B bytes sci_a 0 before h' → IsOrderlyInside true B bytes sci_a 0 before h'
-    one (begins f config journal') is = record { genuine = is.genuine; octets = is.octets; ordered = λ same off. cc }
+    one (begins f _ _) is = record { genuine = is.genuine; octets = is.octets; ordered = λ same off. cc }
     one (comes_in f input) is =
         record {
           genuine = is.genuine;
@@ -350,8 +340,8 @@ orderly_inside before (h ∷ more) each = (one h each.0, orderly_inside (before 
       where
         by_run : (o : Option Run) → IfSome o (λ run. IsOrderedInput run bytes sci_a 0 input) →
             IfSome o (λ run. IsStrictInput (closing run) bytes sci_a 0 input)
-        by_run None it = tt
-        by_run (Some run) it = it.order
+        by_run None _ = tt
+        by_run (Some _) it = it.order
 
 -- it meets all premises; and what A sent and B delivered, each client frame after its PN
 pub record MeetsAllAhead (ahead : End → Bool) (its : List EndRun) (sent delivered : List (List ℕ)) : Type 0 where

@@ -2,13 +2,13 @@
 -- and 2; the second sends another one, with packet number 3. The cipher is not computed.
 use Rattle.macsec_counterexamples.proofs.Link.Exchange.{options}
 use Rattle.macsec_restarts.proofs.{
+  Examples.Blocks.{commands_told, Told, told_end, told_next},
   Names.{[], ◌*◌, ◌++◌, ◌<◌, ◌∙◌, ◌∷◌, ◌≡◌, aad, all_fit, ap, arith, begins_sound, Bool, bytes, CipherUse, client},
   Names.{client_frame, Command, command, commands_sound, endpoint_input, false, frame_fault, frame_step, gcm_a},
-  Names.{highest, is_new, is_within, IsSound, iv, Keeping, keeping_step, KeepingInput, kept, Key, key_row, List, map},
-  Names.{may_go, may_send, new_key, newly_sent, no_salt, no_tx_counters, none_refused, now_durable, raised_alone, refl},
+  Names.{highest, Inputs, is_new, is_within, IsSound, iv, Keeping, keeping_step, kept, Key, key_row, List, map, may_go},
+  Names.{may_send, new_key, newly_sent, no_salt, no_tx_counters, none_refused, now_durable, raised_alone, refl},
   Names.{Reservation, row_at, sealed, sending_name, sending_of, sent_by, sent_sound, SentIn, start, State, tag, true},
   Names.{TxOn, TxRow, TxSa, use_of, use_sent, ℕ},
-  Examples.Blocks.{Told, commands_told, told_end, told_next},
 }
 
 -- its first packet number, and the last one that it reserves
@@ -23,14 +23,14 @@ last_of true = 3
 abbrev pub reserves : Bool → List ℕ → Reservation
 reserves again salt = record { name = sending_name salt bytes; last = last_of again }
 
-abbrev pub frames : Bool → List KeepingInput
+abbrev pub frames : Bool → Inputs
 frames false = endpoint_input (client_frame (client 1)) ∷ endpoint_input (client_frame (client 1)) ∷ []
 frames true = endpoint_input (client_frame (client 3)) ∷ []
 
 abbrev set_up : Bool → List Command
 set_up again = Key (new_key no_salt 1) ∷ TxSa 0 0 (first_of again) false ∷ TxOn 0 ∷ []
 
-abbrev pub inputs : Bool → List ℕ → List KeepingInput
+abbrev pub inputs : Bool → List ℕ → Inputs
 inputs again salt = map command (set_up again) ++ now_durable (reserves again salt) ∷ frames again
 
 -- ---- its states: the first unused packet number of the key, the SA, and how many frames it has sent
@@ -109,7 +109,7 @@ module _ (salt : List ℕ) (before : List Reservation) where
 
   reports : (again : Bool) → (keeping_step (with_none (created again true)) (now_durable (reserves again salt))).1 ≡
       reserved_at again (created again true)
-  reports again = rw (raised_alone name _)
+  reports _ = rw (raised_alone name _)
 
   first_goes : highest before name < 1 → may_go (reserved_at false (created false true)) (client_frame (client 1)) ≡
       true
@@ -128,7 +128,7 @@ module _ (salt : List ℕ) (before : List Reservation) where
   lists : (k : Keeping) (octet : ℕ) → may_go k (client_frame (client octet)) ≡ true →
       newly_sent k (endpoint_input (client_frame (client octet))) ≡
       sent_by k.secy (client octet) (frame_fault (client octet)) (sending_of k.secy (client octet)).by
-  lists k octet goes = rw goes
+  lists k _ goes = rw goes
 
   frames_told : (again : Bool) → highest before name < first_of again →
       Told (reserved_at again (created again true)) (frames again) (sent again) [] (reserved_at again (at_end again))
@@ -138,17 +138,14 @@ module _ (salt : List ℕ) (before : List Reservation) where
       told_next (on_sound false) (lists k1 1 (first_goes free) ∙ ap (listed 1 1) first_use) refl
       (frame_step k1 (client 1) (first_goes free))
       (told_next one_sound (lists k2 1 (second_goes free) ∙ ap (listed 2 1) second_use) refl
-      (frame_step k2 (client 1) (second_goes free))
-      (told_end _ (end_sound false)))
+      (frame_step k2 (client 1) (second_goes free)) (told_end _ (end_sound false)))
   frames_told true free =
       let k1 = reserved_at true (created true true) in
       told_next (on_sound true) (lists k1 3 (third_goes free) ∙ ap (listed 3 3) third_use) refl
-      (frame_step k1 (client 3) (third_goes free))
-      (told_end _ (end_sound true))
+      (frame_step k1 (client 3) (third_goes free)) (told_end _ (end_sound true))
 
   pub told : (again : Bool) → highest before name < first_of again →
       Told (with_none (start gcm_a)) (inputs again salt) (sent again) [] (reserved_at again (at_end again))
-  told again free =
-      commands_told (set_up again) (refl, (is_new before name (first_of again) free, (refl, tt)))
+  told again free = commands_told (set_up again) (refl, (is_new before name (first_of again) free, (refl, tt)))
       (none_is_refused again)
       (all_are_fit again) start_sound (told_next (on_sound again) refl refl (reports again) (frames_told again free))

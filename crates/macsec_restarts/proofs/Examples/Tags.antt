@@ -34,13 +34,51 @@ hash_of key aad = ghash (hash_subkey key) (pad aad ++ (pad [] ++ pad (length_blo
 
 sum_at : (hash : ℕ) (block : List ℕ) → ((k : ℕ) → slice_index block k < 256) → (k : ℕ) →
     bit_xor (slice_index (to_be_bytes w128 hash) k) (slice_index block k) < 256
-sum_at hash block are k = xor_of_8 _ _ (of_number 16 hash k) (are k)
+sum_at hash _ are k = xor_of_8 _ _ (of_number 16 hash k) (are k)
 
 pub tag_is : (key iv aad : List ℕ) → ((k : ℕ) → slice_index (aes key (pre_counter_block iv)) k < 256) →
     AreOctets (seal_of key iv aad []).1
 unfolding seal_of authentication_tag gctr hash_of
-tag_is key iv aad are = All-from_recursion (λ x. x < 256) (seal_of key iv aad []).1
-    (octet 0, (octet 1, (octet 2, (octet 3, (octet 4, (octet 5, (octet 6, (octet 7, (octet 8, (octet 9, (octet 10, (octet 11, (octet 12, (octet 13, (octet 14, (octet 15, tt))))))))))))))))
+tag_is key iv aad are = All-from_recursion (λ x. x < 256) (seal_of key iv aad []).1 (
+  octet 0,
+  (
+    octet 1,
+    (
+      octet 2,
+      (
+        octet 3,
+        (
+          octet 4,
+          (
+            octet 5,
+            (
+              octet 6,
+              (
+                octet 7,
+                (
+                  octet 8,
+                  (
+                    octet 9,
+                    (
+                      octet 10,
+                      (
+                        octet 11,
+                        (
+                          octet 12,
+                          (octet 13, (octet 14, (octet 15, tt))),
+                        ),
+                      ),
+                    ),
+                  ),
+                ),
+              ),
+            ),
+          ),
+        ),
+      ),
+    ),
+  ),
+)
   where
     octet : (k : ℕ) → bit_xor (slice_index (to_be_bytes w128 (hash_of key aad)) k)
         (slice_index (aes key (pre_counter_block iv)) k) < 256
@@ -48,10 +86,8 @@ tag_is key iv aad are = All-from_recursion (λ x. x < 256) (seal_of key iv aad [
 
 icv_is : (number : ℕ) → are_small (aes bytes (pre_counter_block (iv number))) ≡ true →
     AreOctets (items 16 (tag number (client number)))
-icv_is number are =
-    rw (sealed bytes (iv number) (aad number (client number))) at
-    (tag_is bytes (iv number) (aad number (client number)) (small_at (aes bytes (pre_counter_block (iv number)))
-    are))
+icv_is number are = rw (sealed bytes (iv number) (aad number (client number))) at
+    (tag_is bytes (iv number) (aad number (client number)) (small_at (aes bytes (pre_counter_block (iv number))) are))
 
 block_1 : are_small (aes bytes (pre_counter_block (iv 1))) ≡ true
 unfolding pre_counter_block aes after_rounds add_round_key round_key mix_columns shift_rows sub_bytes key_expansion

@@ -2,19 +2,18 @@
 -- packet numbers (PNs) 1 and 2, and the second one is lost. B delivers the first, and drops its replay as late. Then
 -- both restart. A sends another client frame, with PN 3. B drops the first frame again, and delivers the one with PN 3.
 use Rattle.macsec_restarts.proofs.{
-  Names.{[], ◌++◌, ◌<◌, ◌∷◌, ◌≡◌, ◌≤◌, A, aad, All, All-cons, All-nil, AllPairs, AllPairs-cons, arith, B, Bool, bytes},
-  Names.{CipherUse, client, Contains, delivered_in_all, Delivery, false, gcm_a, gcm_b, genuine_at, highest},
-  Names.{if◌then◌else◌, IsReservation, iv, journal, Keeping, keeping_step, KeepingInput, KeepsDurable, kept, key_row},
-  Names.{length-sha256, List, max, name_of, now_durable, one_alone, opening, Opens, opens, reduced, reduced_reserves},
-  Names.{refl, Reservation, reservations, Run, rx_from, salt, same_octets-refl, SameSalt, SavedIn, says, Sci, sci_a},
-  Names.{sci_b, sealed_in_all, sending_name, sent_in_all, SentIn, State, tag, true, use_of, ℕ},
   Examples.{
-    Blocks.{AreOwn, AreSteps, Told, first_link, is_strict, no_step, step_link, step_next, told_end, told_link},
-    Blocks.told_next,
-    Histories.{IsRunOf, MeetsAll, meets_all, nothing_saved, peers, run_told, seals_are},
-    Premises.NoPremise,
+    Blocks.{AreOwn, AreSteps, first_link, is_strict, no_step, NoPremise, step_link, step_next, Told, told_end},
+    Blocks.{told_link, told_next},
+    Histories.{IsRunOf, meets_all, MeetsAll, nothing_saved, peers, run_told, seals_are},
     Tags.{octets_1, octets_3},
   },
+  Names.{[], ◌++◌, ◌<◌, ◌∷◌, ◌≡◌, ◌≤◌, A, aad, All, All-cons, All-nil, AllPairs, AllPairs-cons, arith, B, Bool, bytes},
+  Names.{CipherUse, client, Contains, delivered_in_all, Delivery, false, gcm_a, gcm_b, genuine_at, highest},
+  Names.{if◌then◌else◌, Inputs, IsReservation, iv, journal, Keeping, keeping_step, KeepsDurable, kept, key_row},
+  Names.{length-sha256, List, max, name_of, now_durable, one_alone, opening, Opens, opens, reduced, reduced_reserves},
+  Names.{refl, Reservation, reservations, Run, rx_from, salt, same_octets-refl, SameSalt, SavedIn, says, Sci, sci_a},
+  Names.{sci_b, sealed_in_all, sending_name, sent_in_all, SentIn, State, tag, true, use_of, Uses, ℕ},
 }
 use Rattle.macsec_restarts.proofs.Examples.Receivers as receiver
 use Rattle.macsec_restarts.proofs.Examples.Senders as sender
@@ -49,8 +48,7 @@ pub both : {X : Type 0} (P : X → Type 0) (x y : X) → P x → P y → All P (
 both P x y first second = All-cons P x (y ∷ []) first (All-cons P y [] second (All-nil P))
 
 module _ (a a' b b' : Run) (first : Facts 1 sci_a a (sender.sent false) [])
-    (second : Facts 1 sci_a a' (sender.sent true) [])
-    (heard : Facts 2 sci_b b [] (receiver.delivery 1 ∷ []))
+    (second : Facts 1 sci_a a' (sender.sent true) []) (heard : Facts 2 sci_b b [] (receiver.delivery 1 ∷ []))
     (heard' : Facts 2 sci_b b' [] (receiver.delivery 3 ∷ [])) where
   sent_1 : sent_in_all (a ∷ []) ≡ sender.sent false
   sent_1 = rw first.told.sends
@@ -72,28 +70,26 @@ module _ (a a' b b' : Run) (first : Facts 1 sci_a a (sender.sent false) [])
 
   pub meets : AreOwn a.inputs → AreOwn a'.inputs → SameSalt a a' → KeepsDurable a a' → SameSalt b b' →
       KeepsDurable b b' → SavedIn b'.journal bytes sci_a 0 (receiver.delivery 1 ∷ []) →
-      ((uses : List CipherUse) → Contains uses use_1 → AreSteps NoPremise bytes sci_a 0 (opening b) [] uses b.inputs) →
-      ((uses : List CipherUse) → Contains uses use_3 →
-      AreSteps NoPremise bytes sci_a 0 (opening b') [] uses b'.inputs) →
+      ((uses : Uses) → Contains uses use_1 → AreSteps NoPremise bytes sci_a 0 (opening b) [] uses b.inputs) →
+      ((uses : Uses) → Contains uses use_3 → AreSteps NoPremise bytes sci_a 0 (opening b') [] uses b'.inputs) →
       MeetsAll ((A, a) ∷ (B, b) ∷ (A, a') ∷ (B, b') ∷ []) ((1 ∷ client 1) ∷ (2 ∷ client 1) ∷ (3 ∷ client 3) ∷ [])
       ((1 ∷ client 1) ∷ (3 ∷ client 3) ∷ [])
-  meets own own' salt_a durable_a salt_b durable_b saved steps steps' =
-      meets_all _ _ _ (
-        own,
+  meets own own' salt_a durable_a salt_b durable_b saved steps steps' = meets_all _ _ _ (
+    own,
+    (
+      ((λ d. nothing_saved b.journal), steps _ has_sealed_1),
+      (
+        own',
         (
-          ((λ d. nothing_saved b.journal), steps _ has_sealed_1),
           (
-            own',
-            (
-              (
-                (λ d. rw delivered_1 saved),
-                steps' (sealed_in_all (a ∷ a' ∷ []) ++ sealed_in_all (b ∷ [])) has_sealed_3,
-              ),
-              tt,
-            ),
+            (λ d. rw delivered_1 saved),
+            steps' (sealed_in_all (a ∷ a' ∷ []) ++ sealed_in_all (b ∷ [])) has_sealed_3,
           ),
+          tt,
         ),
-      ) (peers _ ((A, a) ∷ (B, b) ∷ (A, a') ∷ (B, b') ∷ []) (both (IsRunOf 1 sci_a) a a' first.of second.of)
+      ),
+    ),
+  ) (peers _ ((A, a) ∷ (B, b) ∷ (A, a') ∷ (B, b') ∷ []) (both (IsRunOf 1 sci_a) a a' first.of second.of)
       (pair SameSalt a a' salt_a) (pair KeepsDurable a a' durable_a)
       (both (IsRunOf 2 sci_b) b b' heard.of heard'.of) (pair SameSalt b b' salt_b) (pair KeepsDurable b b' durable_b))
       sent_both delivered_both
@@ -128,7 +124,7 @@ reserved_is = one_is _ (record { name = length-sha256 _; last = omega arith })
 
 pub at_most : (name other : List ℕ) (last n : ℕ) → last < n →
     highest (record { name = name; last = last } ∷ []) other < n
-at_most name other last n less = by_name _
+at_most _ _ last n less = by_name _
   where
     by_name : (b : Bool) → (if b then max last 0 else 0) < n
     by_name true = omega (arith, less)
@@ -154,8 +150,7 @@ last_a again = kept (salt false) (reads (before_a again)) (sender.reserves again
 told_a : (again : Bool) → Told (opening (run_a again)) (run_a again).inputs (sender.sent again) [] (last_a again)
 told_a false = sender.told (salt false) (reads []) false
     (is_free [] (sending_name (salt false) bytes) 1 none_is (omega arith))
-told_a true =
-    sender.told (salt false) (reads (reserved_2 ∷ [])) true
+told_a true = sender.told (salt false) (reads (reserved_2 ∷ [])) true
     (is_free (reserved_2 ∷ []) (sending_name (salt false) bytes) 3 reserved_is
     (at_most (sending_name (salt false) bytes) (sending_name (salt false) bytes) 2 3 (omega arith)))
 
@@ -177,7 +172,7 @@ opens_1 = opens bytes (iv 1) (aad 1 (client 1))
 pub opens_3 : Opens 3 u
 opens_3 = opens bytes (iv 3) (aad 3 (client 3))
 
-abbrev heard_in : Bool → List KeepingInput
+abbrev heard_in : Bool → Inputs
 heard_in false = receiver.link 1 t ∷ receiver.link 1 t ∷ now_durable saved_1 ∷ []
 heard_in true = receiver.link 1 t ∷ receiver.link 3 u ∷ []
 
@@ -216,12 +211,10 @@ f3 = receiver.frame 3 u
 
 frames_told : (again : Bool) → Told (at_b again (receiver.ready again)) (heard_in again) [] (delivered_b again)
     (last_b again)
-frames_told false =
-    told_link _ refl (receiver.judged_1 t opens_1) (receiver.ready_sound false)
+frames_told false = told_link _ refl (receiver.judged_1 t opens_1) (receiver.ready_sound false)
     (told_link _ refl (receiver.late_then t) (receiver.heard_1_sound t opens_1)
     (told_next (receiver.dropped_1_sound t opens_1) refl refl refl (told_end _ (receiver.dropped_1_sound t opens_1))))
-frames_told true =
-    told_link _ refl (receiver.late_again t) (receiver.ready_sound true)
+frames_told true = told_link _ refl (receiver.late_again t) (receiver.ready_sound true)
     (told_link _ refl (receiver.judged_3 t u opens_3) (receiver.dropped_2_sound t)
     (told_end _ (receiver.heard_3_sound t u opens_3)))
 
@@ -235,10 +228,9 @@ facts_b true = facts_of 1 refl refl (told_b true)
 
 -- ---- the receiver's premises, input by input
 
-steps_1 : (uses : List CipherUse) → Contains uses use_1 →
+steps_1 : (uses : Uses) → Contains uses use_1 →
     AreSteps NoPremise bytes sci_a 0 (opening (run_b false)) [] uses (run_b false).inputs
-steps_1 uses there =
-    receiver.steps (salt false) (reads []) NoPremise false (free_b false)
+steps_1 uses there = receiver.steps (salt false) (reads []) NoPremise false (free_b false)
     (step_link _ refl (receiver.judged_1 t opens_1)
     (first_link (λ d. genuine_at (receiver.ready false) f1 _ uses (receiver.judged_1 t opens_1) there) octets_1
     (is_strict refl refl refl)) (step_link _ refl (receiver.late_then t) (record {
@@ -246,18 +238,16 @@ steps_1 uses there =
       octets = octets_1;
       order = λ d among. is_strict refl refl refl;
       creates = λ d row at under fresh. absurd (fresh (rx_from 2) refl refl);
-    })
-    (step_next (record {
+    }) (step_next (record {
       genuine = λ d. tt;
       octets = tt;
       order = λ d among. is_strict refl refl refl;
       creates = λ d row at under fresh. absurd (fresh (rx_from 2) refl refl);
     }) refl refl no_step)))
 
-steps_2 : (uses : List CipherUse) → Contains uses use_3 →
+steps_2 : (uses : Uses) → Contains uses use_3 →
     AreSteps NoPremise bytes sci_a 0 (opening (run_b true)) [] uses (run_b true).inputs
-steps_2 uses there =
-    receiver.steps (salt false) (reads (saved_1 ∷ [])) NoPremise true (free_b true)
+steps_2 uses there = receiver.steps (salt false) (reads (saved_1 ∷ [])) NoPremise true (free_b true)
     (step_link _ refl (receiver.late_again t)
     (first_link (λ d. genuine_at (receiver.ready true) f1 _ uses (receiver.late_again t) tt) octets_1
     (is_strict refl refl refl)) (step_link _ refl (receiver.judged_3 t u opens_3)
@@ -279,10 +269,8 @@ is_saved =
     (omega (arith, says false (saved_1 ∷ []) saved_is name, own))
     (All-nil (λ d. d.number ≤ highest (reservations (journal false (saved_1 ∷ []))) name))
 
-pub two_runs_each :
-    MeetsAll ((A, run_a false) ∷ (B, run_b false) ∷ (A, run_a true) ∷ (B, run_b true) ∷ [])
+pub two_runs_each : MeetsAll ((A, run_a false) ∷ (B, run_b false) ∷ (A, run_a true) ∷ (B, run_b true) ∷ [])
     ((1 ∷ client 1) ∷ (2 ∷ client 1) ∷ (3 ∷ client 3) ∷ []) ((1 ∷ client 1) ∷ (3 ∷ client 3) ∷ [])
-two_runs_each =
-    meets _ _ _ _ (facts_a false) (facts_a true) (facts_b false) (facts_b true)
+two_runs_each = meets _ _ _ _ (facts_a false) (facts_a true) (facts_b false) (facts_b true)
     (tt, (tt, (tt, (tt, (tt, (tt, tt)))))) (tt, (tt, (tt, (tt, (tt, tt))))) refl
     (is_durable _ reserved_is) refl (is_durable saved_1 saved_is) is_saved steps_1 steps_2

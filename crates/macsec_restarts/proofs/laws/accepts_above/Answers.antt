@@ -1,4 +1,4 @@
-use Rattle.macsec_restarts.proofs.AheadAccepts.{accepts_above_in_all, accepts_reserved}
+use Rattle.macsec_restarts.proofs.AheadInside.{accepts_above_in_all, accepts_reserved}
 use Rattle.macsec_restarts.proofs.laws.accepts_above.Goals as goal
 
 pub returns-clause-reserved : goal.returns-clause-reserved

@@ -1,4 +1,4 @@
-use Rattle.macsec_restarts.proofs.ForgettingAccepts.{accepts_above_forgetting, accepts_reserved_forgetting}
+use Rattle.macsec_restarts.proofs.Forgetting.{accepts_above_forgetting, accepts_reserved_forgetting}
 use Rattle.macsec_restarts.proofs.laws.accepts_above_forgetting.Goals as goal
 
 pub returns-clause-reserved : goal.returns-clause-reserved

@@ -1,4 +1,4 @@
-use Rattle.macsec_restarts.proofs.AcceptsKept.{accepts_above_if_kept, is_weaker_to_accept}
+use Rattle.macsec_restarts.proofs.Forgetting.{accepts_above_if_kept, is_weaker_to_accept}
 use Rattle.macsec_restarts.proofs.laws.accepts_above_if_kept.Goals as goal
 
 pub returns-clause-kept : goal.returns-clause-kept

@@ -1,4 +1,4 @@
-use Rattle.macsec_restarts.proofs.AheadReserved.{asks_where_dropped, passes_once_reserved, wants_enough}
+use Rattle.macsec_restarts.proofs.AheadInside.{asks_where_dropped, passes_once_reserved, wants_enough}
 use Rattle.macsec_restarts.proofs.laws.accepts_once_reserved.Goals as goal
 
 pub returns-clause-asks : goal.returns-clause-asks

@@ -1,4 +1,4 @@
-use Rattle.macsec_restarts.proofs.ForgettingOrigin.{comes_from_other_forgetting}
+use Rattle.macsec_restarts.proofs.Forgetting.{comes_from_other_forgetting}
 use Rattle.macsec_restarts.proofs.laws.comes_from_other_forgetting.Goals as goal
 
 pub returns : goal.returns

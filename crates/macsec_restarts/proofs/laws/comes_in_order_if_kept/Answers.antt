@@ -1,8 +1,7 @@
 -- Order, and each frame at most once, by the laws of an endpoint.
 use Rattle.macsec_restarts.proofs.{
   KeptOrder.{comes_in_order_if_kept, comes_in_order_if_read},
-  KeptPeers.peers_at_each,
-  KeptWeaker.{is_weaker_to_deliver, is_weaker_to_send},
+  RunsWith.{is_weaker_to_deliver, is_weaker_to_send, peers_at_each},
 }
 use Rattle.macsec_restarts.proofs.laws.comes_in_order_if_kept.Goals as goal
 

@@ -1,5 +1,5 @@
 -- Order, and each frame at most once, by the laws of an endpoint.
-use Rattle.macsec_restarts.proofs.ForgettingOrder.{comes_in_order_once_forgetting}
+use Rattle.macsec_restarts.proofs.Forgetting.{comes_in_order_once_forgetting}
 use Rattle.macsec_restarts.proofs.laws.comes_in_order_once_forgetting.Goals as goal
 
 pub returns : goal.returns

@@ -1,4 +1,4 @@
-use Rattle.macsec_restarts.proofs.{FromSas.delivers_from_sas, Listed.delivers_each_listed}
+use Rattle.macsec_restarts.proofs.Listed.{delivers_each_listed, delivers_from_sas}
 use Rattle.macsec_restarts.proofs.laws.lists_each_delivery.Goals as goal
 
 pub returns-clause-listed : goal.returns-clause-listed

@@ -1,5 +1,6 @@
-use Rattle.macsec_restarts.proofs.StrictLists.{delivers_each_listed_forgetting, delivers_from_sas_forgetting}
-use Rattle.macsec_restarts.proofs.StrictLists.{delivers_from_sas_with}
+use Rattle.macsec_restarts.proofs.{
+  Forgetting.{delivers_each_listed_forgetting, delivers_from_sas_forgetting, delivers_from_sas_with},
+}
 use Rattle.macsec_restarts.proofs.laws.lists_each_delivery_forgetting.Goals as goal
 
 pub returns-clause-listed : goal.returns-clause-listed

@@ -1,4 +1,4 @@
-use Rattle.macsec_restarts.proofs.ForgettingSends.{no_iv_at_both_forgetting}
+use Rattle.macsec_restarts.proofs.Forgetting.{no_iv_at_both_forgetting}
 use Rattle.macsec_restarts.proofs.laws.no_iv_at_both_forgetting.Goals as goal
 
 pub returns : goal.returns

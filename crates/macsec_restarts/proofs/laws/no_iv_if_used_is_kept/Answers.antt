@@ -1,4 +1,4 @@
-use Rattle.macsec_restarts.proofs.OtherIvs.{no_iv_if_used_is_kept, no_iv_if_used_is_kept_forgetting}
+use Rattle.macsec_restarts.proofs.Forgetting.{no_iv_if_used_is_kept, no_iv_if_used_is_kept_forgetting}
 use Rattle.macsec_restarts.proofs.laws.no_iv_if_used_is_kept.Goals as goal
 
 pub returns-clause-kept : goal.returns-clause-kept

@@ -1,4 +1,4 @@
-use Rattle.macsec_restarts.proofs.ForgettingSends.{numbers_rise_forgetting}
+use Rattle.macsec_restarts.proofs.Forgetting.{numbers_rise_forgetting}
 use Rattle.macsec_restarts.proofs.laws.numbers_rise_forgetting.Goals as goal
 
 pub returns : goal.returns

@@ -1,4 +1,4 @@
-use Rattle.macsec_restarts.proofs.SendsRise.{is_weaker, rises_if_used_is_kept}
+use Rattle.macsec_restarts.proofs.Sends.{is_weaker, rises_if_used_is_kept}
 use Rattle.macsec_restarts.proofs.laws.numbers_rise_if_used_is_kept.Goals as goal
 
 pub returns-clause-kept : goal.returns-clause-kept

@@ -1,4 +1,4 @@
-use Rattle.macsec_restarts.proofs.{OneUse.seals_each_frame, Sends.seals_of_input}
+use Rattle.macsec_restarts.proofs.{Listed.seals_each_frame, Sends.seals_of_input}
 use Rattle.macsec_restarts.proofs.laws.seals_each_frame.Goals as goal
 
 pub returns-clause-leaves : goal.returns-clause-leaves
