@@ -55,10 +55,10 @@ answer_asks asked false j it = it
 table_asks : (salt : List ℕ) (told asked rs : List Reservation) (f : Folder) (j : Journal) → Tracks salt told f j → Asks asked j → (name : List ℕ) →
     highest (with_all j.table rs) name ≤ highest (asked ++ rs) name
 table_asks salt told asked rs f j tracks it name =
-    let all : with_all j.table rs ≡ reduced (tracks.said ++ rs) = ap (λ t. with_all t rs) tracks.table ∙ sym (with_all-append tracks.said rs []) in
-    let says : highest (with_all j.table rs) name ≡ highest (tracks.said ++ rs) name = ap (λ t. highest t name) all ∙ reduced_reserves (tracks.said ++ rs) name in
-    let own : highest j.table name ≡ highest tracks.said name = ap (λ t. highest t name) tracks.table ∙ reduced_reserves tracks.said name in
-    omega (arith, says, own, highest-append tracks.said rs name, highest-append asked rs name, (it name).0)
+    let all : with_all j.table rs ≡ reduced (tracks.knows.said ++ rs) = ap (λ t. with_all t rs) tracks.knows.table ∙ sym (with_all-append tracks.knows.said rs []) in
+    let says : highest (with_all j.table rs) name ≡ highest (tracks.knows.said ++ rs) name = ap (λ t. highest t name) all ∙ reduced_reserves (tracks.knows.said ++ rs) name in
+    let own : highest j.table name ≡ highest tracks.knows.said name = ap (λ t. highest t name) tracks.knows.table ∙ reduced_reserves tracks.knows.said name in
+    omega (arith, says, own, highest-append tracks.knows.said rs name, highest-append asked rs name, (it name).0)
 
 asks_in : (asked rs : List Reservation) (j : Journal) → ((name : List ℕ) → highest (with_all j.table rs) name ≤ highest (asked ++ rs) name) →
     (b : Bool) → Asks (asked ++ rs) (if b then replacing rs j else appending rs j)
@@ -87,19 +87,19 @@ own_says asked table read is less name = let same : highest read name ≡ highes
 pub whole_says_no_more : (salt : List ℕ) (told asked : List Reservation) (f : Folder) (j : Journal) → length salt ≡ 24 → Tracks salt told f j → Asks asked j →
     SaysNoMore asked (read_in (whole j).octets)
 whole_says_no_more salt told asked f j long tracks it =
-    let are : All IsReservation j.table = table_are j.table tracks.said tracks.table tracks.are in
-    own_says asked j.table (read_in (whole j).octets) (file_read j.salt j.table (ap length tracks.same ∙ long) tracks.few are) (λ name. (it name).0)
+    let are : All IsReservation j.table = table_are tracks.knows in
+    own_says asked j.table (read_in (whole j).octets) (file_read j.salt j.table (ap length tracks.knows.same ∙ long) tracks.knows.few are) (λ name. (it name).0)
 
 pub appended_says_no_more : (salt : List ℕ) (told asked : List Reservation) (f : Folder) (j : Journal) → Tracks salt told f j → Asks asked j →
     SaysNoMore asked (reservations (appended j).octets)
-appended_says_no_more salt told asked f j tracks it name = omega (arith, twice_says j.ordered tracks.ordered name, (it name).1)
+appended_says_no_more salt told asked f j tracks it name = omega (arith, twice_says j.ordered tracks.knows.ordered name, (it name).1)
 
 pub endpoint_reads_no_more : (salt : List ℕ) (told asked : List Reservation) (f : Folder) (j : Journal) → length salt ≡ 24 → Tracks salt told f j → Asks asked j →
     SaysNoMore (reserved_in (header salt) ++ asked) (reservations (for_endpoint j))
 endpoint_reads_no_more salt told asked f j long tracks it name =
-    let own : length j.salt ≡ 24 = ap length tracks.same ∙ long in
-    let are : All IsReservation j.table = table_are j.table tracks.said tracks.table tracks.are in
+    let own : length j.salt ≡ 24 = ap length tracks.knows.same ∙ long in
+    let are : All IsReservation j.table = table_are tracks.knows in
     let read : reservations (for_endpoint j) ≡ reserved_in (header salt) ++ j.table =
-    front_read (header j.salt) j.table (header_long j.salt own) are ∙ ap (λ x. reserved_in (header x) ++ j.table) tracks.same in
+    front_read (header j.salt) j.table (header_long j.salt own) are ∙ ap (λ x. reserved_in (header x) ++ j.table) tracks.knows.same in
     let says : highest (reservations (for_endpoint j)) name ≡ highest (reserved_in (header salt) ++ j.table) name = ap (λ rs. highest rs name) read in
     omega (arith, says, highest-append (reserved_in (header salt)) j.table name, highest-append (reserved_in (header salt)) asked name, (it name).0)

@@ -2,7 +2,7 @@
 use Rattle.std.proofs.{
   Common.{ℕ, ◌+◌, ◌/◌, ◌<◌, ◌≤◌, ◌^◌, ◌≡◌, Bool, true, false, List, [], ◌∷◌, ◌++◌, length, map, filter, arith},
   Common.{if◌then◌else◌, length-append, ltb-true, nat_lt},
-  lemmas.{Bool.and_parts, List.length-map},
+  lemmas.{Bool.and_parts, List.{Sums.{count_by-le-length, length-filter}, length-map}},
 }
 use Rattle.macsec_reserve.specs.{
   Entries.{has_entry, raised_by, with_all, with_one_more},
@@ -22,12 +22,7 @@ all_fit [] entries = omega arith
 all_fit (r ∷ rs) entries = omega (arith, all_fit rs (with_one_more entries r), one_more_fits entries r)
 
 pub fewer : (p : Reservation → Bool) (rs : List Reservation) → length (filter p rs) ≤ length rs
-fewer p [] = omega arith
-fewer p (r ∷ rs) = by_test (p r) (fewer p rs)
-  where
-    by_test : (b : Bool) → length (filter p rs) ≤ length rs → length (if b then r ∷ filter p rs else filter p rs) ≤ length (r ∷ rs)
-    by_test true less = omega (arith, less)
-    by_test false less = omega (arith, less)
+fewer p rs = omega (arith, length-filter p rs, count_by-le-length p rs)
 
 -- what fits into a file
 pub record Fits (limit count : ℕ) : Type 0 where

@@ -94,21 +94,21 @@ ends_within SyncingFolder j long it = tt
 
 pub writes_within : (salt : List ℕ) (told : List Reservation) (f : Folder) (j : Journal) → length salt ≡ 24 → Tracks salt told f j → IsWithin j → WritesWithin j
 writes_within salt told f j long tracks it =
-    let are : All IsReservation j.table = table_are j.table tracks.said tracks.table tracks.are in
+    let are : All IsReservation j.table = table_are tracks.knows in
     let octets : List ℕ = (whole j).octets in
-    let own : length j.salt ≡ 24 = ap length tracks.same ∙ long in
-    let size : length octets ≡ 128 + 64 * length j.table = file_long j.salt j.table own tracks.few are in
-    let apart : reduced j.table ≡ j.table = apart_is_reduced j.table (subst AreApart (sym tracks.table) (reduces tracks.said).once) in
+    let own : length j.salt ≡ 24 = ap length tracks.knows.same ∙ long in
+    let size : length octets ≡ 128 + 64 * length j.table = file_long j.salt j.table own tracks.knows.few are in
+    let apart : reduced j.table ≡ j.table = apart_is_reduced j.table (subst AreApart (sym tracks.knows.table) (reduces tracks.knows.said).once) in
     let all : Stands octets (whole j) = record { before = []; behind = []; is = sym (append-nil octets); at = refl } in
-    let read : reduced (read_in octets) ≡ j.table = ap reduced (file_read j.salt j.table own tracks.few are) ∙ apart in
+    let read : reduced (read_in octets) ≡ j.table = ap reduced (file_read j.salt j.table own tracks.knows.few are) ∙ apart in
     record {
       file = omega (arith, size, it.0);
       next = record {
-        readable = ((whole_guards j.salt j.table j.table own tracks.few are (λ name. omega arith)).keeps octets
+        readable = ((whole_guards j.salt j.table j.table own tracks.knows.few are (λ name. omega arith)).keeps octets
             (All-cons (Stands octets) (whole j) [] all (All-nil (Stands octets)))).is;
         short = ap (λ rs. fits j.limit (length rs)) read
             ∙ and_from (nat_lt (length j.table + 1) (j.limit / 64)) (nat_lt (length j.table) (2 ^ 64)) (lt-ltb (length j.table + 1) (j.limit / 64) it.0)
-            (lt-ltb (length j.table) (2 ^ 64) tracks.few);
+            (lt-ltb (length j.table) (2 ^ 64) tracks.knows.few);
       };
-      records = ends_within j.step j (twice_long j.ordered tracks.ordered) it.1;
+      records = ends_within j.step j (twice_long j.ordered tracks.knows.ordered) it.1;
     }
