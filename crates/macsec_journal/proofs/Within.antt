@@ -9,6 +9,7 @@ use Rattle.macsec_reserve.{proofs.Reduced.reduces, specs.{Crashes.IsReservation,
 use Rattle.macsec_journal.proofs.{
   Counts.{all_fit, fewer, fits_so},
   Going.{AreApart, apart_is_reduced},
+  Names.names_fit,
   Pieces.{file_long, twice_long, whole_guards},
   Tracking.{Tracks, in_step, table_are},
   Written.file_read,
@@ -101,14 +102,16 @@ writes_within salt told f j long tracks it =
     let apart : reduced j.table ≡ j.table = apart_is_reduced j.table (subst AreApart (sym tracks.knows.table) (reduces tracks.knows.said).once) in
     let all : Stands octets (whole j) = record { before = []; behind = []; is = sym (append-nil octets); at = refl } in
     let read : reduced (read_in octets) ≡ j.table = ap reduced (file_read j.salt j.table own tracks.knows.few are) ∙ apart in
+    let short : (n : ℕ) → n ≤ length j.table → fits j.limit n ≡ true =
+    λ n less. and_from (nat_lt (n + 1) (j.limit / 64)) (nat_lt n (2 ^ 64)) (lt-ltb (n + 1) (j.limit / 64) (omega (arith, less, it.0)))
+    (lt-ltb n (2 ^ 64) (omega (arith, less, tracks.knows.few))) in
     record {
       file = omega (arith, size, it.0);
-      next = record {
+      records = ends_within j.step j (twice_long j.ordered tracks.knows.ordered) it.1;
+      begins = record {
         readable = ((whole_guards j.salt j.table j.table own tracks.knows.few are (λ name. omega arith)).keeps octets
             (All-cons (Stands octets) (whole j) [] all (All-nil (Stands octets)))).is;
-        short = ap (λ rs. fits j.limit (length rs)) read
-            ∙ and_from (nat_lt (length j.table + 1) (j.limit / 64)) (nat_lt (length j.table) (2 ^ 64)) (lt-ltb (length j.table + 1) (j.limit / 64) it.0)
-            (lt-ltb (length j.table) (2 ^ 64) tracks.knows.few);
+        short = ap (λ rs. fits j.limit (length rs)) read ∙ short (length j.table) (omega arith);
       };
-      records = ends_within j.step j (twice_long j.ordered tracks.knows.ordered) it.1;
+      next = λ octets' have. short (length (reduced (read_in octets'))) (names_fit j.table (read_in octets') have);
     }
