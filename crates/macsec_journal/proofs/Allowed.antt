@@ -2,7 +2,7 @@
 use Rattle.{
   std.proofs.{
     Common.{◌≡◌, ℕ, ◌≤◌, Bool, true, false, if◌then◌else◌, ◌&&◌, List, [], ◌∷◌, ◌++◌, map, drop, length, max, Option, None, Some, refl},
-    Common.{ap, sym, subst, ◌∙◌, arith, append-nil},
+    Common.{ap, subst, ◌∙◌, arith, append-nil},
     lemmas.{List.drop_all, Slice.Eq.bytes_eq-Decides},
   },
   macsec_gcm.specs.Octets.same_octets,

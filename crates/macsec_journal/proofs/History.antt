@@ -1,6 +1,6 @@
 -- Histories that can happen.
 use Rattle.std.proofs.{
-  Common.{◌≡◌, ◌<◌, ℕ, inl, Bool, true, false, if◌then◌else◌, List, [], ◌∷◌, ◌++◌, length, replicate, None, Some, refl, ap, sym, subst},
+  Common.{◌≡◌, ◌+◌, ℕ, inl, Bool, true, false, if◌then◌else◌, not, ◌||◌, List, [], ◌∷◌, ◌++◌, length, replicate, None, Option, Some, refl, ap, sym, subst},
   Common.{All, append-nil, append_assoc, arith, length-append},
   lemmas.List.{Elements.{All-append, All-cons, All-filter, All-nil}, length-replicate},
 }
@@ -15,49 +15,60 @@ use Rattle.macsec_journal.proofs.{
   Written.file_read,
 }
 use Rattle.macsec_journal.specs.{
-  Disk.{IsLeft, Piece, Stands, is_apart},
+  Disk.{IsLeft, Piece, Stands, apart_from, is_apart},
   Format.{file_of, fits, read_in, twice},
-  History.{CanHappenSo, EndsWith, WithFailure, WithoutFailure, both_written, calls_before, one_run, ordered_again, then_on, three_runs},
-  Machine.{begun, for_endpoint, with_order, without},
-  World.{Begun, Event, World, after_all, answers, beginning, begins, counted, created, ends, opened_by, opens, orders},
+  History.{CanHappenSo, WithFailure, WithoutFailure, both_written, calls_before, lost_and_ordered_again, one_run, ordered_again, then_on},
+  History.three_runs,
+  Machine.{begun, for_endpoint, is_full, with_order, without},
+  World.{Begun, Event, Happen, Process, World, after_all, answers, beginning, begins, counted, created, ends, lets_go, opened_by, opens, orders},
+  World.{reports, takes},
   declared.step.{Step.TheVariants.Resting, Told.TheVariants.Nothing},
 }
 
+-- these events can happen, and then this holds
+record Leads (w : World) (events : List Event) (P : World → Type 0) : Type 0 where
+  can : Happen w events
+  leads : P (after_all w events)
+
+abbrev Ended : List Reservation → List (List ℕ) → List Begun → World → Type 0
+Ended durable names runs w = (w.told ≡ durable) × (w.gone ≡ names) × (w.past ≡ runs)
+
+-- an order that is not refused
+order_leads : (w : World) (p : Process) (rs : List Reservation) (anew : Bool) (rest : List Event) (P : World → Type 0) → p.journal.step ≡ Resting → All IsReservation rs →
+    is_full rs p.journal ≡ false → Leads (record w { now = Some (record p { journal = with_order rs anew p.journal; asked = p.asked ++ rs }) }) rest P →
+    Leads (record w { now = Some p }) (orders rs anew ∷ rest) P
+order_leads w p rs anew rest P rests are fits after =
+    let so = subst (λ (full : Bool). Leads (record w { now = Some (record p { journal = if full then p.journal else with_order rs anew p.journal; asked = p.asked ++ rs }) }) rest P)
+    (sym fits) after in
+    record { can = ((rests, are), so.can); leads = so.leads }
+
 -- ---- a failure
 
--- a world in which a process has begun and ordered, if the order fits
-abbrev ordered_in : World → WithFailure → Bool → World
-ordered_in w h full = record w {
-  now = Some (record (opened_by h.limit h.config h.octets w.gone) {
-    journal = if full then begun h.limit h.octets else with_order h.rs true (begun h.limit h.octets);
-    asked = read_in h.octets ++ h.rs;
-  });
+-- a world in which a process has begun and ordered
+abbrev ordered_in : World → WithFailure → World
+ordered_in w h = record w {
+  now = Some (record (opened_by h.limit h.config h.octets w.gone) { journal = with_order h.rs true (begun h.limit h.octets); asked = read_in h.octets ++ h.rs });
 }
 
 -- the world after the crash
 abbrev crashed : WithFailure → World
-crashed h = after_all (ordered_in (created h.form h.salt) h false) (calls_before (answers false ∷ opens h.config ∷ ends 1 ∷ []) 7)
+crashed h = after_all (ordered_in (created h.form h.salt) h) (calls_before (answers false ∷ opens h.config ∷ ends 1 ∷ []) 7)
 
-abbrev EndsIn : WithFailure → World → List Event → List Begun → Type 0
-EndsIn h w events runs = EndsWith w events (with_all (reduced (read_in h.octets)) h.rs) [] runs
+abbrev ThreeRuns : WithFailure → World → Type 0
+ThreeRuns h w = Ended (with_all (reduced (read_in h.octets)) h.rs) [] (three_runs h) w
 
--- what happens after an order that fits
-ordered_so : (h : WithFailure) (w : World) (rest : List Event) (runs : List Begun) → IsLeft w.folder.named h.octets → EndsIn h (ordered_in w h false) rest runs →
-    EndsIn h (record w { now = None }) (begins h.limit h.config h.octets ∷ orders h.rs true ∷ rest) runs
-ordered_so h w rest runs left after =
-    let so = subst (λ (full : Bool). EndsIn h (ordered_in w h full) rest runs) (sym h.more) after in
-    record { can = ((inl left, h.small, h.read), ((refl, h.are), so.can)); told = so.told; gone = so.gone; past = so.past }
+ordered_so : (h : WithFailure) (w : World) (rest : List Event) → IsLeft w.folder.named h.octets → Leads (ordered_in w h) rest (ThreeRuns h) →
+    Leads (record w { now = None }) (begins h.limit h.config h.octets ∷ orders h.rs true ∷ rest) (ThreeRuns h)
+ordered_so h w rest left after =
+    let so = order_leads w (opened_by h.limit h.config h.octets w.gone) h.rs true rest (ThreeRuns h) refl h.are h.more after in
+    record { can = ((inl left, h.small, h.read), so.can); leads = so.leads }
 
-fails : (h : WithFailure) → EndsIn h (ordered_in (created h.form h.salt) h false) (calls_before (answers false ∷ opens h.config ∷ ends 1 ∷ ordered_again h) 7) (three_runs h)
+fails : (h : WithFailure) → Leads (created h.form h.salt) (lost_and_ordered_again h) (ThreeRuns h)
 fails h =
-    let again = ordered_so h (crashed h) (calls_before (ends 0 ∷ []) 8) (three_runs h) h.left
-    (record { can = (tt, (tt, (tt, (tt, (tt, (tt, (tt, (tt, (omega arith, tt))))))))); told = refl; gone = refl; past = refl }) in
-    record {
-      can = (tt, (tt, (tt, (tt, (tt, (tt, (tt, (tt, (tt, (omega arith, again.can))))))))));
-      told = again.told;
-      gone = again.gone;
-      past = again.past;
-    }
+    let again = ordered_so h (crashed h) (calls_before (ends 0 ∷ []) 8) h.left
+    (record { can = (tt, (tt, (tt, (tt, (tt, (tt, (tt, (tt, (omega arith, tt))))))))); leads = (refl, refl, refl) }) in
+    ordered_so h (created h.form h.salt) (calls_before (answers false ∷ opens h.config ∷ ends 1 ∷ ordered_again h) 7) h.left
+    (record { can = (tt, (tt, (tt, (tt, (tt, (tt, (tt, (tt, (tt, (omega arith, again.can)))))))))); leads = again.leads })
 
 -- ---- no failure
 
@@ -82,14 +93,21 @@ begun_in h own read = record (created counted h.salt) {
   });
 }
 
-record Appends (h : WithoutFailure) (w : World) : Type 0 where
-  after : EndsWith w (then_on h) (without h.name (h.first ∷ h.second ∷ [])) (h.name ∷ []) (one_run h)
-  left : IsLeft (after_all w (then_on h)).folder.named (both_written h)
+-- the same after the first order, and after the second one
+abbrev replaced_in : WithoutFailure → World
+replaced_in h = after_all (begun_in h h.salt []) (orders (h.first ∷ []) false ∷ calls_before [] 8)
+
+abbrev the_process : WithoutFailure → Option Process → Process
+the_process h None = opened_by 65536 h.config [] []
+the_process h (Some p) = p
+
+abbrev OneRun : WithoutFailure → World → Type 0
+OneRun h w = Ended (without h.name (h.first ∷ h.second ∷ [])) (h.name ∷ []) (one_run h) w × IsLeft w.folder.named (both_written h)
 
 alone : (r : Reservation) → IsReservation r → All IsReservation (r ∷ [])
 alone r is = All-cons IsReservation r [] is (All-nil IsReservation)
 
-appends_so : (h : WithoutFailure) → Appends h (begun_in h h.salt [])
+appends_so : (h : WithoutFailure) → Leads (begun_in h h.salt []) (then_on h) (OneRun h)
 appends_so h =
     let file : List ℕ = file_of h.salt (h.first ∷ []) in
     let gap : List ℕ = replicate 3904 0 in
@@ -106,20 +124,16 @@ appends_so h =
       is = sym (append-nil octets);
       at = omega (arith, length-append file gap, size, length-replicate {A = ℕ} 3904 0);
     } in
-    record {
-      after = record {
-        can = (
-          (refl, alone h.first h.is_first),
-          (tt, (tt, (tt, (tt, (tt, (tt, (tt, (tt, ((refl, alone h.second h.is_second), (tt, (tt, (tt, ((1, omega arith, refl), (tt, (refl, (omega arith, tt)))))))))))))))),
-        );
-        told = refl;
-        gone = refl;
-        past = refl;
-      };
-      left = All-append (Stands octets) _ (more ∷ [])
-          (All-filter (is_apart more) (Stands octets) (whole ∷ []) (All-cons (Stands octets) whole [] first (All-nil (Stands octets))))
-          (All-cons (Stands octets) more [] second (All-nil (Stands octets)));
-    }
+    let left = All-append (Stands octets) (apart_from more (whole ∷ [])) (more ∷ [])
+    (All-filter (is_apart more) (Stands octets) (whole ∷ []) (All-cons (Stands octets) whole [] first (All-nil (Stands octets))))
+    (All-cons (Stands octets) more [] second (All-nil (Stands octets))) in
+    let w : World = replaced_in h in
+    let p : Process = the_process h w.now in
+    let so = order_leads w p (h.second ∷ []) false (calls_before (reports h.second ∷ takes h.input ∷ lets_go h.name ∷ ends 0 ∷ []) 3) (OneRun h) refl
+    (alone h.second h.is_second)
+    (ap (λ (b : Bool). not (fits 65536 (1 + length (if not (b || false) then h.second ∷ [] else [])))) h.differ)
+    (record { can = (tt, (tt, (tt, ((1, omega arith, refl), (tt, (refl, (omega arith, tt))))))); leads = ((refl, refl, refl), left) }) in
+    record { can = ((refl, alone h.first h.is_first), (tt, (tt, (tt, (tt, (tt, (tt, (tt, (tt, so.can))))))))); leads = so.leads }
 
 -- a new journal, and nothing after it
 new_left : (salt : List ℕ) → IsLeft (created counted salt).folder.named (file_of salt [])
@@ -131,24 +145,24 @@ nothing_read : (h : WithoutFailure) → read_in (file_of h.salt []) ≡ []
 nothing_read h = file_read h.salt [] h.long (omega arith) (All-nil IsReservation)
 
 -- it is read as it was created
-appends : (h : WithoutFailure) → Appends h (begun_in h (salt_of (file_of h.salt [])) (read_in (file_of h.salt [])))
+appends : (h : WithoutFailure) → Leads (begun_in h (salt_of (file_of h.salt [])) (read_in (file_of h.salt []))) (then_on h) (OneRun h)
 appends h =
     let octets : List ℕ = file_of h.salt [] in
     let own : salt_of octets ≡ h.salt =
     ((whole_guards h.salt [] [] h.long (omega arith) (All-nil IsReservation) (λ n. omega arith)).keeps octets (new_left h.salt)).same in
-    subst (λ (salt : List ℕ). Appends h (begun_in h salt (read_in octets))) (sym own)
-    (subst (λ (read : List Reservation). Appends h (begun_in h h.salt read)) (sym (nothing_read h)) (appends_so h))
+    subst (λ (salt : List ℕ). Leads (begun_in h salt (read_in octets)) (then_on h) (OneRun h)) (sym own)
+    (subst (λ (read : List Reservation). Leads (begun_in h h.salt read) (then_on h) (OneRun h)) (sym (nothing_read h)) (appends_so h))
 
 pub can_happen_so : CanHappenSo
 can_happen_so = record {
-  fails = λ h. ordered_so h (created h.form h.salt) _ (three_runs h) h.left (fails h);
+  fails = λ h. let so = fails h in record { can = so.can; told = so.leads.0; gone = so.leads.1; past = so.leads.2 };
   appends = λ h.
-      let so = (appends h).after in
+      let so = appends h in
       record {
         can = ((inl (new_left h.salt), h.small, ap (λ rs. fits 65536 (length (reduced rs))) (nothing_read h)), so.can);
-        told = so.told;
-        gone = so.gone;
-        past = so.past;
+        told = so.leads.0.0;
+        gone = so.leads.0.1;
+        past = so.leads.0.2;
       };
-  leaves = λ h. (appends h).left;
+  leaves = λ h. (appends h).leads.1;
 }

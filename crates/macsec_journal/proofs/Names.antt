@@ -1,6 +1,6 @@
 -- How many entries there are of names that a table has.
 use Rattle.std.proofs.{
-  Common.{◌≡◌, ◌≢◌, ℕ, ◌+◌, ◌≤◌, Bool, true, false, List, [], ◌∷◌, ◌++◌, length, map, max, refl, ap, sym, subst, ◌∙◌, arith, All, AllPairs},
+  Common.{◌≡◌, ◌≢◌, ℕ, ◌+◌, ◌≤◌, Bool, true, false, List, [], ◌∷◌, ◌++◌, length, map, max, refl, ap, sym, ◌∙◌, arith, All},
   Common.{if◌then◌else◌, not, ◌||◌},
   lemmas.{
     List.Elements.{All-append, All-cons, All-head, All-map, All-nil, All-tail, All-weaker},

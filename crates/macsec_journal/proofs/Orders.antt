@@ -3,7 +3,7 @@ use Rattle.std.proofs.{Common.{◌≡◌, Bool, false, true, ◌||◌, if◌then
 use Rattle.macsec_reserve.specs.{Entries.with_all, declared.reservation.Reservation.Reservation}
 use Rattle.macsec_journal.specs.{
   Laws.{CarriesOut, IsCarriedOut, append_calls, replacement_calls},
-  Machine.{Journal, appending, ends_behind_limit, ordering, replacing, with_order},
+  Machine.{Journal, appending, ends_behind_limit, replacing},
   declared.step.Step.Step,
 }
 

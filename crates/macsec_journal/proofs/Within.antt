@@ -1,13 +1,13 @@
 -- What is written ends within the limit of the file.
 use Rattle.std.proofs.{
-  Common.{◌≡◌, ℕ, ◌+◌, ◌*◌, ◌/◌, ◌^◌, ◌<◌, ◌≤◌, Bool, true, false, List, [], ◌∷◌, ◌++◌, length, refl, ap, sym, subst, ◌∙◌, arith, All},
+  Common.{◌≡◌, ℕ, ◌+◌, ◌*◌, ◌/◌, ◌^◌, ◌<◌, ◌≤◌, Bool, true, false, List, [], length, refl, ap, sym, subst, ◌∙◌, arith, All},
   Common.{if◌then◌else◌, ◌||◌, append-nil, lt-ltb, ltb-false, nat_lt, not},
   lemmas.{Bool.{and_from, or_parts}, List.Elements.{All-cons, All-nil}},
 }
 use Rattle.macsec_gcm.specs.Octets.{same_octets}
 use Rattle.macsec_reserve.{proofs.Reduced.reduces, specs.{Crashes.IsReservation, Entries.reduced, declared.reservation.Reservation.Reservation}}
 use Rattle.macsec_journal.proofs.{
-  Counts.{all_fit, fewer, fits_so},
+  Counts.{all_fit, fewer, order_fits},
   Going.{AreApart, apart_is_reduced},
   Names.names_fit,
   Pieces.{file_long, twice_long, whole_guards},
@@ -15,11 +15,11 @@ use Rattle.macsec_journal.proofs.{
   Written.file_read,
 }
 use Rattle.macsec_journal.specs.{
-  Disk.{Folder, Stands, end_of},
-  Format.{copy_length, file_of, fits, read_in, twice},
+  Disk.{Folder, Stands},
+  Format.{copy_length, fits, read_in, twice},
   Laws.{AppendsWithin, WritesWithin},
   Machine.{Journal, answered, appending, ends_behind_limit, letting_go, ordering, replacing, whole},
-  Machine.{with_order, without},
+  Machine.{is_full, is_replaced, new_among, with_order, without},
   declared.step.Step.{
     Step,
     TheVariants.{Resting, Appending, Syncing, LookingAfter, LookingBefore, Removing, Creating, Locking, Filling},
@@ -55,7 +55,7 @@ pub answer_within : (ok : Bool) (j : Journal) → IsWithin j → IsWithin (answe
 answer_within true j it = goes_within j.step j it
 answer_within false j it = (it.0, tt)
 
-order_in : (rs : List Reservation) (anew : Bool) (j : Journal) → length j.table + length rs + 1 < j.limit / 64 → (b : Bool) → (j.doubt || (anew || ends_behind_limit rs j)) ≡ b →
+order_in : (rs : List Reservation) (anew : Bool) (j : Journal) → length j.table + length (new_among j.table rs) + 1 < j.limit / 64 → (b : Bool) → (j.doubt || (anew || ends_behind_limit rs j)) ≡ b →
     IsWithin (if b then replacing rs j else appending rs j)
 order_in rs anew j fit true is = (omega (arith, fit, all_fit rs j.table), tt)
 order_in rs anew j fit false is =
@@ -63,14 +63,12 @@ order_in rs anew j fit false is =
     let near : ends_behind_limit rs j ≡ false = (or_parts anew (ends_behind_limit rs j) rest.1).1 in
     (omega (arith, fit, all_fit rs j.table), ltb-false j.limit (j.end + 2 * copy_length (length rs)) near)
 
-order_unless : (rs : List Reservation) (anew : Bool) (j : Journal) → IsWithin j → (fit : Bool) → fits j.limit (length j.table + length rs) ≡ fit →
-    IsWithin (if not fit then j else with_order rs anew j)
-order_unless rs anew j it true is =
-    order_in rs anew j (fits_so j.limit (length j.table + length rs) is).file (j.doubt || (anew || ends_behind_limit rs j)) refl
-order_unless rs anew j it false is = it
+order_unless : (rs : List Reservation) (anew : Bool) (j : Journal) → IsWithin j → (full : Bool) → is_full rs j ≡ full → IsWithin (if full then j else with_order rs anew j)
+order_unless rs anew j it false is = order_in rs anew j (order_fits rs j is).file (is_replaced rs anew j) refl
+order_unless rs anew j it true is = it
 
 pub order_within : (rs : List Reservation) (anew : Bool) (j : Journal) → IsWithin j → IsWithin (ordering rs anew j)
-order_within rs anew j it = order_unless rs anew j it (fits j.limit (length j.table + length rs)) refl
+order_within rs anew j it = order_unless rs anew j it (is_full rs j) refl
 
 pub go_within : (name : List ℕ) (j : Journal) → j.step ≡ Resting → IsWithin j → IsWithin (letting_go name j)
 go_within name j rests it =

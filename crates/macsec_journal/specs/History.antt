@@ -1,12 +1,13 @@
 -- Two histories that can happen, and what is left of them. So a world keeps what happens in it, and the laws are not about nothing.
 use Rattle.std.specs.Prelude.{◌≡◌, ◌<◌, ℕ, zero, suc, List, [], ◌∷◌, ◌++◌, length, replicate, true, false}
 use Rattle.std.specs.List.{All}
+use Rattle.macsec_gcm.specs.Octets.{same_octets}
 use Rattle.macsec_commands.specs.declared.config.EndConfig.{EndConfig}
 use Rattle.macsec_secy.specs.Step.{Input}
 use Rattle.macsec_reserve.specs.declared.reservation.Reservation.{Reservation}
 use Rattle.macsec_reserve.specs.Crashes.{IsReservation}
 use Rattle.macsec_reserve.specs.Entries.{reduced, with_all}
-use Rattle.macsec_reserve.specs.Keeping.{KeepingInput, endpoint_input, now_durable}
+use Rattle.macsec_reserve.specs.Keeping.{endpoint_input, now_durable}
 use Rattle.macsec_journal.specs.Disk.{IsLeft}
 use Rattle.macsec_journal.specs.Format.{file_of, fits, read_in, twice}
 use Rattle.macsec_journal.specs.Machine.{begun, for_endpoint, is_full, replacing, without}
@@ -69,6 +70,7 @@ pub record WithoutFailure : Type 0 where
   pub small : All (λ x. x < 256) (file_of salt [])
   pub is_first : IsReservation first
   pub is_second : IsReservation second
+  pub differ : same_octets first.name second.name ≡ false
 
 -- it orders the first record: the file is replaced. It orders the second record, which is appended, and reports it to its
 -- endpoint. The endpoint gets an input. The process lets the name go, and is killed
