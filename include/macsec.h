@@ -933,8 +933,8 @@ uint32_t macsec_journal_record(macsec_journal *j, size_t place, macsec_record *o
  * MACSEC_E_JOURNAL_BUSY as for macsec_journal_order. */
 uint32_t macsec_journal_let_go(macsec_journal *j, const uint8_t name[32]);
 
-/* The record with this name and number: a program can keep numbers of its own in a journal, under names that no key has.
- * Returns MACSEC_OK. */
+/* The record with this name and number: a program can keep numbers of its own in a journal, under names that no key
+ * has. Returns MACSEC_OK. */
 uint32_t macsec_journal_noted(const uint8_t name[32], uint64_t number, macsec_record *out);
 
 uint32_t macsec_journal_whole_raw(macsec_journal *j, uint8_t *out, size_t length, size_t *written);

@@ -19,8 +19,8 @@
 //! each, with the answers of `macsec_send_raw` and `macsec_receive_raw`; the frame of the answer is what the slot's job
 //! makes, once, under the key of the plan. This holds for every slot and key that is given to a call.
 //!
-//! A journal as a file has a handle too (`specs/HeldJournals.antt`). An order, an answer and a name that is let go are one
-//! step each of the machine of `macsec_journal`, or are refused and change nothing.
+//! A journal as a file has a handle too (`specs/HeldJournals.antt`). An order, an answer and a name that is let go are
+//! one step each of the machine of `macsec_journal`, or are refused and change nothing.
 //!
 //! `macsec_seal_raw` has no handle: it seals a frame for a test as `protect_in_place` would, whatever its SecTAG is
 //! (`specs/Sealing.antt` of `macsec_c_calls`).

@@ -1,5 +1,5 @@
 -- The calls with a journal that is a file, over its machine.
-use Rattle.std.specs.Prelude.{◌≡◌, ℕ, ◌/◌, ◌%◌, nat_eq, nat_lt, List, [], ◌++◌, drop, length, replicate, Bool, true, false, not, ◌&&◌, if◌then◌else◌, Result, Ok, Err}
+use Rattle.std.specs.Prelude.{◌≡◌, ℕ, ◌/◌, ◌%◌, nat_eq, nat_lt, List, [], length, replicate, Bool, true, false, not, ◌&&◌, if◌then◌else◌, Result, Ok, Err}
 use Rattle.macsec_commands.specs.declared.fault.NewFault.TheVariants as fault
 use Rattle.macsec_reserve.specs.Entries.{reduced}
 use Rattle.macsec_reserve.specs.Journal.{record_length, reservations}
