@@ -65,24 +65,30 @@ module _ (X : Handle) where
 
   module _ {M : Type 1} {𝓤 : Ura M} {𝓛 : Logic 𝓤} {K : Type 0} {Γ : List (Item 𝓤)} {G : Goal 𝓤 𝓛.H} where
     -- a handle is made of its pointer and what it owns
-    pub made : K → (p : Ptr) (s : Option X.held.Denot) → Step K 𝓛 (‵ (handle.own_val (X.of p s) (word p ∷ [])) ∷ Γ) G (‵ (owned X.held p s) ∷ Γ) G
-    made t p s = step (λ k. let Owns : Ptr → Option X.held.Denot → Fml = λ q z. fsep (Fields q (word p ∷ [])) (owned X.held q z) in
-        nothing t $ feq_i t (List Val) (ptr_val p ∷ []) (ptr_val p ∷ []) refl $ fjoin t $ feq_i t (List Val) (word p ∷ []) (word p ∷ []) refl $ fjoin t $
+    pub made : K → (p : Ptr) (s : Option X.held.Denot) → Step K 𝓛 (‵ (handle.own_val (X.of p s) (word p ∷ [])) ∷ Γ) G
+        (‵ (owned X.held p s) ∷ Γ) G
+    made t p s = step (λ k. let Owns : Ptr → Option X.held.Denot → Fml = λ q z. fsep (Fields q (word p ∷ []))
+        (owned X.held q z) in
+        nothing t $ feq_i t (List Val) (ptr_val p ∷ []) (ptr_val p ∷ []) refl $ fjoin t $ feq_i t (List Val)
+        (word p ∷ []) (word p ∷ []) refl $ fjoin t $
         fpack t (Valss (RawPtr ∷ [])) (within (shape type) (p, tt) (word p ∷ [])) (ptr_val p ∷ [], tt) $ fjoin t $
-        rewrite t 0 (λ (q : Ptr). ‵ (Owns q s)) (sym (X.at_of p s)) refl $ rewrite t 0 (λ (z : Option X.held.Denot). ‵ (Owns (X.at (X.of p s)) z)) (sym (X.state_of p s)) refl $ k)
+        rewrite t 0 (λ (q : Ptr). ‵ (Owns q s)) (sym (X.at_of p s)) refl $ rewrite t 0
+        (λ (z : Option X.held.Denot). ‵ (Owns (X.at (X.of p s)) z)) (sym (X.state_of p s)) refl $ k)
 
   -- ---- threads
   module _ (held_send : IsSend X.held) where
     keyless : (p : Ptr) (s : Option X.held.Denot) → Keyless (owned X.held p s)
     keyless p None = tt
-    keyless (block_ptr b o) (Some s) = (part_keyless X.held held_send full_share s b o, frees.frees heap (raw (lone X.held.mir)) (block_ptr b o))
+    keyless (block_ptr b o) (Some s) =
+        (part_keyless X.held held_send full_share s b o, frees.frees heap (raw (lone X.held.mir)) (block_ptr b o))
     keyless null_ptr (Some s) = (tt, frees.frees heap (raw (lone X.held.mir)) null_ptr)
 
     -- a handle may go to another thread: what it owns means the same in every thread
     pub sends : IsSend handle
     sends =
         let ps : IsSend RawPtr = plain_send _ _ _ _ _ in
-        owning_send type (ps, tt) (λ d. keyless (X.at d) (X.state d)) (λ k. quiet (to type) (exits_of k (fields type)) ((struct_send (shape type) (ps, tt)).leaving k))
+        owning_send type (ps, tt) (λ d. keyless (X.at d) (X.state d)) (λ k. quiet (to type) (exits_of k (fields type))
+        ((struct_send (shape type) (ps, tt)).leaving k))
 
   -- ---- the code of a method
   -- the pointer behind `self`, and the types of `self` and of a `&mut` to what the handle holds

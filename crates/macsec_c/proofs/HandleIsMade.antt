@@ -20,12 +20,19 @@ module _ (X : Handle) where
 
   abbrev function : m.Fn
   function = fn_of 1 (kept m.ty_bool ∷ self_type X ∷ kept m.ty_ptr ∷ kept m.ty_bool ∷ [])
-      (m.seq (sets_to 2 (m.copy (self_at X))) (m.seq (m.assign (m.place 3 []) (m.op2 m.ptr_eq (value_of 2) (m.int m.w64 0)))
+      (m.seq (sets_to 2 (m.copy (self_at X))) (m.seq (m.assign (m.place 3 [])
+      (m.op2 m.ptr_eq (value_of 2) (m.int m.w64 0)))
       (m.seq (m.assign (m.place 0 []) (m.op1 m.bit_not (value_of 3))) m.return)))
 
   abbrev ended : Ended
   ended = record {
-    signature = record { lifetimes = 1; outlives = []; params = mut_ref_to (0 ∷ []) tt (plain (λ _. R)) ∷ []; result = plain (λ _. bool) };
+    signature = record {
+      lifetimes = 1;
+      outlives = [];
+      params = mut_ref_to (0 ∷ []) tt (plain (λ _. R)) ∷ [];
+      result =
+          plain (λ _. bool);
+    };
     kept = (yes, tt);
   }
 
@@ -55,8 +62,10 @@ module _ (X : Handle) where
       let Cell = λ (ws : List Val). ‵ (cell_at full_share R.mir ws b o) in
       rewrite ! 2 Cell is_word refl $
       -- [what it owns; what the fields own; the struct's cell; the open borrow, in three entries]
-      use1 𝓛 (given (NullTells (X.at h) (X.state h)) (‵ (owned X.held (X.at h) (X.state h)))) (null_tells 𝓛 X.held (X.at h) (X.state h)) $ learn ! (λ t.
-      sets ! (of_opd ! (load ! (through ! refl (fld ! refl (stop !))) (look_in ! 2 (sub ! 0 refl (whole !))))) refl ((rawptr_Lawful 𝓛).typed (X.at h) (ptr_val (X.at h) ∷ []) refl).0 $
+      use1 𝓛 (given (NullTells (X.at h) (X.state h)) (‵ (owned X.held (X.at h) (X.state h))))
+      (null_tells 𝓛 X.held (X.at h) (X.state h)) $ learn ! (λ t.
+      sets ! (of_opd ! (load ! (through ! refl (fld ! refl (stop !))) (look_in ! 2 (sub ! 0 refl (whole !))))) refl
+      ((rawptr_Lawful 𝓛).typed (X.at h) (ptr_val (X.at h) ∷ []) refl).0 $
       sets ! (bin ! (get ! refl) (lit ! tt) (tests_null (X.at h) t.testable)) refl (tt, tt) $
       sets ! (un ! (get ! refl) tt) refl (tt, tt) $
       rewrite ! 2 Cell (sym is_word) refl $
@@ -66,5 +75,6 @@ module _ (X : Handle) where
       let r = not (ptr_same (ptr_val (X.at h)) vnull) in
       returns ! (look_at ! 0 refl) $ free_all ! refl $ move ! (3 ∷ []) $
       suffices ! _ (ends_at 𝓛 ended stayed c y (vbool r) r (h, tt) (tt, tt)) $ says_two ! (t.is, refl) $
-      group ! 3 $ nothing ! $ move ! (1 ∷ 0 ∷ []) $ join ! $ nothing ! $ move ! (2 ∷ 0 ∷ []) $ join ! $ frame ! $ frame ! $
+      group ! 3 $ nothing ! $ move ! (1 ∷ 0 ∷ []) $ join ! $ nothing ! $ move ! (2 ∷ 0 ∷ []) $ join ! $ frame ! $ frame
+      ! $
       feq_i ! _ (vbool r ∷ []) _ refl $ done !)))))

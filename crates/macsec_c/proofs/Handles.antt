@@ -11,13 +11,49 @@ use Rattle.{
 }
 
 abbrev pub endpoint : Handle
-endpoint = record { struct = endpoint_type; held = keeper; at = λ h. h.at; state = λ h. h.state; of = λ p s. record { at = p; state = s }; at_of = λ p s. refl; state_of = λ p s. refl }
+endpoint = record {
+  struct = endpoint_type;
+  held = keeper;
+  at = λ h. h.at;
+  state = λ h. h.state;
+  of = λ p s.
+      record { at = p; state = s };
+  at_of = λ p s. refl;
+  state_of = λ p s. refl;
+}
 
 abbrev pub key : Handle
-key = record { struct = key_type; held = job_key; at = λ h. h.at; state = λ h. h.state; of = λ p s. record { at = p; state = s }; at_of = λ p s. refl; state_of = λ p s. refl }
+key = record {
+  struct = key_type;
+  held = job_key;
+  at = λ h. h.at;
+  state = λ h. h.state;
+  of = λ p s.
+      record { at = p; state = s };
+  at_of = λ p s. refl;
+  state_of = λ p s. refl;
+}
 
 abbrev pub slot : Handle
-slot = record { struct = slot_type; held = job_slot; at = λ h. h.at; state = λ h. h.state; of = λ p s. record { at = p; state = s }; at_of = λ p s. refl; state_of = λ p s. refl }
+slot = record {
+  struct = slot_type;
+  held = job_slot;
+  at = λ h. h.at;
+  state = λ h. h.state;
+  of = λ p s.
+      record { at = p; state = s };
+  at_of = λ p s. refl;
+  state_of = λ p s. refl;
+}
 
 abbrev pub journal : Handle
-journal = record { struct = journal_type; held = open_journal; at = λ h. h.at; state = λ h. h.state; of = λ p s. record { at = p; state = s }; at_of = λ p s. refl; state_of = λ p s. refl }
+journal = record {
+  struct = journal_type;
+  held = open_journal;
+  at = λ h. h.at;
+  state = λ h. h.state;
+  of = λ p s.
+      record { at = p; state = s };
+  at_of = λ p s. refl;
+  state_of = λ p s. refl;
+}

@@ -8,7 +8,8 @@ use Rattle.macsec_c_calls.specs.Statuses.{empty_status}
 use Rattle.macsec_c_calls.specs.Writing.{Answers}
 
 -- the endpoint answers line n with this text by `r`, and the call reports that
-pub record IsAnswered (e : Ahead) (n : ℕ) (text before : List ℕ) (r : Answered) (status : ℕ) (after : Written) (left : Ahead) : Type 0 where
+pub record IsAnswered (e : Ahead) (n : ℕ) (text before : List ℕ) (r : Answered) (status : ℕ) (after : Written)
+    (left : Ahead) : Type 0 where
   pub answer : Answers e n text before r after.0 left
   pub status_is : status ≡ status_of_ending r.ending
   pub length_is : after.1 ≡ r.length

@@ -1,5 +1,5 @@
--- What the calls of a handle return, given the outputs of its endpoint. The endpoint is the machine of `macsec_ahead`, which
--- without a journal is the machine. A command takes its step in the machine that forgets retired keys.
+-- What the calls of a handle return, given the outputs of its endpoint. The endpoint is the machine of `macsec_ahead`,
+-- which without a journal is the machine. A command takes its step in the machine that forgets retired keys.
 use Rattle.std.specs.Prelude.{◌≡◌, ℕ, List, Bool, true, false, Option, Some, None, Ok, Err, option_map}
 use Rattle.macsec_commands.specs.declared.command.Command.{Command}
 use Rattle.macsec_commands.specs.declared.config.EndConfig.{EndConfig}
@@ -20,7 +20,8 @@ use Rattle.macsec_c_calls.specs.ReceivedParts.{parts_of_ahead as received_of}
 use Rattle.macsec_c_calls.specs.Reserving.{reported as reported_to}
 use Rattle.macsec_c_calls.specs.SentParts.{SentParts, unsent}
 use Rattle.macsec_c_calls.specs.SentParts.{parts_of_ahead as sent_of}
-use Rattle.macsec_c_calls.specs.Statuses.{done_status, empty_status, not_journal_status, taken_status, status_of_argument_fault, status_of_new_fault}
+use Rattle.macsec_c_calls.specs.Statuses.{done_status, empty_status, not_journal_status, taken_status}
+use Rattle.macsec_c_calls.specs.Statuses.{status_of_argument_fault, status_of_new_fault}
 
 -- what a handle holds after an input that is not a command
 abbrev pub after_input : Option Ahead → Input → Option Ahead
@@ -45,8 +46,8 @@ abbrev pub reported : Option Ahead → List Reservation → ℕ × Option Ahead
 reported None read = (empty_status, None)
 reported (Some e) read = held_after (reported_to e read)
 
--- the status of creating this endpoint, and what the handle holds after it: the fault of the configuration if it has one,
--- else the endpoint, or out of memory
+-- the status of creating this endpoint, and what the handle holds after it: the fault of the configuration if it has
+-- one, else the endpoint, or out of memory
 abbrev pub MakesInto : Option NewFault → Ahead → ℕ → Option Ahead → Type 0
 MakesInto (Some f) made status after = (status ≡ status_of_new_fault f) × (after ≡ None)
 MakesInto None made status (Some e) = (status ≡ done_status) × (e ≡ made)
@@ -61,7 +62,8 @@ Makes None (Ok config) status after = MakesInto (config_fault config) (alone_wit
 -- the same for an endpoint with these octets, if they are a journal; it reserves ahead of receiving, or not
 abbrev pub MakesBeside : Bool → Bool → EndConfig → List ℕ → ℕ → Option Ahead → Type 0
 MakesBeside false ahead config journal status after = (status ≡ not_journal_status) × (after ≡ None)
-MakesBeside true ahead config journal status after = MakesInto (config_fault config) (opened_with ahead config journal) status after
+MakesBeside true ahead config journal status after = MakesInto (config_fault config) (opened_with ahead config journal)
+    status after
 
 abbrev pub Opens : Option Ahead → Bool → Named EndConfig → List ℕ → ℕ → Option Ahead → Type 0
 Opens (Some e) ahead config journal status after = (status ≡ taken_status) × (after ≡ Some e)

@@ -8,10 +8,12 @@ use Rattle.macsec_jobs.specs.Slots.{SlotState, is_idle}
 use Rattle.macsec_c_calls.specs.declared.jobs.Finished.{Finished}
 use Rattle.macsec_c_calls.specs.declared.jobs.Planned.{Planned}
 use Rattle.macsec_c_calls.specs.Arguments.{Named}
-use Rattle.macsec_c_calls.specs.Jobs.{FinishesFrame, OpensWith, PlansToReceive, PlansToSend, SealsWith, parts_of_finished, unplanned}
+use Rattle.macsec_c_calls.specs.Jobs.{FinishesFrame, OpensWith, PlansToReceive, PlansToSend, SealsWith}
+use Rattle.macsec_c_calls.specs.Jobs.{parts_of_finished, unplanned}
 use Rattle.macsec_c_calls.specs.ReceivedParts.{unreceived}
 use Rattle.macsec_c_calls.specs.TakenKeys.{TakesKey}
-use Rattle.macsec_c_calls.specs.Statuses.{done_status, empty_status, status_of_argument_fault, status_of_new_fault, taken_status}
+use Rattle.macsec_c_calls.specs.Statuses.{done_status, empty_status, status_of_argument_fault, status_of_new_fault}
+use Rattle.macsec_c_calls.specs.Statuses.{taken_status}
 use Rattle.macsec_commands.specs.declared.fault.NewFault.TheVariants.{Memory}
 
 -- ---- keys
@@ -60,7 +62,8 @@ SealsHeld None key out written status out_after written_after left =
 SealsHeld (Some s) None out written status out_after written_after left =
     (status ≡ empty_status) × (out_after ≡ out) × (written_after ≡ written) × (left ≡ Some s)
 SealsHeld (Some s) (Some key) out written status out_after written_after None = ⊥
-SealsHeld (Some s) (Some key) out written status out_after written_after (Some left) = SealsWith s key out written status out_after written_after left
+SealsHeld (Some s) (Some key) out written status out_after written_after (Some left) = SealsWith s key out written
+    status out_after written_after left
 
 abbrev pub OpensHeld : Option SlotState → Option PlannedKey → ℕ → Option SlotState → Type 0
 OpensHeld None key status left = (status ≡ empty_status) × (left ≡ None)
@@ -70,9 +73,13 @@ OpensHeld (Some s) (Some key) status (Some left) = OpensWith s key status left
 
 -- ---- receiving
 
-abbrev pub FinishesHeld : Option Ahead → Option SlotState → List ℕ → Finished → List ℕ → Option Ahead → Option SlotState → Type 0
-FinishesHeld None s out result out_after after left = (parts_of_finished result out_after ≡ unreceived empty_status) × (out_after ≡ out) × (after ≡ None) × (left ≡ s)
-FinishesHeld (Some e) None out result out_after after left = (parts_of_finished result out_after ≡ unreceived empty_status) × (out_after ≡ out) × (after ≡ Some e) × (left ≡ None)
+abbrev pub FinishesHeld : Option Ahead → Option SlotState → List ℕ → Finished → List ℕ → Option Ahead → Option SlotState
+    → Type 0
+FinishesHeld None s out result out_after after left = (parts_of_finished result out_after ≡ unreceived empty_status) ×
+    (out_after ≡ out) × (after ≡ None) × (left ≡ s)
+FinishesHeld (Some e) None out result out_after after left = (parts_of_finished result out_after ≡ unreceived
+    empty_status) × (out_after ≡ out) × (after ≡ Some e) × (left ≡ None)
 FinishesHeld (Some e) (Some s) out result out_after None left = ⊥
 FinishesHeld (Some e) (Some s) out result out_after (Some after) None = ⊥
-FinishesHeld (Some e) (Some s) out result out_after (Some after) (Some left) = FinishesFrame e s out result out_after after left
+FinishesHeld (Some e) (Some s) out result out_after (Some after) (Some left) = FinishesFrame e s out result out_after
+    after left

@@ -13,7 +13,8 @@ use Rattle.macsec_c_calls.specs.Statuses.{done_status, empty_status, taken_statu
 abbrev pub BeginsHeld : Option Journal → ℕ → List ℕ → ℕ → Option Journal → Type 0
 BeginsHeld (Some j) limit octets status after = (status ≡ taken_status) × (after ≡ Some j)
 BeginsHeld None limit octets status (Some j) = (status ≡ done_status) × Begins limit octets (Ok j)
-BeginsHeld None limit octets status None = (f : BeginFault) × (status ≡ status_of_begin_fault f) × Begins limit octets (Err f)
+BeginsHeld None limit octets status None = (f : BeginFault) × (status ≡ status_of_begin_fault f) × Begins limit octets
+    (Err f)
 
 -- the status of a change of the journal, and what the handle holds after it
 abbrev pub held_after : ℕ × Journal → ℕ × Option Journal

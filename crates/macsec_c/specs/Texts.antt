@@ -26,4 +26,5 @@ line_commanded (Some e) read = held_after (by_endpoint e read)
 -- the line is read, unless memory runs out, and then carried out
 abbrev pub CommandsLine : Option Ahead → List ℕ → ℕ → Option Ahead → Type 0
 CommandsLine held text status after =
-    (read : Result (Option Command) LineFault) × Reads (line_command text) read × ((status, after) ≡ line_commanded held read)
+    (read : Result (Option Command) LineFault) × Reads (line_command text) read ×
+    ((status, after) ≡ line_commanded held read)

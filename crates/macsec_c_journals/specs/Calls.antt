@@ -1,18 +1,22 @@
 -- The calls with a journal that is a file, over its machine.
-use Rattle.std.specs.Prelude.{◌≡◌, ℕ, ◌/◌, ◌%◌, nat_eq, nat_lt, List, [], length, replicate, Bool, true, false, not, ◌&&◌, if◌then◌else◌, Result, Ok, Err}
+use Rattle.std.specs.Prelude.{◌≡◌, ℕ, ◌/◌, ◌%◌, nat_eq, nat_lt, List, [], length, replicate, Bool, true, false, not}
+use Rattle.std.specs.Prelude.{◌&&◌, if◌then◌else◌, Result, Ok, Err}
 use Rattle.macsec_commands.specs.declared.fault.NewFault.TheVariants as fault
 use Rattle.macsec_reserve.specs.Entries.{reduced}
 use Rattle.macsec_reserve.specs.Journal.{record_length, reservations}
 use Rattle.macsec_journal.specs.declared.step.Step.{Step}
-use Rattle.macsec_journal.specs.declared.step.Step.TheVariants.{Resting, Appending, Syncing, LookingAfter, LookingBefore, Removing}
-use Rattle.macsec_journal.specs.declared.step.Step.TheVariants.{Creating, Locking, Filling, SyncingNew, Renaming, SyncingFolder}
+use Rattle.macsec_journal.specs.declared.step.Step.TheVariants.{Resting, Appending, Syncing, LookingAfter}
+use Rattle.macsec_journal.specs.declared.step.Step.TheVariants.{LookingBefore, Removing}
+use Rattle.macsec_journal.specs.declared.step.Step.TheVariants.{Creating, Locking, Filling, SyncingNew, Renaming}
+use Rattle.macsec_journal.specs.declared.step.Step.TheVariants.{SyncingFolder}
 use Rattle.macsec_journal.specs.declared.writer.BeginFault.{BeginFault}
 use Rattle.macsec_journal.specs.declared.writer.BeginFault.TheVariants.{NotJournal, Damaged, TooLong, Memory}
 use Rattle.macsec_journal.specs.Format.{fits, has_header, is_readable, read_in}
 use Rattle.macsec_journal.specs.Machine.{Journal, appended, begun, is_full, letting_go, ordering, whole, writing_at}
 use Rattle.macsec_c_journals.specs.declared.journals.JournalCall.{JournalCall}
 use Rattle.macsec_c_calls.specs.Reserving.{Written, begun_with}
-use Rattle.macsec_c_calls.specs.Statuses.{done_status, not_journal_status, not_record_status, space_status, status_of_new_fault}
+use Rattle.macsec_c_calls.specs.Statuses.{done_status, not_journal_status, not_record_status, space_status}
+use Rattle.macsec_c_calls.specs.Statuses.{status_of_new_fault}
 use Rattle.macsec_c_journals.specs.Statuses.{journal_busy_status, journal_damaged_status, journal_full_status}
 
 abbrev pub number_of_step : Step → ℕ
@@ -88,8 +92,8 @@ writes Appending j = (appended j).octets
 writes Filling j = (whole j).octets
 writes s j = []
 
--- the status of writing octets to the start of a buffer, and the buffer and their number after it: nothing changes if it has
--- less space
+-- the status of writing octets to the start of a buffer, and the buffer and their number after it: nothing changes if
+-- it has less space
 abbrev pub filled : List ℕ → Written → ℕ × Written
 filled octets before =
     if nat_lt (length before.0) (length octets) then (space_status, before)

@@ -1,6 +1,7 @@
 -- What the disk can do.
 use Rattle.std.proofs.{
-  Common.{◌≡◌, ℕ, ◌%◌, Bool, false, ◌||◌, if◌then◌else◌, List, [], ◌∷◌, ◌++◌, length, nat_le, refl, ap, sym, subst, ◌∙◌, arith, append_assoc, All},
+  Common.{◌≡◌, ℕ, ◌%◌, Bool, false, ◌||◌, if◌then◌else◌, List, [], ◌∷◌, ◌++◌, length, nat_le, refl, ap, sym, subst},
+  Common.{◌∙◌, arith, append_assoc, All},
   lemmas.{Bool.lt-leb, List.Elements.{All-nil, All-weaker}},
 }
 use Rattle.macsec_journal.specs.{
@@ -17,11 +18,14 @@ any_left octets = All-nil (Stands octets)
 -- so a piece with a shared sector is dropped
 near : (p q : Piece) → ShareSector p q → is_apart p q ≡ false
 near p q it =
-    ap (λ (b : Bool). b || nat_le (sector_ceiling (end_of p)) q.at) (lt-leb (end_of q) (sector_floor p.at) (omega (arith, it.in_piece, it.in_other, it.sector)))
+    ap (λ (b : Bool). b || nat_le (sector_ceiling (end_of p)) q.at) (lt-leb (end_of q) (sector_floor p.at)
+    (omega (arith, it.in_piece, it.in_other, it.sector)))
     ∙ lt-leb (sector_ceiling (end_of p)) q.at (omega (arith, it.in_piece, it.in_other, it.sector))
 
-dropped : (p q : Piece) → ShareSector p q → (octets : List ℕ) → All (Stands octets) (if is_apart p q then q ∷ [] else [])
-dropped p q it octets = subst (λ (b : Bool). All (Stands octets) (if b then q ∷ [] else [])) (sym (near p q it)) (any_left octets)
+dropped : (p q : Piece) → ShareSector p q → (octets : List ℕ) → All (Stands octets)
+    (if is_apart p q then q ∷ [] else [])
+dropped p q it octets = subst (λ (b : Bool). All (Stands octets) (if b then q ∷ [] else [])) (sym (near p q it))
+    (any_left octets)
 
 more_follows : (octets more : List ℕ) (p : Piece) → Stands octets p → Stands (octets ++ more) p
 more_follows octets more p it = record {
@@ -31,7 +35,8 @@ more_follows octets more p it = record {
   at = it.at;
 }
 
-sector_damaged : (before was now behind : List ℕ) → length before % 4096 ≡ 0 → length was ≡ 4096 → length now ≡ 4096 → IsDamaged (before ++ was ++ behind) (before ++ now ++ behind)
+sector_damaged : (before was now behind : List ℕ) → length before % 4096 ≡ 0 → length was ≡ 4096 → length now ≡ 4096 →
+    IsDamaged (before ++ was ++ behind) (before ++ now ++ behind)
 sector_damaged before was now behind sector was_long now_long = record {
   before = before;
   was = was;
@@ -51,7 +56,8 @@ can_harm = record {
   forgets = λ j f. any_left;
   ends = λ j f. any_left;
   reads = λ j f. any_left (appended (at_call Appending j)).octets;
-  follows = λ f octets more left. All-weaker (Stands octets) (Stands (octets ++ more)) (more_follows octets more) f.firm left;
+  follows = λ f octets more left. All-weaker (Stands octets) (Stands (octets ++ more)) (more_follows octets more) f.firm
+      left;
   leads_back = λ j f. refl;
   leads_back_later = λ j f. refl;
   renames = λ j f. (1, omega arith, refl);

@@ -1,6 +1,7 @@
 -- Histories that can happen.
 use Rattle.std.proofs.{
-  Common.{◌≡◌, ◌+◌, ℕ, inl, Bool, true, false, if◌then◌else◌, not, ◌||◌, List, [], ◌∷◌, ◌++◌, length, replicate, None, Option, Some, refl, ap, sym, subst},
+  Common.{◌≡◌, ◌+◌, ℕ, inl, Bool, true, false, if◌then◌else◌, not, ◌||◌, List, [], ◌∷◌, ◌++◌, length, replicate, None},
+  Common.{Option, Some, refl, ap, sym, subst},
   Common.{All, append-nil, append_assoc, arith, length-append},
   lemmas.List.{Elements.{All-append, All-cons, All-filter, All-nil}, length-replicate},
 }
@@ -17,10 +18,12 @@ use Rattle.macsec_journal.proofs.{
 use Rattle.macsec_journal.specs.{
   Disk.{IsLeft, Piece, Stands, apart_from, is_apart},
   Format.{file_of, fits, read_in, twice},
-  History.{CanHappenSo, WithFailure, WithoutFailure, both_written, calls_before, lost_and_ordered_again, one_run, ordered_again, then_on},
+  History.{CanHappenSo, WithFailure, WithoutFailure, both_written, calls_before, lost_and_ordered_again, one_run},
+  History.{ordered_again, then_on},
   History.three_runs,
   Machine.{begun, for_endpoint, is_full, with_order, without},
-  World.{Begun, Event, Happen, Process, World, after_all, answers, beginning, begins, counted, created, ends, lets_go, opened_by, opens, orders},
+  World.{Begun, Event, Happen, Process, World, after_all, answers, beginning, begins, counted, created, ends, lets_go},
+  World.{opened_by, opens, orders},
   World.{reports, takes},
   declared.step.{Step.TheVariants.Resting, Told.TheVariants.Nothing},
 }
@@ -34,11 +37,18 @@ abbrev Ended : List Reservation → List (List ℕ) → List Begun → World →
 Ended durable names runs w = (w.told ≡ durable) × (w.gone ≡ names) × (w.past ≡ runs)
 
 -- an order that is not refused
-order_leads : (w : World) (p : Process) (rs : List Reservation) (anew : Bool) (rest : List Event) (P : World → Type 0) → p.journal.step ≡ Resting → All IsReservation rs →
-    is_full rs p.journal ≡ false → Leads (record w { now = Some (record p { journal = with_order rs anew p.journal; asked = p.asked ++ rs }) }) rest P →
+order_leads : (w : World) (p : Process) (rs : List Reservation) (anew : Bool) (rest : List Event) (P : World → Type 0) →
+    p.journal.step ≡ Resting → All IsReservation rs →
+    is_full rs p.journal ≡ false → Leads (record w {
+      now = Some (record p
+          { journal = with_order rs anew p.journal; asked = p.asked ++ rs });
+    }) rest P →
     Leads (record w { now = Some p }) (orders rs anew ∷ rest) P
 order_leads w p rs anew rest P rests are fits after =
-    let so = subst (λ (full : Bool). Leads (record w { now = Some (record p { journal = if full then p.journal else with_order rs anew p.journal; asked = p.asked ++ rs }) }) rest P)
+    let so = subst (λ (full : Bool). Leads (record w {
+      now = Some (record p
+          { journal = if full then p.journal else with_order rs anew p.journal; asked = p.asked ++ rs });
+    }) rest P)
     (sym fits) after in
     record { can = ((rests, are), so.can); leads = so.leads }
 
@@ -47,28 +57,39 @@ order_leads w p rs anew rest P rests are fits after =
 -- a world in which a process has begun and ordered
 abbrev ordered_in : World → WithFailure → World
 ordered_in w h = record w {
-  now = Some (record (opened_by h.limit h.config h.octets w.gone) { journal = with_order h.rs true (begun h.limit h.octets); asked = read_in h.octets ++ h.rs });
+  now = Some (record (opened_by h.limit h.config h.octets w.gone) {
+    journal = with_order h.rs true
+        (begun h.limit h.octets);
+    asked = read_in h.octets ++ h.rs;
+  });
 }
 
 -- the world after the crash
 abbrev crashed : WithFailure → World
-crashed h = after_all (ordered_in (created h.form h.salt) h) (calls_before (answers false ∷ opens h.config ∷ ends 1 ∷ []) 7)
+crashed h =
+    after_all (ordered_in (created h.form h.salt) h) (calls_before (answers false ∷ opens h.config ∷ ends 1 ∷ []) 7)
 
 abbrev ThreeRuns : WithFailure → World → Type 0
 ThreeRuns h w = Ended (with_all (reduced (read_in h.octets)) h.rs) [] (three_runs h) w
 
-ordered_so : (h : WithFailure) (w : World) (rest : List Event) → IsLeft w.folder.named h.octets → Leads (ordered_in w h) rest (ThreeRuns h) →
+ordered_so : (h : WithFailure) (w : World) (rest : List Event) → IsLeft w.folder.named h.octets → Leads (ordered_in w h)
+    rest (ThreeRuns h) →
     Leads (record w { now = None }) (begins h.limit h.config h.octets ∷ orders h.rs true ∷ rest) (ThreeRuns h)
 ordered_so h w rest left after =
-    let so = order_leads w (opened_by h.limit h.config h.octets w.gone) h.rs true rest (ThreeRuns h) refl h.are h.more after in
+    let so = order_leads w (opened_by h.limit h.config h.octets w.gone) h.rs true rest (ThreeRuns h) refl h.are h.more
+    after in
     record { can = ((inl left, h.small, h.read), so.can); leads = so.leads }
 
 fails : (h : WithFailure) → Leads (created h.form h.salt) (lost_and_ordered_again h) (ThreeRuns h)
 fails h =
     let again = ordered_so h (crashed h) (calls_before (ends 0 ∷ []) 8) h.left
     (record { can = (tt, (tt, (tt, (tt, (tt, (tt, (tt, (tt, (omega arith, tt))))))))); leads = (refl, refl, refl) }) in
-    ordered_so h (created h.form h.salt) (calls_before (answers false ∷ opens h.config ∷ ends 1 ∷ ordered_again h) 7) h.left
-    (record { can = (tt, (tt, (tt, (tt, (tt, (tt, (tt, (tt, (tt, (omega arith, again.can)))))))))); leads = again.leads })
+    ordered_so h (created h.form h.salt) (calls_before (answers false ∷ opens h.config ∷ ends 1 ∷ ordered_again h) 7)
+    h.left
+    (record {
+      can = (tt, (tt, (tt, (tt, (tt, (tt, (tt, (tt, (tt, (omega arith, again.can))))))))));
+      leads = again.leads;
+    })
 
 -- ---- no failure
 
@@ -102,7 +123,8 @@ the_process h None = opened_by 65536 h.config [] []
 the_process h (Some p) = p
 
 abbrev OneRun : WithoutFailure → World → Type 0
-OneRun h w = Ended (without h.name (h.first ∷ h.second ∷ [])) (h.name ∷ []) (one_run h) w × IsLeft w.folder.named (both_written h)
+OneRun h w = Ended (without h.name (h.first ∷ h.second ∷ [])) (h.name ∷ []) (one_run h) w × IsLeft w.folder.named
+    (both_written h)
 
 alone : (r : Reservation) → IsReservation r → All IsReservation (r ∷ [])
 alone r is = All-cons IsReservation r [] is (All-nil IsReservation)
@@ -116,7 +138,13 @@ appends_so h =
     let size : length file ≡ 192 = file_long h.salt (h.first ∷ []) h.long (omega arith) (alone h.first h.is_first) in
     let whole : Piece = record { at = 0; octets = file } in
     let more : Piece = record { at = 4096; octets = own } in
-    let first : Stands octets whole = record { before = []; behind = gap ++ own; is = append_assoc file gap own; at = refl } in
+    let first : Stands octets whole = record {
+      before = [];
+      behind = gap ++ own;
+      is = append_assoc file gap own;
+      at =
+          refl;
+    } in
     let second : Stands octets more =
     record {
       before = file ++ gap;
@@ -125,33 +153,47 @@ appends_so h =
       at = omega (arith, length-append file gap, size, length-replicate {A = ℕ} 3904 0);
     } in
     let left = All-append (Stands octets) (apart_from more (whole ∷ [])) (more ∷ [])
-    (All-filter (is_apart more) (Stands octets) (whole ∷ []) (All-cons (Stands octets) whole [] first (All-nil (Stands octets))))
+    (All-filter (is_apart more) (Stands octets) (whole ∷ []) (All-cons (Stands octets) whole [] first
+    (All-nil (Stands octets))))
     (All-cons (Stands octets) more [] second (All-nil (Stands octets))) in
     let w : World = replaced_in h in
     let p : Process = the_process h w.now in
-    let so = order_leads w p (h.second ∷ []) false (calls_before (reports h.second ∷ takes h.input ∷ lets_go h.name ∷ ends 0 ∷ []) 3) (OneRun h) refl
+    let so = order_leads w p (h.second ∷ []) false (calls_before (reports h.second ∷ takes h.input ∷ lets_go h.name ∷
+    ends 0 ∷ []) 3) (OneRun h) refl
     (alone h.second h.is_second)
     (ap (λ (b : Bool). not (fits 65536 (1 + length (if not (b || false) then h.second ∷ [] else [])))) h.differ)
-    (record { can = (tt, (tt, (tt, ((1, omega arith, refl), (tt, (refl, (omega arith, tt))))))); leads = ((refl, refl, refl), left) }) in
-    record { can = ((refl, alone h.first h.is_first), (tt, (tt, (tt, (tt, (tt, (tt, (tt, (tt, so.can))))))))); leads = so.leads }
+    (record {
+      can = (tt, (tt, (tt, ((1, omega arith, refl), (tt, (refl, (omega arith, tt)))))));
+      leads =
+          ((refl, refl, refl), left);
+    }) in
+    record {
+      can = ((refl, alone h.first h.is_first), (tt, (tt, (tt, (tt, (tt, (tt, (tt, (tt, so.can)))))))));
+      leads =
+          so.leads;
+    }
 
 -- a new journal, and nothing after it
 new_left : (salt : List ℕ) → IsLeft (created counted salt).folder.named (file_of salt [])
 new_left salt =
     let octets : List ℕ = file_of salt [] in
-    All-cons (Stands octets) (record { at = 0; octets = octets }) [] (record { before = []; behind = []; is = sym (append-nil octets); at = refl }) (All-nil (Stands octets))
+    All-cons (Stands octets) (record { at = 0; octets = octets }) [] (record
+    { before = []; behind = []; is = sym (append-nil octets); at = refl }) (All-nil (Stands octets))
 
 nothing_read : (h : WithoutFailure) → read_in (file_of h.salt []) ≡ []
 nothing_read h = file_read h.salt [] h.long (omega arith) (All-nil IsReservation)
 
 -- it is read as it was created
-appends : (h : WithoutFailure) → Leads (begun_in h (salt_of (file_of h.salt [])) (read_in (file_of h.salt []))) (then_on h) (OneRun h)
+appends : (h : WithoutFailure) → Leads (begun_in h (salt_of (file_of h.salt [])) (read_in (file_of h.salt [])))
+    (then_on h) (OneRun h)
 appends h =
     let octets : List ℕ = file_of h.salt [] in
     let own : salt_of octets ≡ h.salt =
-    ((whole_guards h.salt [] [] h.long (omega arith) (All-nil IsReservation) (λ n. omega arith)).keeps octets (new_left h.salt)).same in
+    ((whole_guards h.salt [] [] h.long (omega arith) (All-nil IsReservation) (λ n. omega arith)).keeps octets
+    (new_left h.salt)).same in
     subst (λ (salt : List ℕ). Leads (begun_in h salt (read_in octets)) (then_on h) (OneRun h)) (sym own)
-    (subst (λ (read : List Reservation). Leads (begun_in h h.salt read) (then_on h) (OneRun h)) (sym (nothing_read h)) (appends_so h))
+    (subst (λ (read : List Reservation). Leads (begun_in h h.salt read) (then_on h) (OneRun h)) (sym (nothing_read h))
+    (appends_so h))
 
 pub can_happen_so : CanHappenSo
 can_happen_so = record {

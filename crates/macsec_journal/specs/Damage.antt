@@ -4,8 +4,8 @@ use Rattle.macsec_reserve.specs.Journal.{record_length, reserved_in, salt_of}
 use Rattle.macsec_journal.specs.Disk.{File, IsLeft, sector_length}
 use Rattle.macsec_journal.specs.Format.{counted_octets, entries_digest, has_header, is_readable, slot_of_count}
 
--- the octets of one sector were replaced by any octets. They may be fewer or more by whole records, so that a record is left out
--- or doubled
+-- the octets of one sector were replaced by any octets. They may be fewer or more by whole records, so that a record is
+-- left out or doubled
 pub record IsDamaged (octets damaged : List ℕ) : Type 0 where
   pub before : List ℕ
   pub was : List ℕ
@@ -17,12 +17,13 @@ pub record IsDamaged (octets damaged : List ℕ) : Type 0 where
   pub within : length was ≤ sector_length
   pub records : length now % record_length ≡ length was % record_length
 
--- nothing has the right check by chance: a header that was damaged is none, of either form; a count that was damaged is no record;
--- and entries that were damaged have another digest
+-- nothing has the right check by chance: a header that was damaged is none, of either form; a count that was damaged is
+-- no record; and entries that were damaged have another digest
 pub record IsNoChance (octets damaged : List ℕ) : Type 0 where
   pub header : has_header damaged ≡ true → take record_length damaged ≡ take record_length octets
   pub count : (reserved_in (slot_of_count damaged) ≡ []) ⊎ (slot_of_count damaged ≡ slot_of_count octets)
-  pub entries : entries_digest (salt_of octets) (counted_octets damaged) ≡ entries_digest (salt_of octets) (counted_octets octets) → counted_octets damaged ≡ counted_octets octets
+  pub entries : entries_digest (salt_of octets) (counted_octets damaged) ≡ entries_digest (salt_of octets)
+      (counted_octets octets) → counted_octets damaged ≡ counted_octets octets
 
 -- what a process begins with: what is left with one sector damaged
 pub record IsReadDamaged (f : File) (octets : List ℕ) : Type 0 where

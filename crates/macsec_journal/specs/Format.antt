@@ -1,10 +1,12 @@
--- The file that a process writes: a header, a count of the entries with a digest of them, and the entries. Records that are
--- appended are in it twice, in two sectors. A journal of the earlier form, a header and records, is read too.
-use Rattle.std.specs.Prelude.{ℕ, ◌+◌, ◌-◌, ◌*◌, ◌/◌, ◌^◌, nat_le, nat_lt, List, [], ◌∷◌, ◌++◌, length, take, drop, replicate, slice_range, codes, Bool, false, ◌&&◌, ◌||◌, if◌then◌else◌}
+-- The file that a process writes: a header, a count of the entries with a digest of them, and the entries. Records that
+-- are appended are in it twice, in two sectors. A journal of the earlier form, a header and records, is read too.
+use Rattle.std.specs.Prelude.{ℕ, ◌+◌, ◌-◌, ◌*◌, ◌/◌, ◌^◌, nat_le, nat_lt, List, [], ◌∷◌, ◌++◌, length, take, drop}
+use Rattle.std.specs.Prelude.{replicate, slice_range, codes, Bool, false, ◌&&◌, ◌||◌, if◌then◌else◌}
 use Rattle.sha2.specs.Sha256.{sha256}
 use Rattle.macsec_gcm.specs.Octets.{same_octets}
 use Rattle.macsec_reserve.specs.declared.reservation.Reservation.{Reservation}
-use Rattle.macsec_reserve.specs.Journal.{is_journal, record_length, record_of, records_of, reservations, reserved_in, salt_of}
+use Rattle.macsec_reserve.specs.Journal.{is_journal, record_length, record_of, records_of, reservations, reserved_in}
+use Rattle.macsec_reserve.specs.Journal.{salt_of}
 use Rattle.macsec_journal.specs.Disk.{sector_ceiling}
 
 -- ---- the header
@@ -61,7 +63,8 @@ twice rs = copy_of rs ++ copy_of rs
 -- ---- what is read
 
 abbrev pub has_file_header : List ℕ → Bool
-has_file_header octets = nat_le record_length (length octets) && same_octets (take record_length octets) (file_header (salt_of octets))
+has_file_header octets = nat_le record_length (length octets) && same_octets (take record_length octets)
+    (file_header (salt_of octets))
 
 -- the octets of so many entries
 abbrev pub entries_in : ℕ → List ℕ → List ℕ
@@ -82,7 +85,8 @@ counted_octets octets = counted_by (reserved_in (slot_of_count octets)) octets
 abbrev pub agrees : List Reservation → List ℕ → Bool
 agrees [] octets = false
 agrees (count ∷ more) octets =
-    nat_le count.last ((length octets - front_length) / record_length) && same_octets (entries_digest (salt_of octets) (entries_in count.last octets)) count.name
+    nat_le count.last ((length octets - front_length) / record_length) && same_octets
+    (entries_digest (salt_of octets) (entries_in count.last octets)) count.name
 
 -- the count is a record, and agrees with the entries
 abbrev pub is_whole : List ℕ → Bool

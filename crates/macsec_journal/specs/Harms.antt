@@ -3,7 +3,8 @@ use Rattle.std.specs.Prelude.{◌≡◌, ◌<◌, ◌≤◌, ◌/◌, ◌%◌, �
 use Rattle.macsec_journal.specs.declared.step.Step.{Step}
 use Rattle.macsec_journal.specs.declared.step.Step.TheVariants.{Appending, Syncing, Renaming, SyncingFolder}
 use Rattle.macsec_journal.specs.Damage.{IsDamaged}
-use Rattle.macsec_journal.specs.Disk.{File, Folder, IsLeft, Piece, candidates, empty_file, end_of, folder_left, given_up}
+use Rattle.macsec_journal.specs.Disk.{File, Folder, IsLeft, Piece, candidates, empty_file, end_of, folder_left}
+use Rattle.macsec_journal.specs.Disk.{given_up}
 use Rattle.macsec_journal.specs.Machine.{Journal, appended, call_after}
 
 -- a file that has this piece on the disk, and nothing else
@@ -30,27 +31,35 @@ abbrev pub IsLost : File → Type 0
 IsLost f = (octets : List ℕ) → IsLeft f octets
 
 pub record CanHarm : Type 0 where
-  -- a write that fails can damage each piece of which it touches a sector, and so can one that succeeds, until it is synchronized
-  pub tears : (j : Journal) (f : Folder) (p : Piece) → ShareSector (appended j) p → IsLost (call_after false (at_call Appending j) (with_piece p f)).named
-  pub overwrites : (j : Journal) (f : Folder) (p : Piece) → ShareSector (appended j) p → IsLost (call_after true (at_call Appending j) (with_piece p f)).named
+  -- a write that fails can damage each piece of which it touches a sector, and so can one that succeeds, until it is
+  -- synchronized
+  pub tears : (j : Journal) (f : Folder) (p : Piece) → ShareSector (appended j) p → IsLost
+      (call_after false (at_call Appending j) (with_piece p f)).named
+  pub overwrites : (j : Journal) (f : Folder) (p : Piece) → ShareSector (appended j) p → IsLost
+      (call_after true (at_call Appending j) (with_piece p f)).named
   -- what a failed synchronization left is lost, although a later one succeeds
   pub forgets : (j : Journal) (f : Folder) →
-      IsLost (call_after true (at_call Syncing j) (call_after false (at_call Syncing j) (call_after true (at_call Appending j) (with_empty_file f)))).named
+      IsLost (call_after true (at_call Syncing j) (call_after false (at_call Syncing j)
+      (call_after true (at_call Appending j) (with_empty_file f)))).named
   -- and so is what an earlier process wrote and did not synchronize, although a later process synchronizes the file
   pub ends : (j : Journal) (f : Folder) →
-      IsLost (call_after true (at_call Syncing j) (folder_left 0 (call_after true (at_call Appending j) (with_empty_file f)))).named
+      IsLost (call_after true (at_call Syncing j) (folder_left 0 (call_after true (at_call Appending j)
+      (with_empty_file f)))).named
   -- a process can read what was never on the disk
   pub reads : (j : Journal) (f : Folder) →
-      IsLeft (call_after false (at_call Syncing j) (call_after true (at_call Appending j) (with_empty_file f))).named (appended (at_call Appending j)).octets
+      IsLeft (call_after false (at_call Syncing j) (call_after true (at_call Appending j) (with_empty_file f))).named
+      (appended (at_call Appending j)).octets
   -- any octets can follow the journal
   pub follows : (f : File) (octets more : List ℕ) → IsLeft f octets → IsLeft f (octets ++ more)
   -- a crash leads the name back to the old file, although the folder was synchronized after a failure to do so
   pub leads_back : (j : Journal) (f : Folder) →
-      (folder_left 1 (call_after true (at_call SyncingFolder j) (call_after false (at_call SyncingFolder j) (call_after true (at_call Renaming j) f)))).named
+      (folder_left 1 (call_after true (at_call SyncingFolder j) (call_after false (at_call SyncingFolder j)
+      (call_after true (at_call Renaming j) f)))).named
       ≡ given_up f.named
   -- and again in the next run
   pub leads_back_later : (j : Journal) (f : Folder) →
-      (folder_left 2 (call_after true (at_call SyncingFolder j) (folder_left 0 (call_after true (at_call Renaming j) f)))).named ≡ given_up f.named
+      (folder_left 2 (call_after true (at_call SyncingFolder j) (folder_left 0
+      (call_after true (at_call Renaming j) f)))).named ≡ given_up f.named
   -- a rename that returned an error was done
   pub renames : (j : Journal) (f : Folder) → Contains (candidates (call_after false (at_call Renaming j) f)) f.new
   -- all octets of one sector are others when a process reads them

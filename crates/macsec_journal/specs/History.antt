@@ -1,4 +1,5 @@
--- Two histories that can happen, and what is left of them. So a world keeps what happens in it, and the laws are not about nothing.
+-- Two histories that can happen, and what is left of them. So a world keeps what happens in it, and the laws are not
+-- about nothing.
 use Rattle.std.specs.Prelude.{◌≡◌, ◌<◌, ℕ, zero, suc, List, [], ◌∷◌, ◌++◌, length, replicate, true, false}
 use Rattle.std.specs.List.{All}
 use Rattle.macsec_gcm.specs.Octets.{same_octets}
@@ -11,15 +12,18 @@ use Rattle.macsec_reserve.specs.Keeping.{endpoint_input, now_durable}
 use Rattle.macsec_journal.specs.Disk.{IsLeft}
 use Rattle.macsec_journal.specs.Format.{file_of, fits, read_in, twice}
 use Rattle.macsec_journal.specs.Machine.{begun, for_endpoint, is_full, replacing, without}
-use Rattle.macsec_journal.specs.World.{Begun, Event, Form, Happen, World, after_all, answers, beginning, begins, counted, created, ends, lets_go, opens, orders, reports, takes}
+use Rattle.macsec_journal.specs.World.{Begun, Event, Form, Happen, World, after_all, answers, beginning, begins}
+use Rattle.macsec_journal.specs.World.{counted, created, ends, lets_go, opens, orders, reports, takes}
 
 -- so many calls that succeed, and other events after them
 abbrev pub calls_before : List Event → ℕ → List Event
 calls_before events zero = events
 calls_before events (suc n) = answers true ∷ calls_before events n
 
--- these events can happen. Then these records were shown to be durable, these names were let go, and these runs have ended
-pub record EndsWith (w : World) (events : List Event) (durable : List Reservation) (names : List (List ℕ)) (runs : List Begun) : Type 0 where
+-- these events can happen. Then these records were shown to be durable, these names were let go, and these runs have
+-- ended
+pub record EndsWith (w : World) (events : List Event) (durable : List Reservation) (names : List (List ℕ))
+    (runs : List Begun) : Type 0 where
   pub can : Happen w events
   pub told : (after_all w events).told ≡ durable
   pub gone : (after_all w events).gone ≡ names
@@ -41,14 +45,15 @@ pub record WithFailure : Type 0 where
   pub read : fits limit (length (reduced (read_in octets))) ≡ true
   pub more : is_full rs (begun limit octets) ≡ false
 
--- the last call of a replacement fails, the process opens a further endpoint and is killed, and the name leads back to the old
--- file. The next process orders the same records, and no call fails
+-- the last call of a replacement fails, the process opens a further endpoint and is killed, and the name leads back to
+-- the old file. The next process orders the same records, and no call fails
 abbrev pub ordered_again : WithFailure → List Event
 ordered_again h = begins h.limit h.config h.octets ∷ orders h.rs true ∷ calls_before (ends 0 ∷ []) 8
 
 abbrev pub lost_and_ordered_again : WithFailure → List Event
 lost_and_ordered_again h =
-    begins h.limit h.config h.octets ∷ orders h.rs true ∷ calls_before (answers false ∷ opens h.config ∷ ends 1 ∷ ordered_again h) 7
+    begins h.limit h.config h.octets ∷ orders h.rs true ∷ calls_before
+    (answers false ∷ opens h.config ∷ ends 1 ∷ ordered_again h) 7
 
 -- the further endpoint has read what was ordered, and the others have not
 abbrev pub three_runs : WithFailure → List Begun
@@ -72,12 +77,13 @@ pub record WithoutFailure : Type 0 where
   pub is_second : IsReservation second
   pub differ : same_octets first.name second.name ≡ false
 
--- it orders the first record: the file is replaced. It orders the second record, which is appended, and reports it to its
--- endpoint. The endpoint gets an input. The process lets the name go, and is killed
+-- it orders the first record: the file is replaced. It orders the second record, which is appended, and reports it to
+-- its endpoint. The endpoint gets an input. The process lets the name go, and is killed
 abbrev pub then_on : WithoutFailure → List Event
 then_on h =
     orders (h.first ∷ []) false
-    ∷ calls_before (orders (h.second ∷ []) false ∷ calls_before (reports h.second ∷ takes h.input ∷ lets_go h.name ∷ ends 0 ∷ []) 3) 8
+    ∷ calls_before (orders (h.second ∷ []) false ∷ calls_before (reports h.second ∷ takes h.input ∷ lets_go h.name ∷
+    ends 0 ∷ []) 3) 8
 
 abbrev pub appended_and_let_go : WithoutFailure → List Event
 appended_and_let_go h = begins 65536 h.config (file_of h.salt []) ∷ then_on h
@@ -99,7 +105,10 @@ both_written h = file_of h.salt (h.first ∷ []) ++ replicate 3904 0 ++ twice (h
 
 -- both can happen. After the second one the file can have the octets that were written, and nothing else
 pub record CanHappenSo : Type 0 where
-  pub fails : (h : WithFailure) → EndsWith (created h.form h.salt) (lost_and_ordered_again h) (with_all (reduced (read_in h.octets)) h.rs) [] (three_runs h)
+  pub fails : (h : WithFailure) → EndsWith (created h.form h.salt) (lost_and_ordered_again h)
+      (with_all (reduced (read_in h.octets)) h.rs) [] (three_runs h)
   pub appends : (h : WithoutFailure) →
-      EndsWith (created counted h.salt) (appended_and_let_go h) (without h.name (h.first ∷ h.second ∷ [])) (h.name ∷ []) (one_run h)
-  pub leaves : (h : WithoutFailure) → IsLeft (after_all (created counted h.salt) (appended_and_let_go h)).folder.named (both_written h)
+      EndsWith (created counted h.salt) (appended_and_let_go h) (without h.name (h.first ∷ h.second ∷ [])) (h.name ∷ [])
+      (one_run h)
+  pub leaves : (h : WithoutFailure) → IsLeft (after_all (created counted h.salt) (appended_and_let_go h)).folder.named
+      (both_written h)

@@ -1,4 +1,7 @@
-use Rattle.{std.proofs.Common.{◌≡◌, ◌≤◌, ◌/◌, length, vec_capacity, vec_len}, macsec_reserve.specs.Journal.reserved_within}
+use Rattle.{
+  std.proofs.Common.{◌≡◌, ◌≤◌, ◌/◌, length, vec_capacity, vec_len},
+  macsec_reserve.specs.Journal.reserved_within,
+}
 use Rattle.macsec_c_journals.proofs.journals.read_records.Given as goal
 
 -- the records before the index were read, and there is space for the others

@@ -1,5 +1,9 @@
 -- The buffer has what the writer has written.
-use Rattle.{std.proofs.Common.{ap, ◌∙◌}, macsec_journal.specs.Machine.{Journal, for_endpoint}, macsec_c_journals.specs.Calls.filled}
+use Rattle.{
+  std.proofs.Common.{ap, ◌∙◌},
+  macsec_journal.specs.Machine.{Journal, for_endpoint},
+  macsec_c_journals.specs.Calls.filled,
+}
 use Rattle.macsec_c_journals.proofs.journals.write_for_endpoint.Goals as goal
 
 pub returns-clause-written : goal.returns-clause-written

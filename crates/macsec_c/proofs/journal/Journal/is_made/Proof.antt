@@ -1,5 +1,9 @@
 -- `is_made` says whether the handle holds a journal.
-use Rattle.macsec_c.proofs.{HandleIsMade.is_made, Handles.{journal as handle}, journal.Journal.is_made.Statement.statement}
+use Rattle.macsec_c.proofs.{
+  HandleIsMade.is_made,
+  Handles.{journal as handle},
+  journal.Journal.is_made.Statement.statement,
+}
 use Rattle.macsec_c.specs.contracts.journal.Journal.is_made.Key.{name}
 use Rattle.macsec_c.proofs.journal.Journal.is_made.Code as code
 
