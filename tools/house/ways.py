@@ -41,8 +41,6 @@ WAYS: list[tuple[str, str, str]] = [
     ("stored-runs", "runs are stored", "change COUNT there, or restore the run"),
     ("stored-runs", "", "decide by the rules, then change the code, or the stored text and the page"),
     ("failures", "WRONG", "mend the code; docs/HOSTILE.md says how runs end"),
-    ("fuzz", "promise", "the rules in Python break a promise: python3 fuzz/fuzz.py --seed SEED --only N prints the "
-     "script; decide by docs/LINK.md"),
     ("fuzz", "no input met", "extend fuzz/inputs.py, fuzz/made.py, or for pcapng fuzz/blocks.py"),
     ("fuzz", "input", "python3 fuzz/fuzz.py --seed SEED --only N prints the input: decide by the pages which is wrong"),
     ("readers", "no input ended with status", "extend Corpus.input in fuzz/readers.py"),
