@@ -121,7 +121,7 @@ CHECKS: list[Check] = [
           "libraries without wide planes, or without vectors for them",
           gate=f"{NARROWER}{LIBRARIES}"),
     Check("pages", "runs the examples of the pages, and checks their links", "tools/pages", LIBRARY, 10,
-          "another output, file, table and list, links that lead nowhere", test=f"{BUILT} --library {{shared}}", gate=""),
+          "another output, file, table or list, links to nowhere", test=f"{BUILT} --library {{shared}}", gate=""),
     Check("axioms", "compares what the proofs assume of functions in C with docs/PROVED.md", "tools/axioms", LIBRARY, 1,
           "a list that lacks a contract, one with another contract, another word of a verdict", gate=""),
     Check("packages", "makes the packages and tries them", "tools/dist --check", LIBRARY, 30,
