@@ -278,29 +278,12 @@ class Command(InFolder):
         shown = json.loads(self.config("--lint", text, "--json", status=3).splitlines()[0])
         self.assertEqual((shown["name"], shown["line"], shown["word"]), ("Hex", 2, 4))
 
-    def test_slips(self) -> None:
-        """Each slip is a hint in its place, once, and the status is 0."""
-        good = [FIRST, f"A key 0 {KEYS[0].hex()} 0", f"A key 1 {KEYS[1].hex()} 0", "A txsa 0 0 1 conf", "A txon 0",
-                f"A rxsc {OTHER}", f"A rxsa {OTHER} 0 1 1", f"A rxon {OTHER} 0"]  # fmt: skip
-        made = lint_module
-        for changes, expected in (
-            ({}, []),
-            ({4: f"A key 2 {'5a' * 16} 0\nA txsa 1 0 1 conf\nA txsa 0 2 1 conf", 5: "# none"},
-             [(5, 0, made.NOT_ENABLED_TX % 1)]),
-            ({8: f"A rxoff {OTHER} 0"}, [(7, 0, made.NOT_ENABLED_RX % (OTHER, 0))]),
-            ({7: f"A rxsa {OTHER} 0 0 99"},
-             [(2, 3, made.BOTH_DIRECTIONS % 0), (3, 3, made.UNUSED_KEY % 1), (7, 6, made.DECIMAL_NUMBER % ("99", 99))]),
-            ({7: f"A rxsa {OTHER} 0 1 01"}, []),
-            ({7: f"A rxsa {OTHER} 0 1 012345678"}, []),
-            ({7: f"A rxsa {OTHER} 0 1 9f"}, []),
-            ({4: "A txsa 0 0 10 int"}, [(4, 5, made.DECIMAL_NUMBER % ("10", 10)), (4, 6, made.INTEGRITY_ALONE)]),
-            ({3: f"A key 1 {KEYS[1].hex()} 50"}, [(3, 5, made.READABLE_OCTETS % 50)]),
-        ):  # fmt: skip
-            with self.subTest(changes=changes):
-                text = "\n".join(changes.get(number, it) for number, it in enumerate(good, 1))
-                found = lint(text.encode())
-                self.assertEqual([(it.line, it.word, it.message) for it in found], expected)
-                self.assertEqual(main_of(main, "--lint", self.put("CONFIG", text))[0], 0)
+    def test_what_is_no_slip(self) -> None:
+        """The slips are those of Planted. A packet number that is no decimal one is none."""
+        begun = [FIRST, f"A key 0 {KEYS[0].hex()} 0", f"A key 1 {KEYS[1].hex()} 0", "A txsa 0 0 1 conf", "A txon 0"]
+        for number in ("1", "01", "012345678", "9f"):
+            text = "\n".join([*begun, f"A rxsc {OTHER}", f"A rxsa {OTHER} 0 1 {number}", f"A rxon {OTHER} 0"])
+            self.assertEqual(lint(text.encode()), [], number)
 
     def test_a_text_as_a_whole(self) -> None:
         for text, expected in (
