@@ -1,11 +1,10 @@
-"""The completions that tools/completions writes, in the shells that are installed."""
+"""The completions that tools/completions writes, and what bash offers by them."""
 
 from __future__ import annotations
 
 import os
 import pathlib
 import re
-import shutil
 import subprocess
 import sys
 import tempfile
@@ -93,12 +92,3 @@ class Completions(unittest.TestCase):
                                  function="_" + words[0].replace("-", "_"))  # fmt: skip
             told = subprocess.run(["bash", "-c", script], cwd=self.work, capture_output=True, text=True)
             self.assertEqual((set(told.stdout.split()), told.stderr), (offered, ""), typed)
-
-    @unittest.skipIf(shutil.which("fish") is None, "fish is not installed")
-    def test_fish(self) -> None:
-        for typed, offered in TYPED.items():
-            file = self.folder / "share/fish/vendor_completions.d" / f"{typed.split()[0]}.fish"
-            words = ["fish", "--no-config", "-c", f"source {file}; complete -C '{typed}'"]
-            told = subprocess.run(words, cwd=self.work, capture_output=True, text=True)
-            found = {it.split("\t")[0] for it in told.stdout.splitlines()}
-            self.assertEqual((found, told.stderr), (offered, ""), typed)
