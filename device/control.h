@@ -70,8 +70,7 @@ enum { HANDOVER_WAITS = 50 };
  * associations, which go on with the reservations. Returns NULL, after a message, if it can't be made. */
 macsec_endpoint *handover_begin(struct device *d);
 /* Reserves for the second endpoint, and lets it take over from the first. Returns false, after a message, if no record
- * can be written: then it is freed. If `anyhow`, it takes over even so, and drops frames until there is a reservation.
- */
+ * can be written: then it is freed. If `anyhow`, it takes over even so, and drops frames until it has a reservation. */
 bool handover_take(struct device *d, macsec_endpoint *e, bool anyhow);
 
 /* ---- answers.c: the text of answers, each for a request ---- */
@@ -89,8 +88,7 @@ void answer_link(struct text *t, const struct device *d);
 void answer_json(struct text *t, const struct device *d);
 void answer_metrics(struct text *t, const struct device *d);
 
-/* ---- show.c: the state of the device for people ---- */
-
+/* The state of the device for people: show.c. */
 void answer_show(struct text *t, const struct device *d);
 
 /* ---- requests.c: requests and their answers ---- */
@@ -133,8 +131,7 @@ void waits_client_gone(struct device *d, int client);
 /* ---- control.c: the control socket ---- */
 
 struct control {
-    int listener;
-    int clients[CLIENTS]; /* -1: there is none */
+    int listener, clients[CLIENTS]; /* -1: there is none */
     bool is_root[CLIENTS];
     uint64_t used[CLIENTS]; /* which use of the socket was a client's last one */
     uint64_t uses;

@@ -18,17 +18,14 @@ static void note(struct device *d, const macsec_command *c, bool passes) {
         keys_retire(d->keys, c->key);
         numbers_note_retired(d->numbers, c->key, passes);
         break;
-    case BEGINS_SENDING:
-        numbers_reserve(d->numbers, d->endpoint);
+    case BEGINS:
+        if (c->kind == MACSEC_COMMAND_TX_SA)
+            numbers_reserve(d->numbers, d->endpoint);
+        else
+            numbers_accept(d->numbers, d->endpoint);
         break;
-    case BEGINS_ACCEPTING:
-        numbers_accept(d->numbers, d->endpoint);
-        break;
-    case ENDS_ASSOCIATION:
-        totals_end(&d->totals, c->sci, c->an);
-        break;
-    case ENDS_CHANNEL:
-        totals_end(&d->totals, c->sci, -1);
+    case ENDS:
+        totals_end(&d->totals, c->sci, c->kind == MACSEC_COMMAND_RX_DEL ? c->an : -1);
         break;
     }
 }

@@ -78,7 +78,7 @@ void floods_end(struct device *d) {
 /* Another message comes after so many seconds without such a frame. */
 enum { SILENCE = 60 };
 
-static const char *const texts[DROPS] = {
+static const char *const texts[2] = {
     "frames of LINK are dropped (LinkNoReservation): their packet numbers are not reserved yet. They come faster than "
     "before, or the journal can't be written in time",
     "frames of LINK are dropped (LinkEarlierRun): an earlier run may have delivered them. Somebody has recorded them, "
@@ -86,8 +86,8 @@ static const char *const texts[DROPS] = {
 };
 
 void floods_say(struct device *d) {
-    const uint64_t counts[DROPS] = { d->counts.link_no_reservation, d->counts.link_earlier_run };
-    for (int i = 0; i < DROPS; i++) {
+    const uint64_t counts[2] = { d->counts.link_no_reservation, d->counts.link_earlier_run };
+    for (int i = 0; i < 2; i++) {
         unsigned *silence = &d->floods.silence[i];
         bool more = counts[i] != d->floods.drops[i];
         if (more && *silence == 0)

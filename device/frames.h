@@ -10,11 +10,8 @@
 struct config;
 struct device;
 
-/* The most frames that one call takes from a device or gives to it. */
-enum { BATCH = 64 };
-
-/* How many frames of a direction workers can have. */
-enum { RING = 128 };
+/* The most frames that one call takes from a device or gives to it, and that workers can have of a direction. */
+enum { BATCH = 64, RING = 128 };
 
 /* ---- What the device counts, in addition to the endpoint: macsecctl(8) has a table ---- */
 
@@ -41,8 +38,7 @@ struct received {
 };
 
 struct link {
-    int socket;
-    int index;
+    int socket, index;
     uint32_t mtu;
     uint8_t address[6];
     bool promiscuous;
@@ -164,12 +160,10 @@ int namespace_enter(struct tap *t, const struct config *c, const char *name);
 
 struct rtnetlink {
     int socket;
-    bool lost; /* did the system drop reports since it was asked? */
-    /* A message of rtnetlink about a device has at most this many octets. */
-    _Alignas(uint64_t) char buffer[32768];
+    bool lost;                             /* did the system drop reports since it was asked? */
+    _Alignas(uint64_t) char buffer[32768]; /* as many octets as a message about a device has at most */
 };
 
-/* Opens the socket. */
 int rtnetlink_open(struct device *d);
 /* Gives TAP LINK's carrier. */
 int rtnetlink_begin(struct device *d);
@@ -247,14 +241,13 @@ void held_frames_tick(struct device *d);
 
 /* ---- floods.c: frames of LINK that are dropped ---- */
 
-/* Kinds of frames that are dropped for their packet numbers alone: not reserved yet, or reserved by an earlier run. */
-enum { DROPS = 2 };
-
 struct floods {
     unsigned frames; /* that had no SecTAG or no association, in this second */
     bool filtered;   /* does the system drop such frames? */
-    uint64_t drops[DROPS];
-    unsigned silence[DROPS]; /* for so many seconds no message is made */
+    /* Frames dropped for their numbers alone, unreserved or of an earlier run; and for how many seconds to be silent.
+     */
+    uint64_t drops[2];
+    unsigned silence[2];
 };
 
 void floods_note(struct device *d, uint32_t verdict);

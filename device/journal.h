@@ -8,45 +8,30 @@
  * a journal; numbers.c is the part of macsecd that has one.
  *
  * CREATION   Create a journal when the operator asks for one, and never because journal_open failed: without its
- *            records all packet numbers can be used again. If a journal is lost, install new keys. journal_create does
- *            not replace a file.
+ *            records all packet numbers can be used again. If a journal is lost, install new keys.
  * ONE USER   The file is locked from journal_open to journal_close, so that one process uses it at a time. The lock is
- *            flock: it covers the whole file, and belongs to the open file, as a lock of F_OFD_SETLK does. A lock of
- *            F_SETLK would end when any code of the process closes another descriptor of the file. A child made by fork
- *            shares the lock, and a program started by exec does not. After a fork, only one process may use the
- *            journal and its endpoint. Use a local file system.
- * ENDPOINT   One endpoint at a time sends with a journal, and with `ahead` receives. Two that are made of the same
- *            octets would use the same packet numbers under a key, even in one process. So make the next one of what
- *            journal_whole gives after the last reservation of the one before, which has to be freed or to stay without
- *            associations.
- * DURABLE    When journal_write returns 0, its records are on the disk. Only then report them to the endpoint
- *            (macsec_reserve_granted).
+ *            flock: a child made by fork shares it, and may not use the journal or its endpoint. Use a local file
+ *            system.
+ * ENDPOINT   Make the next one of what journal_whole gives after the last reservation of the one before, which has to
+ *            be freed or to stay without associations.
  * FAILURES   After a failed fdatasync, Linux marks the pages as clean, and the next one can return 0 although nothing
  *            was written. So after a failed call, and at first, since an earlier process may have failed, journal_write
- *            puts a new file in the place of the old one, with all records that were read or given. Until it succeeds,
- *            the endpoint uses up what it has reserved, and then drops its frames (MACSEC_FATE_NO_RESERVATION,
- *            MACSEC_VERDICT_NO_RESERVATION). After a failure, wait a second before the next call.
- * DAMAGE     Records that are appended are in the file twice, in different sectors of 4,096 octets, and the others are
- *            counted. So if one sector is damaged, no record is lost, or journal_open refuses the file
- *            (MACSEC_E_JOURNAL_DAMAGED). Then nobody knows which packet numbers were used: install new keys at both
- *            ends, and create another journal. A crash makes no such damage.
- * NOT SHOWN  Damage of both copies of a record, records that are missing at the end, an older copy of the file, and the
- *            journal of another host are not noticed.
- * CUT        The length of the file is compared with what was written, before and after each append, and by
- *            journal_is_cut. If another program has changed it, journal_write fails (ENODATA). Then, and when
+ *            puts a new file in the place of the old one. Until it succeeds, the endpoint uses up what it has reserved,
+ *            and then drops its frames (MACSEC_FATE_NO_RESERVATION, MACSEC_VERDICT_NO_RESERVATION). After a failure,
+ *            wait a second before the next call.
+ * DAMAGE     If one sector is damaged, no record is lost, or journal_open refuses the file (MACSEC_E_JOURNAL_DAMAGED).
+ *            Then nobody knows which packet numbers were used: install new keys at both ends, and create another
+ *            journal. A crash makes no such damage.
+ * NOT SHOWN  Damage of both copies of a record, records that are missing at the end, an older copy of the file, the
+ *            journal of another host, and a disk that loses what it reported as written are not noticed.
+ * CUT        If another program has changed the length of the file, journal_write fails (ENODATA). Then, and when
  *            journal_is_cut says so, replace the file (`anew`).
- * LENGTH     The file has at most `limit` octets. Names of old keys stay, unless macsec_journal_let_go takes them out.
- *            If one record for each name does not fit, nothing more can be written (MACSEC_E_JOURNAL_FULL): create
- *            another journal, and install new keys. The library compares all names with each other when it reads the
- *            file, and when it makes an endpoint: each takes 0.02 s with 4,000 names, and 0.5 s with 28,000 (x86-64,
- *            an unproved build).
+ * LENGTH     Names of old keys stay, unless macsec_journal_let_go takes them out. If one record for each name does not
+ *            fit into the limit, nothing more can be written (MACSEC_E_JOURNAL_FULL): create another journal, and
+ *            install new keys. A start compares all names with each other: 0.04 s with 4,000, 1 s with 28,000.
  * LEFTOVERS  A new file has the name of the journal with the suffix .new until it is complete. A crash or a failure can
  *            leave one. The next one removes it, but journal_create does not (EEXIST): remove it manually.
- * SECRETS    The journal contains no key. Anyone who can write it can make the endpoint repeat packet numbers. So
- *            journal_open refuses a file that others may read or write (EACCES), and one that belongs neither to this
- *            user nor to the owner of its folder (EPERM).
- * DISK       Not covered: a disk that loses what it reported as written, or alters it where that is not shown; a
- *            restored backup or snapshot; and a second copy of the file in use. Then install new keys.
+ * SECRETS    The journal contains no key. Anyone who can write it can make the endpoint repeat packet numbers.
  * ERRORS     A call returns 0, or -1 and fills in `fault`. Nothing is printed. Use a journal in one call at a time,
  *            except journal_whole, which can be called beside journal_write.
  */
@@ -88,14 +73,15 @@ struct journal {
     char new_name[NAME_MAX + 1];
 };
 
-/* Creates a journal with a random salt and no records. If it fails, there is none. */
+/* Creates a journal with a random salt and no records. It replaces no file. If it fails, there is none. */
 int journal_create(const char *path, struct journal_fault *fault);
 
 /* Opens, locks and reads a journal, whose file may have `limit` octets. Later calls allocate nothing. */
 int journal_open(struct journal *journal, const char *path, uint32_t limit, struct journal_fault *fault);
 
 /* Makes records durable together; with `anew` by a new file, else as macsec_journal_order says. They can be in
- * `records`, which has `count` durable records afterwards: these, or those of all names if the file was replaced. */
+ * `records`, which has `count` durable records afterwards: these, or those of all names if the file was replaced. Only
+ * then report them to the endpoint (macsec_reserve_granted). */
 int journal_write(struct journal *journal, const macsec_record *records, size_t count, bool anew,
                   struct journal_fault *fault);
 
@@ -108,7 +94,7 @@ bool journal_is_cut(const struct journal *journal);
 /* Reads a file. Returns its octets, which are to be freed, or NULL with errno set. */
 uint8_t *journal_read(int file, size_t *length);
 
-/* Is the file its owner's alone? 0, EACCES or EPERM. */
+/* 0; EACCES: others may read or write the file; or EPERM: it is neither this user's nor of the folder's owner. */
 int journal_check_owner(const struct stat *file, const struct stat *folder);
 
 /* Unlocks and closes an open journal. Nothing is lost: each record was made durable when it was written. */

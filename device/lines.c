@@ -58,13 +58,11 @@ enum effect lines_effect(uint32_t kind) {
     case MACSEC_COMMAND_RETIRE:
         return WIPES_KEY;
     case MACSEC_COMMAND_TX_SA:
-        return BEGINS_SENDING;
     case MACSEC_COMMAND_RX_SA:
-        return BEGINS_ACCEPTING;
+        return BEGINS;
     case MACSEC_COMMAND_RX_DEL:
-        return ENDS_ASSOCIATION;
     case MACSEC_COMMAND_RX_SC_DEL:
-        return ENDS_CHANNEL;
+        return ENDS;
     case MACSEC_COMMAND_NONE:
     case MACSEC_COMMAND_PROTECT:
     case MACSEC_COMMAND_VALIDATE:
@@ -86,10 +84,8 @@ uint32_t lines_carry_out(struct numbers *n, macsec_endpoint *e, const macsec_com
     enum effect effect = lines_effect(c->kind);
     uint32_t status;
     *raised = 0;
-    if (effect == ENDS_ASSOCIATION || effect == ENDS_CHANNEL)
+    if (effect == ENDS)
         numbers_note_accepted(n, e, c->sci);
     status = macsec_carry_out(e, c);
-    if (status != MACSEC_E_PN_FLOOR || (effect != BEGINS_SENDING && effect != BEGINS_ACCEPTING))
-        return status;
-    return begin_above(e, c, raised);
+    return status == MACSEC_E_PN_FLOOR && effect == BEGINS ? begin_above(e, c, raised) : status;
 }

@@ -107,10 +107,9 @@ struct saved {
     double seconds;
 };
 
-/* Makes a writer of this journal, which belongs to the thread while it works. Returns 0, or the exit status after a
- * message. */
+/* Makes a writer of this journal, which belongs to the thread while it works. */
 int journal_writer_open(struct journal_writer **s, struct journal *journal);
-/* Starts the thread. Until then, orders are carried out at once. Returns 0, or the exit status after a message. */
+/* Starts the thread. Until then, orders are carried out at once. */
 int journal_writer_start(struct journal_writer *s);
 /* A descriptor that can be read when an order was carried out, or another program has cut the file. */
 int journal_writer_file(const struct journal_writer *s);
@@ -128,15 +127,12 @@ bool journal_writer_close(struct journal_writer *s);
 /* ---- numbers.c: packet numbers that outlive a run ---- */
 
 struct numbers;
-
-/* Creates the journal of this name. Returns 0, or the exit status after a message. */
+/* Makes, and opens, the journal of this name. */
 int numbers_create(const char *name);
-/* Opens the journal of this name. Returns 0, or the exit status after a message. */
 int numbers_open(struct numbers **n, const char *name, struct counts *counts);
 /* Frames may come from now on: makes all reservations. This waits for the disk, and so do calls before it. */
 void numbers_begin(struct numbers *n, macsec_endpoint *e);
-/* Does what numbers_begin does, and starts the thread that writes the journal. Returns 0, or the exit status after a
- * message. */
+/* Does what numbers_begin does, and starts the thread that writes the journal. */
 int numbers_start(struct numbers *n, macsec_endpoint *e);
 /* The descriptor of the journal's folder, and one that can be read when records were written. */
 int numbers_folder(const struct numbers *n);
@@ -186,8 +182,8 @@ void numbers_close(struct numbers *n, macsec_endpoint *e);
 
 /* ---- lines.c: commands that begin and end associations ---- */
 
-/* What a command that is carried out means for the device beside its endpoint. */
-enum effect { NO_EFFECT, KEEPS_KEY, WIPES_KEY, BEGINS_SENDING, BEGINS_ACCEPTING, ENDS_ASSOCIATION, ENDS_CHANNEL };
+/* What a command that is carried out means for the device beside its endpoint: associations begin or end, say. */
+enum effect { NO_EFFECT, KEEPS_KEY, WIPES_KEY, BEGINS, ENDS };
 enum effect lines_effect(uint32_t kind);
 
 /* Carries out a command. If an association begins above the command's packet number, since lower ones may have been
@@ -198,15 +194,13 @@ uint32_t lines_carry_out(struct numbers *n, macsec_endpoint *e, const macsec_com
 
 /* Makes the path of the journal of NAME. Returns false, after a message, if it is too long. */
 bool journals_path(char *path, size_t room, const char *name);
-/* Says if the file system does not keep the journal. A new one is refused then if it is lost for certain. Returns 0, or
- * the exit status. */
+/* Says if the file system does not keep the journal. A new one is refused then if it is lost for certain. */
 int journals_check_disk(const char *name, bool creates);
 /* Compares the keys under which this NAME sends with the other journals of the host, in the same folder and in those
- * beside one that has the name of the device. Returns 0, or the exit status after a message. */
+ * beside one that has the name of the device. */
 int journals_check_keys(const struct config *c, const char *name);
 /* Locks the folders of the host's journals, so that no other NAME compares until the first records of this one are on
- * the disk, and unlocks them. The first call waits for other starts; it returns 0, or the exit status after a message.
- */
+ * the disk, and unlocks them. The first call waits for other starts. */
 int journals_lock(const char *name);
 void journals_unlock(void);
 /* Why macsecd does not start with the journal that is there; or NULL, also if it can't be read. Nothing is locked. The

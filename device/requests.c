@@ -72,10 +72,8 @@ static struct result change(struct device *d, int client, const struct words *w,
 /* Does the answer wait for the journal? It does if the request has begun an association, for which packet numbers are
  * reserved, or ended the endpoint. One that is refused is answered at once. */
 static bool has_made_records(const struct words *w, const struct result *r) {
-    enum effect effect = lines_effect(r->kind);
     return r->fault == NULL && r->status == MACSEC_OK &&
-           (effect == BEGINS_SENDING || effect == BEGINS_ACCEPTING || words_is(w, 0, "open") ||
-            words_is(w, 0, "close"));
+           (lines_effect(r->kind) == BEGINS || words_is(w, 0, "open") || words_is(w, 0, "close"));
 }
 
 bool requests_answer(struct device *d, struct text *t, int client, char *request, size_t length) {

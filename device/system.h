@@ -22,8 +22,8 @@
 #include <unistd.h>
 
 /* Exit statuses: the system refused something, or LINK or TAP is gone; the arguments or the configuration are wrong.
- * And of --own-tap: only the deletion of TAP takes it from another user. A call that opens, enters, starts or confines
- * something returns 0, or the exit status after a message. */
+ * And of --own-tap: only the deletion of TAP takes it from another user. A call that opens, makes, enters, starts,
+ * locks, compares or confines something returns 0, or the exit status after a message. */
 enum { ENDS_FAILED = 1, ENDS_WRONG = 2, ENDS_TAKEN = 3 };
 
 /* Makes a call that gives 0 or an exit status. Then the caller returns this status. */

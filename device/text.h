@@ -16,8 +16,6 @@ struct text {
 /* Adds to it, as printf does. What does not fit is left out. */
 void text_add(struct text *t, const char *form, ...) __attribute__((format(printf, 2, 3)));
 
-/* ---- words.c: the words of a line ---- */
-
 /* The most words of a line that are found, and the octets of a word that is copied and of an SCI as text. */
 enum { WORDS = 9, WORD = 64, SCI_TEXT = 17 };
 
@@ -37,8 +35,8 @@ bool words_are(const struct words *w, unsigned index, const char *text);
 bool words_copy(const struct words *w, unsigned index, char *to, size_t room);
 /* Reads a decimal number; one that does not fit is UINT64_MAX. Returns false if the word is no decimal number. */
 bool words_number(const struct words *w, unsigned index, uint64_t *number);
-/* ---- commands.c: the lines of a text for the endpoint ---- */
 
+/* The lines of a text for the endpoint. */
 struct commands {
     const char *text; /* what follows */
     size_t left;

@@ -901,7 +901,7 @@ uint32_t macsec_journal_order_raw(macsec_journal *j, const uint8_t *records, siz
 /* Orders that records be made durable. With `anew`, if the file is in doubt, or if they do not fit after its end, the
  * file is replaced, also without records. The first that applies, and then nothing has changed:
  * MACSEC_E_JOURNAL_BUSY (the step is not MACSEC_STEP_RESTING), MACSEC_E_JOURNAL_FULL (more than limit / 64 records),
- * MACSEC_E_NOT_RECORD, MACSEC_E_JOURNAL_FULL (with an entry for each record they would not fit). */
+ * MACSEC_E_NOT_RECORD, MACSEC_E_JOURNAL_FULL (with an entry for each new name they would not fit). */
 static inline uint32_t macsec_journal_order(macsec_journal *j, const macsec_record *records, size_t count, bool anew) {
     const size_t length = MACSEC_RECORD_LENGTH * count;
     return macsec_journal_order_raw(j, macsec_octets((const uint8_t *)records, length), length, anew);
