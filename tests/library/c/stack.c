@@ -1,7 +1,8 @@
-/* The calls that create an endpoint, macsec_free, and the calls that receive a frame whose packet number is not
- * reserved and so is opened on the stack: each in a thread with the 96 KB of stack that the header asks for, less what
- * the C library takes of it. No proof says how much stack the library takes: without enough, this program ends with
- * SIGSEGV. It says so too where a call takes more than the header says that it was measured to take. */
+/* The calls that create an endpoint, macsec_free, the calls that receive a frame whose packet number is not reserved
+ * and so is opened on the stack, and the calls with a journal as a file that compute most: each in a thread with the 96
+ * KB of stack that the header asks for, less what the C library takes of it. No proof says how much stack the library
+ * takes: without enough, this program ends with SIGSEGV. It says so too where a call takes more than the header says
+ * that it was measured to take. */
 #define _XOPEN_SOURCE 700
 #include "macsec.h"
 #include <pthread.h>
@@ -21,8 +22,9 @@ static const char receiver_lines[] = "end A gcm128 0200000000010001 9248 sci\n"
 static macsec_endpoint endpoint = MACSEC_ENDPOINT_INIT, receiver = MACSEC_ENDPOINT_INIT;
 static macsec_slot slot = MACSEC_SLOT_INIT;
 static macsec_config config = { { 0 }, MACSEC_SUITE_GCM_AES_128, MACSEC_FORM_SCI, 1518 };
-static macsec_record journal;
-static uint8_t link[MACSEC_FRAME_MAX], out[MACSEC_FRAME_MAX];
+static macsec_record journal, reservation;
+static macsec_journal file = MACSEC_JOURNAL_INIT;
+static uint8_t link[MACSEC_FRAME_MAX], out[MACSEC_FRAME_MAX], new_file[128], written[8192];
 static uint32_t status, line, verdict;
 
 static void *nothing(void *unused) {
@@ -66,6 +68,22 @@ static void *finish(void *unused) {
     macsec_finished finished;
     status = macsec_finish_receive(&receiver, &slot, out, sizeof out, &finished);
     verdict = finished.verdict;
+    return unused;
+}
+
+static void *begin_file(void *unused) {
+    status = macsec_journal_begin(&file, new_file, sizeof new_file, sizeof written);
+    return unused;
+}
+
+static void *order_record(void *unused) {
+    status = macsec_journal_order(&file, &reservation, 1, false);
+    return unused;
+}
+
+static void *show_next(void *unused) {
+    macsec_journal_call call;
+    status = macsec_journal_next(&file, written, sizeof written, &call);
     return unused;
 }
 
@@ -147,10 +165,30 @@ static int receive_frames(void) {
     return 0;
 }
 
+/* An order to a new journal, and each step of the replacement. */
+static int keep_file(void) {
+    const uint8_t name[32] = { 1 };
+    if (macsec_journal_noted(name, 1, &reservation) != MACSEC_OK ||
+        measure("macsec_journal_begin", begin_file, OTHERS) != 0)
+        return -1;
+    printf("macsec_journal_begin: %s\n", macsec_status_name(status));
+    if (measure("macsec_journal_order", order_record, OTHERS) != 0)
+        return -1;
+    printf("macsec_journal_order: %s\n", macsec_status_name(status));
+    for (int step = MACSEC_STEP_LOOKING_BEFORE; step <= MACSEC_STEP_SYNCING_FOLDER && status == MACSEC_OK; step++)
+        if (measure("macsec_journal_next", show_next, OTHERS) != 0 || macsec_journal_answered(&file, true) != MACSEC_OK)
+            return -1;
+    printf("macsec_journal_next: %s\n", macsec_status_name(status));
+    macsec_journal_free(&file);
+    return 0;
+}
+
 int main(void) {
     const uint8_t salt[24] = { 1 };
     memcpy(config.sci, own_sci, sizeof own_sci);
     if (macsec_journal_header(salt, &journal) != MACSEC_OK || create() != 0 || prepare() != 0 || receive_frames() != 0)
+        return 1;
+    if (macsec_journal_created(salt, new_file) != MACSEC_OK || keep_file() != 0)
         return 1;
     macsec_slot_free(&slot);
     macsec_free(&receiver);
