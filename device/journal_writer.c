@@ -9,7 +9,7 @@
 enum { STACK = 256 * 1024 };
 
 /* After so many seconds without an order the thread looks whether another program has changed the file's length: much
- * can be sent until the next order. That is said once. */
+ * can be sent until the next order. */
 enum { LOOKS = 1 };
 
 enum state { IDLE, ORDERED, CARRIED_OUT };

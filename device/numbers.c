@@ -417,9 +417,8 @@ static void write_last(struct numbers *n, macsec_endpoint *e) {
  * accepted stays reserved, and nothing that the next run needs is missing if the last records can't be written. */
 void numbers_close(struct numbers *n, macsec_endpoint *e) {
     write_last(n, e);
-    if (journal_writer_close(n->writer)) {
+    if (journal_writer_close(n->writer))
         journal_close(&n->journal);
-    }
     names_free(&n->names);
 }
 
