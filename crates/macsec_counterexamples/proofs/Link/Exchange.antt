@@ -37,7 +37,8 @@ key_row ssci first_unused = installed_key Gcm128 no_salt ssci first_unused
 
 -- B has these options, and A has sent up to n; then B's SA, the octets that B validated, and the counters of the SA and
 -- its SC; what A's client sent, what B delivered, and the link's frames
-abbrev pub trace_at : Options → ℕ → RxRow → ℕ → RxCounters → List (List ℕ) → List (List ℕ) → List (List ℕ) → List CipherUse → List Mark → Trace
+abbrev pub trace_at : Options → ℕ → RxRow → ℕ → RxCounters → List (List ℕ) → List (List ℕ) → List (List ℕ) → List
+    CipherUse → List Mark → Trace
 trace_at options n row m counted sent delivered frames seals marks = record {
   world = record {
     a = record {
@@ -69,7 +70,8 @@ trace_at options n row m counted sent delivered frames seals marks = record {
 -- A has sent up to n, and B has accepted up to m
 abbrev pub at_numbers : ℕ → ℕ → List (List ℕ) → List (List ℕ) → List (List ℕ) → List CipherUse → List Mark → Trace
 at_numbers n m sent delivered frames seals marks =
-    trace_at (first_options gcm_b) n (rx_from (m + 1)) (2 * m) (record no_rx_counters { in_pkts_ok = m }) sent delivered frames seals marks
+    trace_at (first_options gcm_b) n (rx_from (m + 1)) (2 * m) (record no_rx_counters { in_pkts_ok = m }) sent delivered
+    frames seals marks
 
 abbrev pub ready : Trace
 ready = at_numbers 0 0 [] [] [] [] []
@@ -93,7 +95,8 @@ abbrev pub link_frame_with : ℕ → List ℕ → Sealed → List ℕ
 link_frame_with number frame it = frame_with (tag_sent options (tx_from number) frame) frame it
 
 abbrev pub use_with : ℕ → List ℕ → Sealed → CipherUse
-use_with number frame it = cipher_use (key_row 1 number) (iv number) (parts_with (tag_sent options (tx_from number) frame) frame it)
+use_with number frame it =
+    cipher_use (key_row 1 number) (iv number) (parts_with (tag_sent options (tx_from number) frame) frame it)
 
 abbrev pub tag : ℕ → List ℕ → List ℕ
 tag number frame = tag_of bytes (iv number) (aad number frame)
@@ -106,7 +109,7 @@ abbrev pub first_tag : List ℕ
 first_tag = tag 1 (client 1)
 
 pub first_opens : Opens 1 first_tag
-first_opens = opens bytes (iv 1) (aad 1 (client 1))
+first_opens = opens _ _ _
 
 abbrev pub link_frame_of : ℕ → List ℕ → List ℕ → List ℕ
 link_frame_of number frame tag = link_frame_with number frame (with_tag tag)
@@ -119,16 +122,17 @@ mark number = record { at = B; log = 0; number = number; replay = true; window =
 
 -- ---- the first frame
 
-first_sends : sending_of ready.world.a.state (client 1) ≡ sent_by (tx_from 1) (link_frame_of 1 (client 1) (tag 1 (client 1)))
-first_sends = rw (sealed bytes (iv 1) (aad 1 (client 1)))
+first_sends : sending_of ready.world.a.state (client 1) ≡ sent_by (tx_from 1)
+    (link_frame_of 1 (client 1) (tag 1 (client 1)))
+first_sends = rw (sealed _ _ _)
 
 first_sent : trace_step ready (Send A (client 1)) ≡
-    at_numbers 1 0 (client 1 ∷ []) [] (link_frame_of 1 (client 1) (tag 1 (client 1)) ∷ []) (use_of 1 (client 1) (tag 1 (client 1)) ∷ []) []
-first_sent =
-    rw (
-      send_step ready (client 1) (tx_from 1) (link_frame_of 1 (client 1) (tag 1 (client 1))) refl refl first_sends,
-      sealed bytes (iv 1) (aad 1 (client 1)),
-    )
+    at_numbers 1 0 (client 1 ∷ []) [] (link_frame_of 1 (client 1) (tag 1 (client 1)) ∷ [])
+    (use_of 1 (client 1) (tag 1 (client 1)) ∷ []) []
+first_sent = rw (
+  send_step ready (client 1) (tx_from 1) (link_frame_of 1 (client 1) (tag 1 (client 1))) refl refl first_sends,
+  sealed _ _ _,
+)
 
 pub first_judged : (t : List ℕ) → Opens 1 t →
     judgement_of ready.world.b.state (link_frame_of 1 (client 1) t) ≡ at_row (rx_from 1) 1 13 Passed (Some (client 1))
@@ -138,27 +142,30 @@ abbrev after_first : List ℕ → Trace
 after_first t = at_numbers 1 0 (client 1 ∷ []) [] (link_frame_of 1 (client 1) t ∷ []) (use_of 1 (client 1) t ∷ []) []
 
 abbrev heard_first : List ℕ → Trace
-heard_first t = at_numbers 1 1 (client 1 ∷ []) (client 1 ∷ []) (link_frame_of 1 (client 1) t ∷ []) (use_of 1 (client 1) t ∷ []) (mark 1 ∷ [])
+heard_first t = at_numbers 1 1 (client 1 ∷ []) (client 1 ∷ []) (link_frame_of 1 (client 1) t ∷ [])
+    (use_of 1 (client 1) t ∷ []) (mark 1 ∷ [])
 
 first_heard : (t : List ℕ) → Opens 1 t → trace_step (after_first t) (Deliver B 0) ≡ heard_first t
-first_heard t is = deliver_step (after_first t) 0 (link_frame_of 1 (client 1) t) (at_row (rx_from 1) 1 13 Passed (Some (client 1))) refl refl refl (first_judged t is)
+first_heard t is = deliver_step (after_first t) 0 _ _ refl refl refl (first_judged _ is)
 
 first_genuine : (t : List ℕ) → Opens 1 t → IsGenuineAt (after_first t) (Deliver B 0)
 first_genuine t is =
-    genuine_at ready.world.b.state (link_frame_of 1 (client 1) t) (at_row (rx_from 1) 1 13 Passed (Some (client 1))) (after_first t).seals (first_judged t is)
-    (0, omega arith, refl)
+    genuine_at ready.world.b.state (link_frame_of 1 (client 1) t) (at_row (rx_from 1) 1 13 Passed (Some (client 1)))
+    (after_first t).seals (first_judged t is) (0, omega arith, refl)
 
 -- ---- the second frame
 
-second_sends : (t : List ℕ) → sending_of (heard_first t).world.a.state (client 2) ≡ sent_by (tx_from 2) (link_frame_of 2 (client 2) (tag 2 (client 2)))
-second_sends t = rw (sealed bytes (iv 2) (aad 2 (client 2)))
+second_sends : (t : List ℕ) → sending_of (heard_first t).world.a.state (client 2) ≡ sent_by (tx_from 2)
+    (link_frame_of 2 (client 2) (tag 2 (client 2)))
+second_sends t = rw (sealed _ _ _)
 
 abbrev both : List (List ℕ)
 both = client 1 ∷ client 2 ∷ []
 
 abbrev both_with : List ℕ → List ℕ → ℕ → List (List ℕ) → List Mark → Trace
 both_with t u m delivered marks =
-    at_numbers 2 m both delivered (link_frame_of 1 (client 1) t ∷ link_frame_of 2 (client 2) u ∷ []) (use_of 1 (client 1) t ∷ use_of 2 (client 2) u ∷ []) marks
+    at_numbers 2 m both delivered (link_frame_of 1 (client 1) t ∷ link_frame_of 2 (client 2) u ∷ [])
+    (use_of 1 (client 1) t ∷ use_of 2 (client 2) u ∷ []) marks
 
 abbrev after_second : List ℕ → List ℕ → Trace
 after_second t u = both_with t u 1 (client 1 ∷ []) (mark 1 ∷ [])
@@ -167,23 +174,23 @@ abbrev heard_second : List ℕ → List ℕ → Trace
 heard_second t u = both_with t u 2 both (mark 1 ∷ mark 2 ∷ [])
 
 second_sent : (t : List ℕ) → trace_step (heard_first t) (Send A (client 2)) ≡ after_second t (tag 2 (client 2))
-second_sent t =
-    rw (
-      send_step (heard_first t) (client 2) (tx_from 2) (link_frame_of 2 (client 2) (tag 2 (client 2))) refl refl
-          (second_sends t),
-      sealed bytes (iv 2) (aad 2 (client 2)),
-    )
+second_sent t = rw (
+  send_step (heard_first t) (client 2) (tx_from 2) (link_frame_of 2 (client 2) (tag 2 (client 2))) refl refl
+      (second_sends t),
+  sealed bytes (iv 2) (aad 2 (client 2)),
+)
 
 second_judged : (t u : List ℕ) → Opens 2 u →
-    judgement_of (after_second t u).world.b.state (link_frame_of 2 (client 2) u) ≡ at_row (rx_from 2) 2 13 Passed (Some (client 2))
+    judgement_of (after_second t u).world.b.state (link_frame_of 2 (client 2) u) ≡ at_row (rx_from 2) 2 13 Passed
+    (Some (client 2))
 second_judged t u is = rw is
 
 second_heard : (t u : List ℕ) → Opens 2 u → trace_step (after_second t u) (Deliver B 1) ≡ heard_second t u
-second_heard t u is = deliver_step (after_second t u) 1 (link_frame_of 2 (client 2) u) (at_row (rx_from 2) 2 13 Passed (Some (client 2))) refl refl refl (second_judged t u is)
+second_heard t u is = deliver_step (after_second t u) 1 _ _ refl refl refl (second_judged t _ is)
 
 second_genuine : (t u : List ℕ) → Opens 2 u → IsGenuineAt (after_second t u) (Deliver B 1)
-second_genuine t u is =
-    genuine_at (after_second t u).world.b.state (link_frame_of 2 (client 2) u) (at_row (rx_from 2) 2 13 Passed (Some (client 2))) (after_second t u).seals (second_judged t u is)
+second_genuine t u is = genuine_at (after_second t u).world.b.state (link_frame_of 2 (client 2) u)
+    (at_row (rx_from 2) 2 13 Passed (Some (client 2))) (after_second t u).seals (second_judged t u is)
     (1, omega arith, refl)
 
 -- ---- the run
@@ -208,43 +215,48 @@ abbrev second_tag : List ℕ
 second_tag = tag 2 (client 2)
 
 second_opens : Opens 2 second_tag
-second_opens = opens bytes (iv 2) (aad 2 (client 2))
+second_opens = opens _ _ _
 
 second_heard_is : trace_step (after_second first_tag second_tag) (Deliver B 1) ≡ heard_second first_tag second_tag
-second_heard_is = second_heard first_tag second_tag second_opens
+second_heard_is = second_heard _ _ second_opens
 
 is_genuine : IsGenuine (new_trace gcm_a gcm_b) events
 is_genuine =
     genuine_append (new_trace gcm_a gcm_b) ready commands exchange (tt, (tt, (tt, (tt, (tt, (tt, (tt, tt))))))) is_ready
-    (genuine_next ready (after_first first_tag) (Send A (client 1)) (Deliver B 0 ∷ second_exchange) (tt {0}) first_sent
-    (genuine_next (after_first first_tag) (heard_first first_tag) (Deliver B 0) second_exchange (first_genuine first_tag first_opens) (first_heard first_tag first_opens)
-    (genuine_next (heard_first first_tag) (after_second first_tag second_tag) (Send A (client 2)) (Deliver B 1 ∷ []) (tt {0}) (second_sent first_tag)
-    (genuine_next (after_second first_tag second_tag) (heard_second first_tag second_tag) (Deliver B 1) []
-    (second_genuine first_tag second_tag second_opens) second_heard_is (tt {0})))))
+    (genuine_next ready _ (Send A (client 1)) (Deliver B 0 ∷ second_exchange) (tt {0}) first_sent
+    (genuine_next (after_first first_tag) _ (Deliver B 0) second_exchange (first_genuine _ first_opens)
+    (first_heard _ first_opens)
+    (genuine_next (heard_first first_tag) _ (Send A (client 2)) (Deliver B 1 ∷ []) (tt {0}) (second_sent first_tag)
+    (genuine_next (after_second first_tag second_tag) _ (Deliver B 1) []
+    (second_genuine first_tag _ second_opens) second_heard_is (tt {0})))))
 
 trace_ends : trace_after (new_trace gcm_a gcm_b) events ≡ heard_second first_tag second_tag
-trace_ends =
-    after_both (new_trace gcm_a gcm_b) ready commands exchange is_ready
+trace_ends = after_both (new_trace gcm_a gcm_b) _ commands exchange is_ready
     ∙ ap (λ (t : Trace). trace_after t (Deliver B 0 ∷ second_exchange)) first_sent
-    ∙ ap (λ (t : Trace). trace_after t second_exchange) (first_heard first_tag first_opens)
-    ∙ ap (λ (t : Trace). trace_after t (Deliver B 1 ∷ [])) (second_sent first_tag)
-    ∙ second_heard_is
+    ∙ ap (λ (t : Trace). trace_after t second_exchange) (first_heard _ first_opens)
+    ∙ ap (λ (t : Trace). trace_after t (Deliver B 1 ∷ [])) (second_sent _) ∙ second_heard_is
 
 last_world_is : last_world ≡ (heard_second first_tag second_tag).world
 last_world_is = sym (world_of_trace (new_trace gcm_a gcm_b) events) ∙ ap (λ (t : Trace). t.world) trace_ends
 
 -- B's options are the initial ones at each moment
-each_moment : (P : State → Type 0) → ((s : State) → s.options ≡ first_options gcm_b → P s) → AtEach (WhileLive P) (new_world gcm_a gcm_b) events
-each_moment P so =
-    each_append (WhileLive P) (new_world gcm_a gcm_b) ready.world commands exchange
-    (tt, (tt, (tt, (tt, (tt, (tt, (λ live. so _ refl, tt))))))) (sym (world_of_trace (new_trace gcm_a gcm_b) commands) ∙ ap (λ (t : Trace). t.world) is_ready)
-    (live_next P ready (after_first first_tag) (Send A (client 1)) (Deliver B 0 ∷ second_exchange) (λ live. so _ refl) first_sent
-    (live_next P (after_first first_tag) (heard_first first_tag) (Deliver B 0) second_exchange (λ live. so _ refl) (first_heard first_tag first_opens)
-    (live_next P (heard_first first_tag) (after_second first_tag second_tag) (Send A (client 2)) (Deliver B 1 ∷ []) (λ live. so _ refl) (second_sent first_tag)
-    (live_next P (after_second first_tag second_tag) (heard_second first_tag second_tag) (Deliver B 1) [] (λ live. so _ refl) second_heard_is (λ live. so _ refl)))))
+each_moment : (P : State → Type 0) → ((s : State) → s.options ≡ first_options gcm_b → P s) → AtEach (WhileLive P)
+    (new_world gcm_a gcm_b) events
+each_moment P so = each_append (WhileLive P) (new_world gcm_a gcm_b) ready.world commands exchange
+    (tt, (tt, (tt, (tt, (tt, (tt, (λ live. so _ refl, tt))))))) (sym (world_of_trace (new_trace gcm_a gcm_b) commands) ∙
+    ap (λ (t : Trace). t.world) is_ready)
+    (live_next P ready (after_first first_tag) (Send A (client 1)) (Deliver B 0 ∷ second_exchange) (λ live. so _ refl)
+    first_sent
+    (live_next P (after_first first_tag) (heard_first first_tag) (Deliver B 0) second_exchange (λ live. so _ refl)
+    (first_heard first_tag first_opens)
+    (live_next P (heard_first first_tag) (after_second first_tag second_tag) (Send A (client 2)) (Deliver B 1 ∷ [])
+    (λ live. so _ refl) (second_sent first_tag)
+    (live_next P (after_second first_tag second_tag) (heard_second first_tag second_tag) (Deliver B 1) []
+    (λ live. so _ refl) second_heard_is (λ live. so _ refl)))))
 
-while_there : (P : State → Type 0) → ((s : State) → s.options ≡ first_options gcm_b → P s) → WhileThere gcm_a gcm_b events B 0 P
-while_there P so k within = at_moment (WhileLive P) (new_world gcm_a gcm_b) events (each_moment P so) k within
+while_there : (P : State → Type 0) → ((s : State) → s.options ≡ first_options gcm_b → P s) → WhileThere gcm_a gcm_b
+    events B 0 P
+while_there P so k within = at_moment (WhileLive P) (new_world gcm_a gcm_b) events (each_moment _ so) _ within
 
 pub meets_premises : MeetsPremises
 meets_premises = record {

@@ -32,11 +32,9 @@ LawForOneSci a b events = AgreeAtEnd a b events → DifferAtEnd a b events → R
 pub other_scis_needed : Fails LawForOneSci gcm_a gcm_a (both_send (new_key no_salt 1) (new_key no_salt 2))
 other_scis_needed = (
   refl,
-  λ law.
-      law
+  λ law. law
       (of_two (λ x y. x.bytes ≡ y.bytes → AgreeOnKey x y) _ _ (λ same. record { suite = refl; salt = λ xpn. cc }))
-      (of_two HaveOtherSscis _ _ (λ same xpn. cc))
-      0 1 no_use (omega arith) (omega arith) refl refl,
+      (of_two _ _ _ (λ same xpn. cc)) 0 1 no_use (omega arith) (omega arith) refl refl,
 )
 
 -- ---- the suite: A has 32-bit packet numbers and B extended ones; with the salt, the same at both ends, B's IV equals
@@ -51,7 +49,8 @@ AgreeButInSuites w = (x y : InstalledKey) → Contains w.a.state.keys x → Cont
 
 -- the law without the premise that the suites are the same; the other premises hold of keys of all suites
 abbrev pub LawForOtherSuites : EndConfig → EndConfig → List Event → Type 0
-LawForOtherSuites a b events = a.sci ≢ b.sci → AgreeButInSuites (world_after (new_world a b) events) → RepeatsNone a b events
+LawForOtherSuites a b events = a.sci ≢ b.sci → AgreeButInSuites (world_after (new_world a b) events) → RepeatsNone a b
+    events
 
 abbrev sci_read : Sci
 sci_read = record { 0 = 0x12 ∷ 0x15 ∷ 0x35 ∷ 0x24 ∷ 0xc0 ∷ 0x89 ∷ 0x5e ∷ 0x81 ∷ [] }
@@ -59,14 +58,13 @@ sci_read = record { 0 = 0x12 ∷ 0x15 ∷ 0x35 ∷ 0x24 ∷ 0xc0 ∷ 0x89 ∷ 0x
 abbrev salt_read : List ℕ
 salt_read = 0x12 ∷ 0x15 ∷ 0x35 ∷ 0x26 ∷ 0xc0 ∷ 0x89 ∷ 0x5e ∷ 0x81 ∷ 0 ∷ 0 ∷ 0 ∷ 0 ∷ []
 
-pub same_suite_needed : Fails LawForOtherSuites (config Gcm128 sci_read) xpn_b (both_send (new_key salt_read 1) (new_key salt_read 2))
+pub same_suite_needed : Fails LawForOtherSuites (config Gcm128 sci_read) xpn_b
+    (both_send (new_key salt_read 1) (new_key salt_read 2))
 unfolding sum_with_stream
 same_suite_needed = (
   refl,
-  λ law.
-      law
-      (scis_differ sci_read sci_b (λ same. omega (arith, same)))
-      (of_two AgreeButInSuite _ _ (λ same. (refl, λ same_ssci. omega (arith, same_ssci))))
+  λ law. law (scis_differ _ _ (λ same. omega (arith, same)))
+      (of_two _ _ _ (λ same. (refl, λ same_ssci. omega (arith, same_ssci))))
       0 1 no_use (omega arith) (omega arith) refl refl,
 )
 
@@ -84,16 +82,13 @@ abbrev pub LawForOtherSalts : EndConfig → EndConfig → List Event → Type 0
 LawForOtherSalts a b events =
     a.sci ≢ b.sci → AgreeOnSuites (world_after (new_world a b) events) → DifferAtEnd a b events → RepeatsNone a b events
 
-pub same_salt_needed : Fails LawForOtherSalts xpn_a xpn_b (both_send (new_key no_salt 1) (new_key (0 ∷ 0 ∷ 0 ∷ 3 ∷ replicate 8 0) 2))
+pub same_salt_needed : Fails LawForOtherSalts xpn_a xpn_b (both_send (new_key no_salt 1)
+    (new_key (0 ∷ 0 ∷ 0 ∷ 3 ∷ replicate 8 0) 2))
 unfolding sum_with_stream
 same_salt_needed = (
   refl,
-  λ law.
-      law
-      (scis_differ sci_a sci_b (λ same. omega (arith, same)))
-      (of_two AgreeOnSuite _ _ (λ same. refl))
-      (of_two HaveOtherSscis _ _ (λ same xpn same_ssci. omega (arith, same_ssci)))
-      0 1 no_use (omega arith) (omega arith) refl refl,
+  λ law. law (scis_differ _ _ (λ same. omega (arith, same))) (of_two _ _ _ (λ same. refl))
+      (of_two _ _ _ (λ same xpn same_ssci. omega (arith, same_ssci))) 0 1 no_use (omega arith) (omega arith) refl refl,
 )
 
 -- ---- the SSCIs: extended packet numbers, and the same SSCI and salt at both ends
@@ -106,9 +101,7 @@ pub other_sscis_needed : Fails LawForOneSsci xpn_a xpn_b (both_send (new_key no_
 unfolding sum_with_stream
 other_sscis_needed = (
   refl,
-  λ law.
-      law
-      (scis_differ sci_a sci_b (λ same. omega (arith, same)))
+  λ law. law (scis_differ _ _ (λ same. omega (arith, same)))
       (of_two (λ x y. x.bytes ≡ y.bytes → AgreeOnKey x y) _ _ (λ same. record { suite = refl; salt = λ xpn. refl }))
       0 1 no_use (omega arith) (omega arith) refl refl,
 )

@@ -16,8 +16,9 @@ use Rattle.macsec_counterexamples.proofs.{
 use Rattle.macsec_tag.specs.Table as table
 
 -- a frame that step 13 of reception does not decide has no condition
-pub nothing_asked : (t : Trace) (e : End) (n : ℕ) → ((judgement_of (end_of t.world e).state (frame_at t.world n)).step == 13) ≡ false → IsGenuineAt t (Deliver e n)
-nothing_asked t e n not13 = by_parts (judgement_of s frame) (judgement_of s frame).row (table.reading frame) not13
+pub nothing_asked : (t : Trace) (e : End) (n : ℕ) → ((judgement_of (end_of t.world e).state (frame_at t.world n)).step
+    == 13) ≡ false → IsGenuineAt t (Deliver e n)
+nothing_asked t e n not13 = by_parts (judgement_of s frame) _ _ not13
   where
     s : State
     s = (end_of t.world e).state
@@ -25,7 +26,8 @@ nothing_asked t e n not13 = by_parts (judgement_of s frame) (judgement_of s fram
     frame : List ℕ
     frame = frame_at t.world n
 
-    by_parts : (j : Judgement) (row : Option RxRow) (r : Reading) → (j.step == 13) ≡ false → IfSome (use_opened_in s j row r) (Contains t.seals)
+    by_parts : (j : Judgement) (row : Option RxRow) (r : Reading) → (j.step == 13) ≡ false → IfSome
+        (use_opened_in s j row r) (Contains t.seals)
     by_parts j None untagged not13 = tt
     by_parts j None (bad fault) not13 = tt
     by_parts j None (tagged p) not13 = tt
@@ -35,7 +37,8 @@ nothing_asked t e n not13 = by_parts (judgement_of s frame) (judgement_of s fram
 
 -- an event that is no delivery has no condition
 pub others_ask_nothing : (t : Trace) (e : End) (frame : List ℕ) (n place octet : ℕ) →
-    IsGenuineAt t (Send e frame) × (IsGenuineAt t (SendUncontrolled e frame) × (IsGenuineAt t (Inject frame) × (IsGenuineAt t (Alter n place octet) × IsGenuineAt t (Pad n))))
+    IsGenuineAt t (Send e frame) × (IsGenuineAt t (SendUncontrolled e frame) ×
+    (IsGenuineAt t (Inject frame) × (IsGenuineAt t (Alter n place octet) × IsGenuineAt t (Pad n))))
 others_ask_nothing t e frame n place octet = (tt, (tt, (tt, (tt, tt))))
 
 -- ---- packet numbers
@@ -52,9 +55,10 @@ pub record MeetIvPremises (a b : EndConfig) (events : List Event) : Type 0 where
 pub one_ssci_of_32_bits : MeetIvPremises gcm_a gcm_b (both_send (new_key no_salt 0) (new_key (1 ∷ replicate 11 0) 0))
 one_ssci_of_32_bits = record {
   made = refl;
-  scis = scis_differ sci_a sci_b (λ same. omega (arith, same));
+  scis = scis_differ _ _ (λ same. omega (arith, same));
   agree = of_two (λ x y. x.bytes ≡ y.bytes → AgreeOnKey x y) _ _ (λ same. record { suite = refl; salt = λ xpn. cc });
-  differ = of_two (λ (x y : InstalledKey). x.bytes ≡ y.bytes → is_xpn x.suite ≡ true → x.ssci ≢ y.ssci) _ _ (λ same xpn. cc);
+  differ = of_two (λ (x y : InstalledKey). x.bytes ≡ y.bytes → is_xpn x.suite ≡ true → x.ssci ≢ y.ssci) _ _
+      (λ same xpn. cc);
   two_seals = refl;
 }
 
@@ -62,18 +66,19 @@ one_ssci_of_32_bits = record {
 pub two_sscis : MeetIvPremises xpn_a xpn_b (both_send (new_key no_salt 1) (new_key no_salt 2))
 two_sscis = record {
   made = refl;
-  scis = scis_differ sci_a sci_b (λ same. omega (arith, same));
+  scis = scis_differ _ _ (λ same. omega (arith, same));
   agree = of_two (λ x y. x.bytes ≡ y.bytes → AgreeOnKey x y) _ _ (λ same. record { suite = refl; salt = λ xpn. refl });
-  differ = of_two (λ (x y : InstalledKey). x.bytes ≡ y.bytes → is_xpn x.suite ≡ true → x.ssci ≢ y.ssci) _ _ (λ same xpn same_ssci. omega (arith, same_ssci));
+  differ = of_two (λ (x y : InstalledKey). x.bytes ≡ y.bytes → is_xpn x.suite ≡ true → x.ssci ≢ y.ssci) _ _
+      (λ same xpn same_ssci. omega (arith, same_ssci));
   two_seals = refl;
 }
 
 -- ---- the mode Strict
 
 abbrev strict_until_deleted : List Event
-strict_until_deleted = receives_from B (new_key no_salt 2) sci_a 1 1 ++ Command B (RxDel sci_a 0) ∷ Command B (Validate Check) ∷ []
+strict_until_deleted = receives_from B (new_key no_salt 2) sci_a 1 1 ++ Command B (RxDel sci_a 0) ∷ Command B
+    (Validate Check) ∷ []
 
 pub strict_while_there : WhileThere gcm_a gcm_b strict_until_deleted B 0 IsStrict
-strict_while_there k within =
-    at_moment (WhileLive IsStrict) (new_world gcm_a gcm_b) strict_until_deleted
+strict_while_there k within = at_moment (WhileLive IsStrict) (new_world gcm_a gcm_b) strict_until_deleted
     (tt, (tt, (tt, ((λ live. refl), ((λ live. refl), ((λ live. refl), (λ live. cc))))))) k within

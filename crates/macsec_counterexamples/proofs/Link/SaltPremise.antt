@@ -124,20 +124,16 @@ sent_two t u = trace_at 2 (number 2) (rx_from 1) 0 (own 0 ∷ own 1 ∷ []) [] (
     (use_of 0 t ∷ use_of 1 u ∷ []) []
 
 first_sent : trace_step ready (Send A (client 1)) ≡ sent_one (tag 0)
-first_sent =
-    rw (
-      send_step ready (client 1) (tx_from (number 0)) (frame 0 (tag 0)) refl refl
-          (rw (sealed bytes (iv 0) (aad 0))),
-      sealed bytes (iv 0) (aad 0),
-    )
+first_sent = rw (
+  send_step ready (client 1) (tx_from (number 0)) (frame 0 (tag 0)) refl refl (rw (sealed bytes (iv 0) (aad 0))),
+  sealed bytes (iv 0) (aad 0),
+)
 
 second_sent : (t : List ℕ) → trace_step (sent_one t) (Send A (client 2)) ≡ sent_two t (tag 1)
-second_sent t =
-    rw (
-      send_step (sent_one t) (client 2) (tx_from (number 1)) (frame 1 (tag 1)) refl refl
-          (rw (sealed bytes (iv 1) (aad 1))),
-      sealed bytes (iv 1) (aad 1),
-    )
+second_sent t = rw (
+  send_step (sent_one t) (client 2) (tx_from (number 1)) (frame 1 (tag 1)) refl refl (rw (sealed bytes (iv 1) (aad 1))),
+  sealed bytes (iv 1) (aad 1),
+)
 
 abbrev all_sent : List (List ℕ)
 all_sent = own 0 ∷ own 1 ∷ own 2 ∷ []
@@ -148,12 +144,11 @@ three_sent t u v row m delivered marks =
     (use_of 0 t ∷ use_of 1 u ∷ use_of 2 v ∷ []) marks
 
 third_sent : (t u : List ℕ) → trace_step (sent_two t u) (Send A (client 3)) ≡ three_sent t u (tag 2) (rx_from 1) 0 [] []
-third_sent t u =
-    rw (
-      send_step (sent_two t u) (client 3) (tx_from (number 2)) (frame 2 (tag 2)) refl refl
-          (rw (sealed bytes (iv 2) (aad 2))),
-      sealed bytes (iv 2) (aad 2),
-    )
+third_sent t u = rw (
+  send_step (sent_two t u) (client 3) (tx_from (number 2)) (frame 2 (tag 2)) refl refl
+      (rw (sealed bytes (iv 2) (aad 2))),
+  sealed bytes (iv 2) (aad 2),
+)
 
 -- ---- what B recovers
 
@@ -185,33 +180,27 @@ third_judged : (t u v : List ℕ) → Opens 2 v →
 third_judged t u v is = rw (ap (λ (i : List ℕ). open_of bytes i (aad 2) [] (items 16 v)) iv_of_third ∙ is)
 
 third_heard : (t u v : List ℕ) → Opens 2 v → trace_step (before_delivery t u v) (Deliver B 2) ≡ after_third t u v
-third_heard t u v is = deliver_step (before_delivery t u v) 2 (frame 2 v)
-    (at_row (rx_from 1) 1 13 Passed (Some (own 2))) refl refl refl (third_judged t u v is)
+third_heard t u v is = deliver_step (before_delivery t u v) 2 _ _ refl refl refl (third_judged t u _ is)
 
 third_genuine : (t u v : List ℕ) → Opens 2 v → IsGenuineAt (before_delivery t u v) (Deliver B 2)
 third_genuine t u v is =
     genuine_at (before_delivery t u v).world.b.state (frame 2 v) (at_row (rx_from 1) 1 13 Passed (Some (own 2)))
-    (before_delivery t u v).seals (third_judged t u v is)
-    (2, omega arith, rw (← iv_of_third))
+    (before_delivery t u v).seals (third_judged t u v is) (2, omega arith, rw (← iv_of_third))
 
 is_raised : (t u v : List ℕ) → trace_step (after_third t u v) (Command B (RxLow sci_a 0 (2 ^ 32))) ≡ after_raising t u v
 is_raised t u v = refl
 
-first_judged : (t u v : List ℕ) → Opens 0 t →
-    judgement_of (after_raising t u v).world.b.state (frame 0 t) ≡
+first_judged : (t u v : List ℕ) → Opens 0 t → judgement_of (after_raising t u v).world.b.state (frame 0 t) ≡
     at_row (rx_from (2 ^ 32)) (2 ^ 33 - 1) 13 Passed (Some (own 0))
 first_judged t u v is = rw (ap (λ (i : List ℕ). open_of bytes i (aad 0) [] (items 16 t)) iv_of_first ∙ is)
 
 first_heard : (t u v : List ℕ) → Opens 0 t → trace_step (after_raising t u v) (Deliver B 0) ≡ after_first t u v
-first_heard t u v is = deliver_step (after_raising t u v) 0 (frame 0 t)
-    (at_row (rx_from (2 ^ 32)) (2 ^ 33 - 1) 13 Passed (Some (own 0))) refl refl refl (first_judged t u v is)
+first_heard t u v is = deliver_step (after_raising t u v) 0 _ _ refl refl refl (first_judged _ u v is)
 
 first_genuine : (t u v : List ℕ) → Opens 0 t → IsGenuineAt (after_raising t u v) (Deliver B 0)
-first_genuine t u v is =
-    genuine_at (after_raising t u v).world.b.state (frame 0 t)
+first_genuine t u v is = genuine_at (after_raising t u v).world.b.state (frame 0 t)
     (at_row (rx_from (2 ^ 32)) (2 ^ 33 - 1) 13 Passed (Some (own 0))) (after_raising t u v).seals
-    (first_judged t u v is)
-    (0, omega arith, rw (← iv_of_first))
+    (first_judged t u v is) (0, omega arith, rw (← iv_of_first))
 
 -- ---- the run
 
@@ -225,10 +214,10 @@ abbrev third_tag : List ℕ
 third_tag = tag 2
 
 first_opens : Opens 0 first_tag
-first_opens = opens bytes (iv 0) (aad 0)
+first_opens = opens _ _ _
 
 third_opens : Opens 2 third_tag
-third_opens = opens bytes (iv 2) (aad 2)
+third_opens = opens _ _ _
 
 -- the traces of the run: A sent one, two and three frames; B received the third; its lowest acceptable packet number
 -- was raised; and B received the first
@@ -251,44 +240,38 @@ abbrev heard_first : Trace
 heard_first = after_first first_tag second_tag third_tag
 
 heard_third_is : trace_step three (Deliver B 2) ≡ heard_third
-heard_third_is = third_heard first_tag second_tag third_tag third_opens
+heard_third_is = third_heard _ _ _ third_opens
 
 raised_is : trace_step heard_third raise ≡ raised
-raised_is = is_raised first_tag second_tag third_tag
+raised_is = is_raised _ _ _
 
 heard_first_is : trace_step raised (Deliver B 0) ≡ heard_first
-heard_first_is = first_heard first_tag second_tag third_tag first_opens
+heard_first_is = first_heard _ _ _ first_opens
 
 is_genuine : IsGenuine (new_trace xpn_a xpn_b) events
 is_genuine =
     genuine_append (new_trace xpn_a xpn_b) ready commands exchange (tt, (tt, (tt, (tt, (tt, (tt, (tt, tt))))))) is_ready
-    (genuine_next ready one (Send A (client 1)) (Send A (client 2) ∷ Send A (client 3) ∷ from_delivery)
+    (genuine_next ready _ (Send A (client 1)) (Send A (client 2) ∷ Send A (client 3) ∷ from_delivery)
     (tt {0}) first_sent
-    (genuine_next one two (Send A (client 2)) (Send A (client 3) ∷ from_delivery) (tt {0}) (second_sent first_tag)
-    (genuine_next two three (Send A (client 3)) from_delivery (tt {0}) (third_sent first_tag second_tag)
-    (genuine_next three heard_third (Deliver B 2) from_raising
-    (third_genuine first_tag second_tag third_tag third_opens) heard_third_is
-    (genuine_next heard_third raised raise last_delivery (tt {0}) raised_is
-    (genuine_next raised heard_first (Deliver B 0) []
-    (first_genuine first_tag second_tag third_tag first_opens) heard_first_is (tt {0})))))))
+    (genuine_next one _ (Send A (client 2)) (Send A (client 3) ∷ from_delivery) (tt {0}) (second_sent first_tag)
+    (genuine_next two _ (Send A (client 3)) from_delivery (tt {0}) (third_sent first_tag second_tag)
+    (genuine_next three _ (Deliver B 2) from_raising (third_genuine first_tag second_tag _ third_opens) heard_third_is
+    (genuine_next heard_third _ raise last_delivery (tt {0}) raised_is (genuine_next raised _ (Deliver B 0) []
+    (first_genuine _ second_tag third_tag first_opens) heard_first_is (tt {0})))))))
 
 last_world_is : world_after (new_world xpn_a xpn_b) events ≡ heard_first.world
-last_world_is =
-    sym (world_of_trace (new_trace xpn_a xpn_b) events)
-    ∙ ap world_of
-    (after_both (new_trace xpn_a xpn_b) ready commands exchange is_ready
+last_world_is = sym (world_of_trace (new_trace xpn_a xpn_b) events) ∙ ap world_of
+    (after_both (new_trace xpn_a xpn_b) _ commands exchange is_ready
     ∙ ap (λ (t : Trace). trace_after t (Send A (client 2) ∷ Send A (client 3) ∷ from_delivery)) first_sent
-    ∙ ap (λ (t : Trace). trace_after t (Send A (client 3) ∷ from_delivery)) (second_sent first_tag)
-    ∙ ap (λ (t : Trace). trace_after t from_delivery) (third_sent first_tag second_tag)
+    ∙ ap (λ (t : Trace). trace_after t (Send A (client 3) ∷ from_delivery)) (second_sent _)
+    ∙ ap (λ (t : Trace). trace_after t from_delivery) (third_sent _ _)
     ∙ ap (λ (t : Trace). trace_after t from_raising) heard_third_is
-    ∙ ap (λ (t : Trace). trace_after t last_delivery) raised_is
-    ∙ heard_first_is)
+    ∙ ap (λ (t : Trace). trace_after t last_delivery) raised_is ∙ heard_first_is)
 
 -- B's options are the initial ones at each moment
 each_moment : (P : State → Type 0) → ((s : State) → s.options ≡ first_options xpn_b → P s) →
     AtEach (WhileLive P) (new_world xpn_a xpn_b) events
-each_moment P so =
-    each_append (WhileLive P) (new_world xpn_a xpn_b) ready.world commands exchange
+each_moment P so = each_append (WhileLive P) (new_world xpn_a xpn_b) ready.world commands exchange
     (tt, (tt, (tt, (tt, (tt, (tt, (λ live. so _ refl, tt)))))))
     (sym (world_of_trace (new_trace xpn_a xpn_b) commands) ∙ ap world_of is_ready)
     (live_next P ready one (Send A (client 1)) (Send A (client 2) ∷ Send A (client 3) ∷ from_delivery)
@@ -302,7 +285,7 @@ each_moment P so =
 
 while_there : (P : State → Type 0) → ((s : State) → s.options ≡ first_options xpn_b → P s) →
     WhileThere xpn_a xpn_b events B 0 P
-while_there P so k within = at_moment (WhileLive P) (new_world xpn_a xpn_b) events (each_moment P so) k within
+while_there P so k within = at_moment (WhileLive P) (new_world xpn_a xpn_b) events (each_moment _ so) _ within
 
 -- the third frame followed by the first is no subsequence
 no_subsequence : (x y z : List ℕ) → y ≢ x → z ≢ x → IsSubsequence (z ∷ x ∷ []) (x ∷ y ∷ z ∷ []) → ⊥
@@ -317,8 +300,7 @@ differ n m other same = other (ap (λ (frame : List ℕ). get_or frame 12 0) sam
 
 -- the law of order, if keys need only agree on the suite
 abbrev pub OrderForOtherSalts : EndConfig → EndConfig → List Event → Type 0
-OrderForOtherSalts a b events =
-    IsGenuine (new_trace a b) events → AgreeOnSuites (world_after (new_world a b) events) →
+OrderForOtherSalts a b events = IsGenuine (new_trace a b) events → AgreeOnSuites (world_after (new_world a b) events) →
     (e : End) (i : ℕ) → WhileThere a b events e i IsStrict → WhileThere a b events e i HasStrictOrder →
     WasSentInOrder (world_after (new_world a b) events) e i
 
@@ -328,10 +310,8 @@ same_salt_needed_for_order = (
   λ law.
       let in_order : WasSentInOrder heard_first.world B 0 =
       rw last_world_is at (law is_genuine (rw last_world_is (of_two AgreeOnSuite _ _ (λ same. refl))) B 0
-      (while_there IsStrict (λ s is. rw is))
-      (while_there HasStrictOrder
+      (while_there IsStrict (λ s is. rw is)) (while_there HasStrictOrder
       (λ s is. record { replay = rw is; window = rw is }))) in
       no_subsequence (own 0) (own 1) (own 2) (differ 2 1 (λ same. omega (arith, same)))
-      (differ 3 1 (λ same. omega (arith, same)))
-      (in_order (key_row no_salt 1 (number 3)) (0, omega arith, refl) refl),
+      (differ 3 1 (λ same. omega (arith, same))) (in_order (key_row no_salt 1 (number 3)) (0, omega arith, refl) refl),
 )

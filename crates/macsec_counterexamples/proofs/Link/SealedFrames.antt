@@ -51,7 +51,7 @@ no_ciphertext key iv aad = refl
 
 pub sealed : (key iv aad : List ℕ) → seal_of key iv aad [] ≡ with_tag (tag_of key iv aad)
 unfolding tag_of
-sealed key iv aad = λ i. (no_ciphertext key iv aad i, sym (each_item 16 (tag_of key iv aad) (long_tag key iv aad)) i)
+sealed key iv aad = λ i. (no_ciphertext key iv aad i, sym (each_item _ _ (long_tag key iv aad)) i)
 
 same_refl : (xs : List ℕ) → same_octets xs xs ≡ true
 same_refl [] = refl
@@ -59,27 +59,29 @@ same_refl (x ∷ xs) = rw (eq-eqb x x refl, same_refl xs) refl
 
 opens_tag : (key iv aad : List ℕ) → open_of key iv aad [] (tag_of key iv aad) ≡ Some []
 unfolding open_of seal_of gctr tag_of
-opens_tag key iv aad = rw (same_refl (seal_of key iv aad []).1)
+opens_tag key iv aad = rw (same_refl _)
 
 pub opens : (key iv aad : List ℕ) → open_of key iv aad [] (items 16 (tag_of key iv aad)) ≡ Some []
-opens key iv aad = rw (each_item 16 (tag_of key iv aad) (long_tag key iv aad), opens_tag key iv aad)
+opens key iv aad = rw (each_item _ _ (long_tag _ _ _), opens_tag _ _ _)
 
 -- at most one tag opens: a tag with another first octet does not
-pub first_differs : (xs : List ℕ) (octet : ℕ) (others : List ℕ) → length xs ≡ 16 → (first xs == octet) ≡ false → same_octets xs (octet ∷ others) ≡ false
+pub first_differs : (xs : List ℕ) (octet : ℕ) (others : List ℕ) → length xs ≡ 16 → (first xs == octet) ≡ false →
+    same_octets xs (octet ∷ others) ≡ false
 unfolding first
 first_differs [] octet others long other = absurd (omega (arith, long))
 first_differs (x ∷ xs) octet others long other = rw other
 
-pub closes : (key iv aad : List ℕ) (octet : ℕ) (others : List ℕ) → (first (tag_of key iv aad) == octet) ≡ false → open_of key iv aad [] (octet ∷ others) ≡ None
+pub closes : (key iv aad : List ℕ) (octet : ℕ) (others : List ℕ) → (first (tag_of key iv aad) == octet) ≡ false →
+    open_of key iv aad [] (octet ∷ others) ≡ None
 unfolding open_of seal_of gctr tag_of
-closes key iv aad octet others other =
-    rw (first_differs (seal_of key iv aad []).1 octet others (long_tag key iv aad) other)
+closes key iv aad octet others other = rw (first_differs _ _ _ (long_tag _ _ _) other)
 
 -- ---- frames
 
 -- the additional authenticated data of a client frame that an SA sends for integrity only: the whole frame
 abbrev pub aad_sent : TxOptions → InstalledKey → TxRow → List ℕ → List ℕ
-aad_sent options key row frame = (aad_and_plaintext key.offset false (take 6 frame) (slice_range frame 6 12) (tag_sent options row frame) (drop 12 frame)).0
+aad_sent options key row frame = (aad_and_plaintext key.offset false (take 6 frame) (slice_range frame 6 12)
+    (tag_sent options row frame) (drop 12 frame)).0
 
 -- the parts of such a frame, from the result of sealing
 abbrev pub parts_with : Tag → List ℕ → Sealed → MpduParts

@@ -94,15 +94,13 @@ at_end replay t =
 -- ---- the steps
 
 sends : (replay : Bool) → sending_of (ready replay).world.a.state (client 1) ≡ sent_by (tx_from 1) (frame first_tag)
-sends replay = rw (sealed bytes (iv 1) (aad 1 (client 1)))
+sends replay = rw (sealed _ _ _)
 
 is_sent : (replay : Bool) → trace_step (ready replay) (Send A (client 1)) ≡ after_sending replay first_tag
-is_sent replay =
-    rw (
-      send_step (ready replay) (client 1) (tx_from 1) (frame first_tag) refl refl (sends replay),
-      sealed bytes (iv 1)
-          (aad 1 (client 1)),
-    )
+is_sent replay = rw (
+  send_step (ready replay) (client 1) (tx_from 1) (frame first_tag) refl refl (sends replay),
+  sealed _ _ _,
+)
 
 once_judged : (replay : Bool) (t : List ℕ) → Opens 1 t →
     judgement_of (after_sending replay t).world.b.state (frame t) ≡ at_row (rx_from 1) 1 13 Passed (Some (client 1))
@@ -111,29 +109,23 @@ once_judged false t is = rw is
 
 once_heard : (replay : Bool) (t : List ℕ) → Opens 1 t →
     trace_step (after_sending replay t) (Deliver B 0) ≡ after_once replay t
-once_heard true t is = deliver_step (after_sending true t) 0 (frame t)
-    (at_row (rx_from 1) 1 13 Passed (Some (client 1))) refl refl refl (once_judged true t is)
-once_heard false t is = deliver_step (after_sending false t) 0 (frame t)
-    (at_row (rx_from 1) 1 13 Passed (Some (client 1))) refl refl refl (once_judged false t is)
+once_heard true t is = deliver_step (after_sending true t) 0 _ _ refl refl refl (once_judged true _ is)
+once_heard false t is = deliver_step (after_sending false t) 0 _ _ refl refl refl (once_judged false _ is)
 
 once_genuine : (replay : Bool) (t : List ℕ) → Opens 1 t → IsGenuineAt (after_sending replay t) (Deliver B 0)
 once_genuine replay t is =
     genuine_at (after_sending replay t).world.b.state (frame t) (at_row (rx_from 1) 1 13 Passed (Some (client 1)))
-    (after_sending replay t).seals (once_judged replay t is)
-    (0, omega arith, refl)
+    (after_sending replay t).seals (once_judged replay t is) (0, omega arith, refl)
 
-again_judged : (replay : Bool) (t : List ℕ) → Opens 1 t →
-    judgement_of (after_once replay t).world.b.state (frame t) ≡
+again_judged : (replay : Bool) (t : List ℕ) → Opens 1 t → judgement_of (after_once replay t).world.b.state (frame t) ≡
     at_row (heard_row replay) 1 13 (again replay) (Some (client 1))
 again_judged true t is = rw is
 again_judged false t is = rw is
 
 again_heard : (replay : Bool) (t : List ℕ) → Opens 1 t →
     trace_step (after_once replay t) (Deliver B 0) ≡ after_twice replay t
-again_heard true t is = deliver_step (after_once true t) 0 (frame t)
-    (at_row (heard_row true) 1 13 Passed (Some (client 1))) refl refl refl (again_judged true t is)
-again_heard false t is = deliver_step (after_once false t) 0 (frame t)
-    (at_row (heard_row false) 1 13 Delayed (Some (client 1))) refl refl refl (again_judged false t is)
+again_heard true t is = deliver_step (after_once true t) 0 _ _ refl refl refl (again_judged true _ is)
+again_heard false t is = deliver_step (after_once false t) 0 _ _ refl refl refl (again_judged false _ is)
 
 again_genuine : (replay : Bool) (t : List ℕ) → Opens 1 t → IsGenuineAt (after_once replay t) (Deliver B 0)
 again_genuine replay t is =
@@ -163,22 +155,19 @@ is_genuine replay =
     (is_back replay first_tag) (tt {0})))))
 
 trace_ends : (replay : Bool) → trace_of gcm_a gcm_b (events replay) ≡ at_end replay first_tag
-trace_ends replay =
-    after_both (new_trace gcm_a gcm_b) (ready replay) (commands replay) (Send A (client 1) ∷ twice) (is_ready replay)
-    ∙ ap (λ (t : Trace). trace_after t twice) (is_sent replay)
-    ∙ ap (λ (t : Trace). trace_after t (Deliver B 0 ∷ back)) (once_heard replay first_tag first_opens)
-    ∙ ap (λ (t : Trace). trace_after t back) (again_heard replay first_tag first_opens)
-    ∙ is_back replay first_tag
+trace_ends replay = after_both (new_trace gcm_a gcm_b) _ (commands replay) (Send A (client 1) ∷ twice) (is_ready replay)
+    ∙ ap (λ (t : Trace). trace_after t twice) (is_sent _)
+    ∙ ap (λ (t : Trace). trace_after t (Deliver B 0 ∷ back)) (once_heard _ _ first_opens)
+    ∙ ap (λ (t : Trace). trace_after t back) (again_heard _ _ first_opens) ∙ is_back _ _
 
 last_world_is : (replay : Bool) → world_after (new_world gcm_a gcm_b) (events replay) ≡ (at_end replay first_tag).world
 last_world_is replay = sym (world_of_trace (new_trace gcm_a gcm_b) (events replay))
-    ∙ ap (λ (t : Trace). t.world) (trace_ends replay)
+    ∙ ap (λ (t : Trace). t.world) (trace_ends _)
 
 -- B is strict at each moment, and its other options but replay and window are the initial ones from the creation of its
 -- SA on
 each_moment : (replay : Bool) (P : State → Type 0) → ((s : State) → s.options ≡ first_options gcm_b → P s) →
-    ((s : State) → s.options ≡ options_of replay → P s) →
-    AtEach (WhileLive P) (new_world gcm_a gcm_b) (events replay)
+    ((s : State) → s.options ≡ options_of replay → P s) → AtEach (WhileLive P) (new_world gcm_a gcm_b) (events replay)
 each_moment replay P first so =
     each_append (WhileLive P) (new_world gcm_a gcm_b) (ready replay).world (commands replay) (Send A (client 1) ∷ twice)
     (tt, (tt, (tt, (tt, (tt, (tt, (λ live. first _ refl, (λ live. first _ refl, tt))))))))
@@ -193,10 +182,9 @@ each_moment replay P first so =
     (λ live. so _ refl) (is_back replay first_tag) (λ live. first _ refl)))))
 
 while_there : (replay : Bool) (P : State → Type 0) → ((s : State) → s.options ≡ first_options gcm_b → P s) →
-    ((s : State) → s.options ≡ options_of replay → P s) →
-    WhileThere gcm_a gcm_b (events replay) B 0 P
+    ((s : State) → s.options ≡ options_of replay → P s) → WhileThere gcm_a gcm_b (events replay) B 0 P
 while_there replay P first so k within = at_moment (WhileLive P) (new_world gcm_a gcm_b) (events replay)
-    (each_moment replay P first so) k within
+    (each_moment _ _ first so) _ within
 
 -- one frame delivered twice is no subsequence of the frame sent once
 no_subsequence : (x : List ℕ) → IsSubsequence (x ∷ x ∷ []) (x ∷ []) → ⊥
@@ -212,8 +200,7 @@ HasRest false s = s.options.window ≡ 0
 
 -- the law of order with only that premise at each moment, and with both settings after the last event
 abbrev pub OrderWithRest : Bool → EndConfig → EndConfig → List Event → Type 0
-OrderWithRest replay a b events =
-    IsGenuine (new_trace a b) events → AgreeOnKeys (world_after (new_world a b) events) →
+OrderWithRest replay a b events = IsGenuine (new_trace a b) events → AgreeOnKeys (world_after (new_world a b) events) →
     (e : End) (i : ℕ) → WhileThere a b events e i IsStrict → WhileThere a b events e i (HasRest replay) →
     HasStrictOrder (end_of (world_after (new_world a b) events) e).state →
     WasSentInOrder (world_after (new_world a b) events) e i
@@ -223,26 +210,23 @@ keys_agree replay = of_two (λ x y. x.bytes ≡ y.bytes → AgreeOnKey x y) _ _
     (λ same. record { suite = refl; salt = λ xpn. refl })
 
 has_rest : (replay : Bool) → WhileThere gcm_a gcm_b (events replay) B 0 (HasRest replay)
-has_rest true = while_there true (HasRest true) (λ s is. rw is)
-    (λ s is. rw is)
-has_rest false = while_there false (HasRest false) (λ s is. rw is)
-    (λ s is. rw is)
+has_rest true = while_there true (HasRest true) (λ s is. rw is) (λ s is. rw is)
+has_rest false = while_there false (HasRest false) (λ s is. rw is) (λ s is. rw is)
 
 order_fails : (replay : Bool) → OrderWithRest replay gcm_a gcm_b (events replay) → ⊥
 order_fails replay law =
     let in_order : WasSentInOrder (at_end replay first_tag).world B 0 =
-    rw (last_world_is replay) at (law (is_genuine replay) (rw (last_world_is replay) (keys_agree replay)) B 0
-    (while_there replay IsStrict (λ s is. rw is) (λ s is. rw is))
-    (has_rest replay)
-    (rw (last_world_is replay) (record { replay = refl; window = refl }))) in
-    no_subsequence (client 1) (in_order (key_row 1 2) (0, omega arith, refl) refl)
+    rw (last_world_is _) at (law (is_genuine replay) (rw (last_world_is _) (keys_agree replay)) B 0
+    (while_there replay IsStrict (λ s is. rw is) (λ s is. rw is)) (has_rest _)
+    (rw (last_world_is _) (record { replay = refl; window = refl }))) in
+    no_subsequence _ (in_order (key_row 1 2) (0, omega arith, refl) refl)
 
 -- a window of 1 is too wide
 pub window_of_0_needed : Fails (OrderWithRest true) gcm_a gcm_b (events true)
-window_of_0_needed = (refl, order_fails true)
+window_of_0_needed = (refl, order_fails _)
 
 pub protection_needed : Fails (OrderWithRest false) gcm_a gcm_b (events false)
-protection_needed = (refl, order_fails false)
+protection_needed = (refl, order_fails _)
 
 -- ---- the law on windows
 
@@ -258,7 +242,7 @@ protection_needed_for_window = (
   refl,
   λ law.
       let pairs : AllPairs IsWithinWindowOff (marks_of (at_end false first_tag) B 0) =
-      subst (λ (t : Trace). AllPairs IsWithinWindowOff (marks_of t B 0)) (trace_ends false) (law B 0) in
+      subst (λ (t : Trace). AllPairs IsWithinWindowOff (marks_of t B 0)) (trace_ends _) (law B 0) in
       let less : 1 < 1 + 0 = pairs 0 1 (mark false) (omega arith) (omega arith) refl in
       omega (arith, less),
 )

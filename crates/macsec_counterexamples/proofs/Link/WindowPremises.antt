@@ -34,16 +34,17 @@ abbrev on_link : ℕ → Trace
 on_link octet = trace_at options_check 0 (rx_from 1) 0 no_rx_counters [] [] (guessed 2 octet ∷ []) [] []
 
 abbrev unvalidated : ℕ → Trace
-unvalidated octet = trace_at options_check 0 (rx_from 1) 2 one_invalid [] (client 2 ∷ []) (guessed 2 octet ∷ []) [] (invalid ∷ [])
+unvalidated octet = trace_at options_check 0 (rx_from 1) 2 one_invalid [] (client 2 ∷ []) (guessed 2 octet ∷ []) []
+    (invalid ∷ [])
 
 abbrev after_sending : ℕ → List ℕ → Trace
-after_sending octet t =
-    trace_at options_check 1 (rx_from 1) 2 one_invalid (client 1 ∷ []) (client 2 ∷ [])
+after_sending octet t = trace_at options_check 1 (rx_from 1) 2 one_invalid (client 1 ∷ []) (client 2 ∷ [])
     (guessed 2 octet ∷ link_frame_of 1 (client 1) t ∷ []) (use_of 1 (client 1) t ∷ []) (invalid ∷ [])
 
 abbrev passed : ℕ → List ℕ → Trace
 passed octet t =
-    trace_at options_check 1 (rx_from 2) 4 (record one_invalid { in_pkts_ok = 1 }) (client 1 ∷ []) (client 2 ∷ client 1 ∷ [])
+    trace_at options_check 1 (rx_from 2) 4 (record one_invalid { in_pkts_ok = 1 }) (client 1 ∷ [])
+    (client 2 ∷ client 1 ∷ [])
     (guessed 2 octet ∷ link_frame_of 1 (client 1) t ∷ []) (use_of 1 (client 1) t ∷ []) (invalid ∷ mark 1 ∷ [])
 
 -- ---- the steps
@@ -51,38 +52,36 @@ passed octet t =
 is_on_link : (octet : ℕ) → trace_step in_check (Inject (guessed 2 octet)) ≡ on_link octet
 is_on_link octet = refl
 
-guess_judged : (octet : ℕ) → IsOther 2 octet → judgement_of in_check.world.b.state (guessed 2 octet) ≡ at_row (rx_from 1) 2 12 Invalid (Some (client 2))
-guess_judged octet other = rw (closes bytes (iv 2) (aad 2 (client 2)) octet (replicate 15 0) other)
+guess_judged : (octet : ℕ) → IsOther 2 octet → judgement_of in_check.world.b.state (guessed 2 octet) ≡ at_row
+    (rx_from 1) 2 12 Invalid (Some (client 2))
+guess_judged octet other = rw (closes _ _ _ _ _ other)
 
 is_unvalidated : (octet : ℕ) → IsOther 2 octet → trace_step (on_link octet) (Deliver B 0) ≡ unvalidated octet
-is_unvalidated octet other = deliver_step (on_link octet) 0 (guessed 2 octet) (at_row (rx_from 1) 2 12 Invalid (Some (client 2))) refl refl refl (guess_judged octet other)
+is_unvalidated octet other = deliver_step (on_link octet) 0 _ _ refl refl refl (guess_judged _ other)
 
-sends : (octet : ℕ) → sending_of (unvalidated octet).world.a.state (client 1) ≡ sent_by (tx_from 1) (link_frame_of 1 (client 1) first_tag)
-sends octet = rw (sealed bytes (iv 1) (aad 1 (client 1)))
+sends : (octet : ℕ) → sending_of (unvalidated octet).world.a.state (client 1) ≡ sent_by (tx_from 1)
+    (link_frame_of 1 (client 1) first_tag)
+sends octet = rw (sealed _ _ _)
 
 is_sent : (octet : ℕ) → trace_step (unvalidated octet) (Send A (client 1)) ≡ after_sending octet first_tag
-is_sent octet =
-    rw (
-      send_step (unvalidated octet) (client 1) (tx_from 1) (link_frame_of 1 (client 1) first_tag) refl refl
-          (sends octet),
-      sealed bytes (iv 1) (aad 1 (client 1)),
-    )
+is_sent octet = rw (
+  send_step (unvalidated octet) (client 1) (tx_from 1) (link_frame_of 1 (client 1) first_tag) refl refl (sends octet),
+  sealed bytes (iv 1) (aad 1 (client 1)),
+)
 
 sent_judged : (octet : ℕ) (t : List ℕ) → Opens 1 t →
-    judgement_of (after_sending octet t).world.b.state (link_frame_of 1 (client 1) t) ≡ at_row (rx_from 1) 1 13 Passed (Some (client 1))
+    judgement_of (after_sending octet t).world.b.state (link_frame_of 1 (client 1) t) ≡ at_row (rx_from 1) 1 13 Passed
+    (Some (client 1))
 sent_judged octet t is = rw is
 
 is_passed : (octet : ℕ) (t : List ℕ) → Opens 1 t → trace_step (after_sending octet t) (Deliver B 1) ≡ passed octet t
-is_passed octet t is =
-    deliver_step (after_sending octet t) 1 (link_frame_of 1 (client 1) t) (at_row (rx_from 1) 1 13 Passed (Some (client 1))) refl refl refl (sent_judged octet t is)
+is_passed octet t is = deliver_step (after_sending octet t) 1 _ _ refl refl refl (sent_judged octet _ is)
 
 trace_ends : (octet : ℕ) → IsOther 2 octet → trace_of gcm_a gcm_b (events octet) ≡ passed octet first_tag
-trace_ends octet other =
-    after_both (new_trace gcm_a gcm_b) in_check commands_check (exchange octet) is_in_check
-    ∙ ap (λ (t : Trace). trace_after t (Deliver B 0 ∷ then_sent)) (is_on_link octet)
-    ∙ ap (λ (t : Trace). trace_after t then_sent) (is_unvalidated octet other)
-    ∙ ap (λ (t : Trace). trace_after t (Deliver B 1 ∷ [])) (is_sent octet)
-    ∙ is_passed octet first_tag first_opens
+trace_ends octet other = after_both (new_trace gcm_a gcm_b) _ commands_check (exchange octet) is_in_check
+    ∙ ap (λ (t : Trace). trace_after t (Deliver B 0 ∷ then_sent)) (is_on_link _)
+    ∙ ap (λ (t : Trace). trace_after t then_sent) (is_unvalidated _ other)
+    ∙ ap (λ (t : Trace). trace_after t (Deliver B 1 ∷ [])) (is_sent _) ∙ is_passed _ _ first_opens
 
 -- ---- the law
 
@@ -98,7 +97,7 @@ fails octet other = (
   refl,
   λ law.
       let pairs : AllPairs IsWithinAnyway (marks_of (passed octet first_tag) B 0) =
-      subst (λ (t : Trace). AllPairs IsWithinAnyway (marks_of t B 0)) (trace_ends octet other) (law B 0) in
+      subst (λ (t : Trace). AllPairs IsWithinAnyway (marks_of t B 0)) (trace_ends _ other) (law B 0) in
       let less : 2 < 1 + 0 = pairs 0 1 (mark 1) (omega arith) (omega arith) refl in
       omega (arith, less),
 )

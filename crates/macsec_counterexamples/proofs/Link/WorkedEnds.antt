@@ -75,7 +75,8 @@ rx_from next = record { sci = sci_a; an = 0; key = 0; ssci = 1; next = next; low
 
 -- the counters of the receive SA and its SC
 abbrev pub counts : RxCounters → ChannelCounters
-counts counted = record (new_channel_counters sci_a) { counters = counted; associations = Some counted ∷ None ∷ None ∷ None ∷ [] }
+counts counted =
+    record (new_channel_counters sci_a) { counters = counted; associations = Some counted ∷ None ∷ None ∷ None ∷ [] }
 
 abbrev pub log : List (List ℕ) → DeliveryLog
 log frames = record { sci = sci_a; an = 0; key = 0; live = true; frames = frames }
@@ -87,7 +88,16 @@ logs_sent (frame ∷ frames) = record { key = 0; frames = frame ∷ frames } ∷
 -- key 0 as it is installed
 abbrev pub installed_key : Suite → List ℕ → ℕ → ℕ → InstalledKey
 installed_key suite salt ssci first_unused =
-    record { number = 0; suite = suite; bytes = bytes; salt = salt; ssci = ssci; offset = 0; first_unused = first_unused; retired = false }
+    record {
+      number = 0;
+      suite = suite;
+      bytes = bytes;
+      salt = salt;
+      ssci = ssci;
+      offset = 0;
+      first_unused = first_unused;
+      retired = false;
+    }
 
 pub only : {X : Type 0} (key x : X) → Contains (key ∷ []) x → key ≡ x
 only key x there = by_place (member (key ∷ []) x there)
@@ -97,5 +107,6 @@ only key x there = by_place (member (key ∷ []) x there)
     by_place (inr none) = absurd none
 
 -- if each end has one key, what holds of these two holds of any two
-pub of_two : {X : Type 0} (R : X → X → Type 0) (a b : X) → R a b → (x y : X) → Contains (a ∷ []) x → Contains (b ∷ []) y → R x y
-of_two R a b holds x y there there' = rw (← only a x there) (rw (only b y there') at holds)
+pub of_two : {X : Type 0} (R : X → X → Type 0) (a b : X) → R a b → (x y : X) → Contains (a ∷ []) x → Contains (b ∷ []) y
+    → R x y
+of_two R a b holds x y there there' = rw (← only _ _ there) (rw (only _ _ there') at holds)

@@ -74,7 +74,7 @@ run_goes w other rs are free =
     let above : highest before (sending_name (salt other) bytes) < number_of w =
     let name = sending_name (salt other) bytes in
     omega (arith, reduced_reserves (reservations (journal other rs)) name, says other rs are name, free) in
-    rw (salt_is other rs) (goes (salt other) before w above)
+    rw (salt_is _ _) (goes (salt other) before w above)
 
 pair : {X : Type 0} (R : X → X → Type 0) (x y : X) → R x y → AllPairs R (x ∷ y ∷ [])
 pair R x y holds = AllPairs-cons R x (y ∷ []) (All-cons (R x) y [] holds (All-nil (R x))) (one_alone R y)
@@ -88,24 +88,19 @@ refuted p q u v k l first second same_key same_iv pairs =
 
 both_sound : (p q : Run) → StaysSound (opening p) p.inputs → StaysSound (opening q) q.inputs →
     All (λ run. StaysSound (opening run) run.inputs) (p ∷ q ∷ [])
-both_sound p q first second =
-    All-cons (λ run. StaysSound (opening run) run.inputs) p (q ∷ []) first
+both_sound p q first second = All-cons (λ run. StaysSound (opening run) run.inputs) p (q ∷ []) first
     (All-cons (λ run. StaysSound (opening run) run.inputs) q [] second
     (All-nil (λ run. StaysSound (opening run) run.inputs)))
 
 -- what holds of the two keys holds of any two
 pub of_keys : (R : InstalledKey → InstalledKey → Type 0) (p q : Run) (w v : Sender) →
-    (closing p).secy.keys ≡ key_at w (number_of w + 1) ∷ [] →
-    (closing q).secy.keys ≡ key_at v (number_of v + 1) ∷ [] →
+    (closing p).secy.keys ≡ key_at w (number_of w + 1) ∷ [] → (closing q).secy.keys ≡ key_at v (number_of v + 1) ∷ [] →
     R (key_at w (number_of w + 1)) (key_at v (number_of v + 1)) →
     (x y : InstalledKey) → Contains (closing p).secy.keys x → Contains (closing q).secy.keys y → R x y
-of_keys R p q w v is is' holds x y there there' =
-    of_two R (key_at w (number_of w + 1)) (key_at v (number_of v + 1)) holds x y
-    (rw is at there)
-    (rw is' at there')
+of_keys R p q w v is is' holds x y there there' = of_two R _ _ holds _ _ (rw is at there) (rw is' at there')
 
 reserves_is : (w : Sender) (s : List ℕ) → All IsReservation (reserves w s ∷ [])
-reserves_is w s = All-cons IsReservation (reserves w s) [] (by_number w) (All-nil IsReservation)
+reserves_is w s = All-cons IsReservation (reserves w s) [] (by_number _) (All-nil IsReservation)
   where
     name : length (sending_name s bytes) ≡ 32
     name = length-sha256 _
@@ -128,8 +123,7 @@ is_read w v other name = omega (arith, says other (after w) (reserves_is w (salt
 
 -- the premises, but one, of these two runs
 holds_but : (left_out : Premise) (w v : Sender) (other : Bool) (rs : List Reservation) (k l : Keeping)
-    (us vs : List CipherUse) →
-    Goes (opening (run_of w false [])) (run_of w false []).inputs us k →
+    (us vs : List CipherUse) → Goes (opening (run_of w false [])) (run_of w false []).inputs us k →
     Goes (opening (run_of v other rs)) (run_of v other rs).inputs vs l →
     k.secy.keys ≡ key_at w (number_of w + 1) ∷ [] → l.secy.keys ≡ key_at v (number_of v + 1) ∷ [] →
     (SameSuite ≢ left_out → suite_of w ≡ suite_of v) →
@@ -138,28 +132,20 @@ holds_but : (left_out : Premise) (w v : Sender) (other : Bool) (rs : List Reserv
     (IsDurable ≢ left_out → KeepsDurable (run_of w false []) (run_of v other rs)) →
     (p : Premise) → p ≢ left_out → Holds (run_of w false [] ∷ run_of v other rs ∷ []) p
 holds_but left_out w v other rs k l us vs first second keys keys' suite key_salts journal_salt durable
-    IsSoundAtEachMoment differ =
-    both_sound (run_of w false []) (run_of v other rs) first.sound second.sound
+    IsSoundAtEachMoment differ = both_sound (run_of w false []) (run_of v other rs) first.sound second.sound
 holds_but left_out w v other rs k l us vs first second keys keys' suite key_salts journal_salt durable SameSuite
-    differ =
-    pair AgreeOnSuites (run_of w false []) (run_of v other rs)
+    differ = pair AgreeOnSuites (run_of w false []) (run_of v other rs)
     (of_keys (λ x y. x.bytes ≡ y.bytes → x.suite ≡ y.suite) (run_of w false []) (run_of v other rs) w v
-    (rw (first.ends, keys)) (rw (second.ends, keys'))
-    (λ same. suite differ))
+    (rw (first.ends, keys)) (rw (second.ends, keys')) (λ same. suite differ))
 holds_but left_out w v other rs k l us vs first second keys keys' suite key_salts journal_salt durable SameKeySalt
-    differ =
-    pair AgreeOnSalts (run_of w false []) (run_of v other rs)
+    differ = pair AgreeOnSalts (run_of w false []) (run_of v other rs)
     (of_keys (λ x y. x.bytes ≡ y.bytes → is_xpn x.suite ≡ true → x.salt ≡ y.salt) (run_of w false [])
-    (run_of v other rs) w v
-    (rw (first.ends, keys)) (rw (second.ends, keys'))
-    (λ same. key_salts differ))
+    (run_of v other rs) w v (rw (first.ends, keys)) (rw (second.ends, keys')) (λ same. key_salts differ))
 holds_but left_out w v other rs k l us vs first second keys keys' suite key_salts journal_salt durable SameJournalSalt
-    differ =
-    pair SameSalt (run_of w false []) (run_of v other rs)
+    differ = pair SameSalt (run_of w false []) (run_of v other rs)
     (salt_is other rs ∙ journal_salt differ ∙ sym (salt_is false []))
 holds_but left_out w v other rs k l us vs first second keys keys' suite key_salts journal_salt durable IsDurable
-    differ =
-    pair KeepsDurable (run_of w false []) (run_of v other rs) (durable differ)
+    differ = pair KeepsDurable (run_of w false []) (run_of v other rs) (durable differ)
 
 -- ---- the premises
 
@@ -174,15 +160,14 @@ extended_goes = run_goes Extended false [] nothing (omega arith)
 
 -- both runs begin with an empty journal
 pub durability_needed : LawWithout IsDurable (run_of Short false [] ∷ run_of Short false [] ∷ []) → ⊥
-durability_needed law =
-    refuted (run_of Short false []) (run_of Short false []) (use_of Short)
+durability_needed law = refuted (run_of Short false []) (run_of Short false []) (use_of Short)
     (use_of Short) _ _ short_goes short_goes refl refl
     (law (holds_but IsDurable Short Short false [] _ _ _ _ short_goes short_goes refl refl (λ d. refl) (λ d xpn. refl)
     (λ d. refl) (λ d. absurd (d refl))))
 
 -- the record of a name reserves its number
 own_number : (w : Sender) → highest (after w) (sending_name (salt false) bytes) ≡ number_of w
-own_number w = highest_of_one (reserves w (salt false)) (sending_name (salt false) bytes) true
+own_number w = highest_of_one (reserves w (salt false)) (sending_name (salt false) bytes) _
     (same_octets-refl (sending_name (salt false) bytes))
 
 read_goes : Goes (opening (run_of ReadSalt false (after Short))) (run_of ReadSalt false (after Short)).inputs
@@ -194,8 +179,7 @@ read_goes = run_goes ReadSalt false (after Short) (reserves_is Short (salt false
 -- the later run has extended packet numbers, and its second IV is the first IV of the earlier run
 pub suite_needed : LawWithout SameSuite (run_of Short false [] ∷ run_of ReadSalt false (after Short) ∷ []) → ⊥
 unfolding sum_with_stream
-suite_needed law =
-    refuted (run_of Short false []) (run_of ReadSalt false (after Short)) (use_of Short)
+suite_needed law = refuted (run_of Short false []) (run_of ReadSalt false (after Short)) (use_of Short)
     (use_of ReadSalt) _ _ short_goes read_goes refl refl
     (law (holds_but SameSuite Short ReadSalt false (after Short) _ _ _ _ short_goes read_goes refl refl
     (λ d. absurd (d refl)) (λ d xpn. cc) (λ d. refl) (λ d. is_read Short ReadSalt false)))
@@ -211,10 +195,9 @@ other_goes = run_goes OtherSalt false (after Extended) (reserves_is Extended (sa
 pub key_salt_needed : LawWithout SameKeySalt (run_of Extended false [] ∷ run_of OtherSalt false (after Extended) ∷ []) →
     ⊥
 unfolding sum_with_stream
-key_salt_needed law =
-    refuted (run_of Extended false []) (run_of OtherSalt false (after Extended)) (use_of Extended)
-    (use_of OtherSalt) _ _ extended_goes other_goes refl refl
-    (law (holds_but SameKeySalt Extended OtherSalt false (after Extended) _ _ _ _ extended_goes other_goes refl refl
+key_salt_needed law = refuted (run_of Extended false []) (run_of OtherSalt false (after Extended)) _
+    _ _ _ extended_goes other_goes refl refl
+    (law (holds_but _ Extended OtherSalt false (after Extended) _ _ _ _ extended_goes other_goes refl refl
     (λ d. refl) (λ d. absurd (d refl)) (λ d. refl) (λ d. is_read Extended OtherSalt false)))
 
 -- under another salt of the journal the key has another name
@@ -226,14 +209,12 @@ renamed_goes : Goes (opening (run_of Short true (after Short))) (run_of Short tr
     (use_of Short ∷ [])
     (kept (salt true) (reduced (reservations (journal true (after Short)))) (reserves Short (salt true) ∷ [])
     (at_end Short))
-renamed_goes =
-    run_goes Short true (after Short) (reserves_is Short (salt false))
+renamed_goes = run_goes Short true (after Short) (reserves_is Short (salt false))
     (omega (arith, highest_of_one (reserves Short (salt false)) (sending_name (salt true) bytes) false names_differ))
 
 -- the later run reads all records, but another salt
 pub journal_salt_needed : LawWithout SameJournalSalt (run_of Short false [] ∷ run_of Short true (after Short) ∷ []) → ⊥
-journal_salt_needed law =
-    refuted (run_of Short false []) (run_of Short true (after Short)) (use_of Short)
-    (use_of Short) _ _ short_goes renamed_goes refl refl
-    (law (holds_but SameJournalSalt Short Short true (after Short) _ _ _ _ short_goes renamed_goes refl refl (λ d. refl)
+journal_salt_needed law = refuted (run_of Short false []) (run_of Short true (after Short)) _
+    _ _ _ short_goes renamed_goes refl refl
+    (law (holds_but _ Short Short true (after Short) _ _ _ _ short_goes renamed_goes refl refl (λ d. refl)
     (λ d xpn. refl) (λ d. absurd (d refl)) (λ d. is_read Short Short true)))

@@ -24,21 +24,19 @@ journal other rs = header (salt other) ++ records_of rs
 zero_if : (b : Bool) (entry name : List ℕ) (last : ℕ) → last ≡ 0 →
     highest (if b then record { name = entry; last = last } ∷ [] else []) name ≡ 0
 zero_if false entry name last none = refl
-zero_if true entry name last none = by_name (same_octets entry name)
+zero_if true entry name last none = by_name _
   where
     by_name : (c : Bool) → (if c then max last 0 else 0) ≡ 0
     by_name true = omega (arith, none)
     by_name false = refl
 
 in_header : (other : Bool) (name : List ℕ) → highest (reserved_in (header (salt other))) name ≡ 0
-in_header false name =
-    zero_if (same_octets (slice_range (header (salt false)) 40 64)
+in_header false name = zero_if (same_octets (slice_range (header (salt false)) 40 64)
     (check_of (take 32 (header (salt false))) (slice_range (header (salt false)) 32 40)))
-    (take 32 (header (salt false))) name (from_be_bytes w64 (slice_range (header (salt false)) 32 40)) refl
-in_header true name =
-    zero_if (same_octets (slice_range (header (salt true)) 40 64)
+    (take 32 (header (salt false))) name _ refl
+in_header true name = zero_if (same_octets (slice_range (header (salt true)) 40 64)
     (check_of (take 32 (header (salt true))) (slice_range (header (salt true)) 32 40)))
-    (take 32 (header (salt true))) name (from_be_bytes w64 (slice_range (header (salt true)) 32 40)) refl
+    (take 32 (header (salt true))) name _ refl
 
 front : (other : Bool) → length (title ++ salt other) ≡ 40
 front false = refl
@@ -59,9 +57,9 @@ says other rs are name =
     let read : reservations (head ++ records_of rs) ≡ reserved_in head ++ rs =
     reservations_split (head ++ records_of rs) (omega (arith, length-append head (records_of rs), long other))
     ∙ ap (λ xs. reserved_in xs ++ reservations (drop 64 (head ++ records_of rs)))
-    (take_at head (records_of rs) 64 (long other))
-    ∙ ap (λ xs. reserved_in head ++ reservations xs) (drop_at head (records_of rs) 64 (long other))
-    ∙ ap (λ qs. reserved_in head ++ qs) (reads_records rs are).0 in
+    (take_at head (records_of rs) 64 (long _))
+    ∙ ap (λ xs. reserved_in head ++ reservations xs) (drop_at head (records_of rs) 64 (long _))
+    ∙ ap (λ qs. reserved_in head ++ qs) (reads_records _ are).0 in
     let same : highest (reservations (head ++ records_of rs)) name ≡ highest (reserved_in head ++ rs) name =
     ap (λ qs. highest qs name) read in
     omega (arith, same, highest-append (reserved_in head) rs name, in_header other name)
@@ -72,17 +70,13 @@ salt_is true rs = refl
 
 header_is : (other : Bool) (rs : List Reservation) →
     same_octets (take 64 (journal other rs)) (header (salt_of (journal other rs))) ≡ true
-header_is other rs =
-    ap (λ xs. same_octets xs (header (salt_of (journal other rs))))
-    (take_at (header (salt other)) (records_of rs) 64 (long other))
-    ∙ ap (λ s. same_octets (header (salt other)) (header s)) (salt_is other rs)
-    ∙ same_octets-refl (header (salt other))
+header_is other rs = ap (λ xs. same_octets xs (header (salt_of (journal other rs))))
+    (take_at (header (salt other)) (records_of rs) 64 (long _))
+    ∙ ap (λ s. same_octets (header (salt other)) (header s)) (salt_is _ _) ∙ same_octets-refl (header (salt other))
 
 -- it is a journal
 pub is_one : (other : Bool) (rs : List Reservation) → is_journal (journal other rs) ≡ true
 is_one other rs =
     let longer : 64 ≤ length (journal other rs) =
     omega (arith, length-append (header (salt other)) (records_of rs), long other) in
-    and_from (nat_le 64 (length (journal other rs)))
-    (same_octets (take 64 (journal other rs)) (header (salt_of (journal other rs))))
-    (le-leb 64 (length (journal other rs)) longer) (header_is other rs)
+    and_from _ _ (le-leb _ _ longer) (header_is _ _)

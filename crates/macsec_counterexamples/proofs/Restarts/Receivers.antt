@@ -32,8 +32,7 @@ window_of Wide = 1
 window_of r = 0
 
 abbrev pub commands : Receiver → List Command
-commands r =
-    Key (new_key no_salt 2) ∷ RxSc sci_a ∷ RxSa sci_a 0 0 1 (lowest_of r) ∷ RxOn sci_a 0
+commands r = Key (new_key no_salt 2) ∷ RxSc sci_a ∷ RxSa sci_a 0 0 1 (lowest_of r) ∷ RxOn sci_a 0
     ∷ Replay (replay_of r) (window_of r) ∷ []
 
 abbrev pub inputs : Receiver → List KeepingInput
@@ -64,12 +63,12 @@ abbrev pub heard : Receiver → List ℕ → State
 heard r t = state_after_receiving (ready r) (frame t) (judged_as r)
 
 pub is_heard : (r : Receiver) (t : List ℕ) → Opens 1 t → (step (ready r) (link_frame (frame t))).1 ≡ heard r t
-is_heard r t is = rw (judged r t is)
+is_heard r t is = rw (judged _ _ is)
 
 -- ---- they are sound
 
 first_sound : IsSound (start gcm_b)
-first_sound = begins_sound gcm_b refl
+first_sound = begins_sound _ refl
 
 carried : (r : Receiver) → none_refused (start gcm_b) (commands r) ≡ true
 carried Plain = refl
@@ -90,7 +89,7 @@ heard_fit Wide t = refl
 heard_fit Off t = refl
 
 pub heard_sound : (r : Receiver) (t : List ℕ) → Opens 1 t → IsSound (heard r t)
-heard_sound r t is = link_sound (frame t) (is_heard r t is) (heard_fit r t) (ready_sound r)
+heard_sound r t is = link_sound (frame t) (is_heard _ _ is) (heard_fit r t) (ready_sound _)
 
 -- ---- its steps, with any journal that has not saved the packet number
 
@@ -99,7 +98,6 @@ name_of salt = receiving_name (sending_name salt bytes) sci_a 0
 
 pub goes : (salt : List ℕ) (before : List Reservation) (r : Receiver) → highest before (name_of salt) < lowest_of r →
     Goes (kept salt before [] (start gcm_b)) (inputs r) [] (kept salt before [] (ready r))
-goes salt before r free =
-    commands_go (commands r)
+goes salt before r free = commands_go (commands r)
     {inputs = []} (refl, (refl, (is_new before (name_of salt) (lowest_of r) free, (refl, (refl, tt)))))
     (carried r) (fit r) first_sound (ended _ (ready_sound r))

@@ -98,7 +98,7 @@ run_goes : (r : Receiver) (rs : List Reservation) (all : List KeepingInput) → 
 run_goes r rs all are free =
     let above : highest (reads rs) name < lowest_of r =
     omega (arith, reduced_reserves (reservations (journal false rs)) name, says false rs are name, free) in
-    rw (salt_is false rs) (goes (salt false) (reads rs) r above)
+    rw (salt_is _ _) (goes (salt false) (reads rs) r above)
 
 nothing : All IsReservation []
 nothing = All-nil IsReservation
@@ -109,8 +109,7 @@ link = endpoint_input (link_frame (frame first_tag))
 -- ---- the later run: it delivers the frame, with packet number 1
 
 later_refutes : (left_out : Premise) (r : Receiver) (run : Run) (rs : List Reservation) → All IsReservation rs →
-    highest rs name < lowest_of r →
-    (DropsLate ≢ left_out → (ready r).options.replay ≡ true) →
+    highest rs name < lowest_of r → (DropsLate ≢ left_out → (ready r).options.replay ≡ true) →
     row_name (salt false) (ready r) (rx_from (lowest_of r)) ≡ name →
     HasSavedBut left_out run name 1 → (IsDurable ≢ left_out → KeepsDurable run (run_with rs [])) →
     LawWithout left_out run (run_with rs []) name 1 → ⊥
@@ -120,10 +119,8 @@ later_refutes left_out r run rs are free drops named saved durable law =
     let same : s ≡ ready r = rw it.ends in
     let is : judgement_of s (frame first_tag) ≡ judged_as r = rw (same, judged r first_tag first_opens) in
     let less : 1 < (judgement_of s (frame first_tag)).number =
-    law saved durable (inputs r) (frame first_tag) (rx_from (lowest_of r)) (client 1)
-    (λ d. rw (same, drops d))
-    (rw is) (rw is)
-    (rw (salt_is false rs, same, named)) in
+    law saved durable (inputs r) (frame first_tag) (rx_from (lowest_of r)) (client 1) (λ d. rw (same, drops d))
+    (rw is) (rw is) (rw (salt_is false rs, same, named)) in
     let one : (judgement_of s (frame first_tag)).number ≡ 1 = rw is in
     omega (arith, less, one)
 
@@ -153,9 +150,8 @@ at_ready r = kept (salt false) (reads []) [] (ready r)
 -- the frame, and what follows it
 frame_goes : (r : Receiver) (then_on : List KeepingInput) (last : Keeping) → Goes (after r) then_on [] last →
     Goes (at_ready r) (link ∷ then_on) [] last
-frame_goes r then_on last rest =
-    next_goes (ready_sound r) (link_seals (at_ready r) (frame first_tag))
-    (rw (link_step (at_ready r) (frame first_tag), is_heard r first_tag first_opens)) rest
+frame_goes r then_on last rest = next_goes (ready_sound _) (link_seals (at_ready r) (frame first_tag))
+    (rw (link_step _ _, is_heard _ _ first_opens)) rest
 
 saved_but : (left_out : Premise) (r : Receiver) (all then_on : List KeepingInput) (last : Keeping) (row : RxRow) →
     verdict_of r ≡ verdict_of Plain → highest [] name < lowest_of r →
@@ -188,7 +184,7 @@ abbrev only_name : ℕ → Reservation
 only_name n = record { name = name; last = n }
 
 at_most : (n : ℕ) (other : List ℕ) → highest (only_name n ∷ []) other < n + 1
-at_most n other = by_name (same_octets name other)
+at_most n other = by_name _
   where
     by_name : (b : Bool) → (if b then max n 0 else 0) < n + 1
     by_name true = omega arith
@@ -204,21 +200,20 @@ abbrev reports : Receiver → ℕ → List KeepingInput
 reports r n = inputs r ++ link ∷ now_durable (only_name n) ∷ []
 
 plain_saved : (left_out : Premise) → HasSavedBut left_out (run_with [] (reports Plain 1)) name 1
-plain_saved left_out =
-    saved_but left_out Plain (reports Plain 1) [] (after Plain) (rx_from 2) refl (omega arith)
-    (ended (after Plain) (heard_sound Plain first_tag first_opens))
+plain_saved left_out = saved_but left_out Plain (reports Plain 1) [] (after Plain) (rx_from 2) refl (omega arith)
+    (ended _ (heard_sound Plain first_tag first_opens))
     (λ d. All-nil (KeepsAssociation sci_a 0)) (λ d. refl) refl refl (λ d. (0, omega arith, refl))
 
 -- the later run reads an empty journal
 pub durability_needed : LawWithout IsDurable (run_with [] (reports Plain 1)) (run_with [] []) name 1 → ⊥
 durability_needed = later_refutes IsDurable Plain (run_with [] (reports Plain 1)) [] nothing (omega arith)
-    (λ d. refl) refl (plain_saved IsDurable) (λ d. absurd (d refl))
+    (λ d. refl) refl (plain_saved _) (λ d. absurd (d refl))
 
 -- the later run does not drop late frames: its SA begins at packet number 2, and it delivers the frame as a late one
 pub protection_needed : LawWithout DropsLate (run_with [] (reports Plain 1)) (run_with (only_name 1 ∷ []) []) name 1 → ⊥
 protection_needed =
     later_refutes DropsLate Off (run_with [] (reports Plain 1)) (only_name 1 ∷ []) (is_reservation 1 (omega arith))
-    (at_most 1 name) (λ d. absurd (d refl)) refl (plain_saved DropsLate)
+    (at_most 1 _) (λ d. absurd (d refl)) refl (plain_saved _)
     (λ d n. omega (arith, says false (only_name 1 ∷ []) (is_reservation 1 (omega arith)) n))
 
 -- the run saves nothing: no record was reported durable
@@ -226,16 +221,15 @@ pub report_needed : LawWithout IsReported (run_with [] (inputs Plain ++ link ∷
 report_needed =
     later_refutes IsReported Plain (run_with [] (inputs Plain ++ link ∷ [])) [] nothing (omega arith) (λ d. refl) refl
     (saved_but IsReported Plain (inputs Plain ++ link ∷ []) [] (after Plain) (rx_from 2) refl (omega arith)
-    (ended (after Plain) (heard_sound Plain first_tag first_opens))
-    (λ d. All-nil (KeepsAssociation sci_a 0)) (λ d. refl) refl refl (λ d. absurd (d refl)))
-    (λ d n. omega arith)
+    (ended _ (heard_sound Plain first_tag first_opens))
+    (λ d. All-nil (KeepsAssociation sci_a 0)) (λ d. refl) refl refl (λ d. absurd (d refl))) (λ d n. omega arith)
 
 -- ---- what is saved does not cover the frame
 
 saves_0 : (left_out : Premise) (inputs' : List KeepingInput) → reported (run_with [] inputs') ≡ only_name 0 ∷ [] →
     IsDurable ≢ left_out → KeepsDurable (run_with [] inputs') (run_with [] [])
 saves_0 left_out inputs' is d n =
-    let none : highest (reported (run_with [] inputs')) n < 0 + 1 = rw is (at_most 0 n) in
+    let none : highest (reported (run_with [] inputs')) n < 0 + 1 = rw is (at_most 0 _) in
     omega (arith, none)
 
 -- at a window of 1 the lowest acceptable packet number is still 1
@@ -243,9 +237,9 @@ pub window_of_0_needed : LawWithout WindowOf0 (run_with [] (reports Wide 0)) (ru
 window_of_0_needed =
     later_refutes WindowOf0 Plain (run_with [] (reports Wide 0)) [] nothing (omega arith) (λ d. refl) refl
     (saved_but WindowOf0 Wide (reports Wide 0) [] (after Wide) (record (rx_from 2) { lowest = 1 }) refl (omega arith)
-    (ended (after Wide) (heard_sound Wide first_tag first_opens))
+    (ended _ (heard_sound Wide first_tag first_opens))
     (λ d. All-nil (KeepsAssociation sci_a 0)) (λ d. absurd (d refl)) refl refl (λ d. (0, omega arith, refl)))
-    (saves_0 WindowOf0 (reports Wide 0) refl)
+    (saves_0 _ (reports Wide 0) refl)
 
 -- ---- the SA is deleted after the frame, and created again at packet number 1
 
@@ -278,8 +272,7 @@ pub association_needed : LawWithout KeepsTheAssociation (run_with [] deletes) (r
 association_needed =
     later_refutes KeepsTheAssociation Plain (run_with [] deletes) [] nothing (omega arith) (λ d. refl) refl
     (saved_but KeepsTheAssociation Plain deletes again (in_state created) (record (rx_from 1) { on = false }) refl
-    (omega arith) again_goes
-    (λ d. absurd (d refl)) (λ d. refl) refl refl (λ d. (0, omega arith, refl)))
+    (omega arith) again_goes (λ d. absurd (d refl)) (λ d. refl) refl refl (λ d. (0, omega arith, refl)))
     (saves_0 KeepsTheAssociation deletes refl)
 
 -- ---- the later run's journal has another salt
@@ -305,7 +298,7 @@ salted_names_differ = refl
 plain_has_saved : HasSaved (run_with [] (reports Plain 1))
     (receiving_name (sending_name (salt_of (journal false [])) bytes) sci_a 0) 1
 plain_has_saved =
-    let it = plain_saved IsDurable in
+    let it = plain_saved _ in
     rw (salt_is false []) (premises_suffice IsDurable (run_with [] (reports Plain 1)) name 1 it (it.keeps (λ same. cc))
     (it.window (λ same. cc)) (it.durable (λ same. cc)))
 
@@ -329,9 +322,6 @@ same_salt_needed law =
     let is : judgement_of s (frame first_tag) ≡ judged_as Plain = rw (same, judged Plain first_tag first_opens) in
     let less : 1 < (judgement_of s (frame first_tag)).number =
     law plain_has_saved (λ n. omega (arith, says true (only_name 1 ∷ []) (is_reservation 1 (omega arith)) n))
-    (inputs Plain) (frame first_tag) (rx_from 1) (client 1)
-    (rw same) (rw is)
-    (rw is)
-    (rw same) refl refl in
+    (inputs Plain) (frame first_tag) (rx_from 1) (client 1) (rw same) (rw is) (rw is) (rw same) refl refl in
     let one : (judgement_of s (frame first_tag)).number ≡ 1 = rw is in
     omega (arith, less, one)

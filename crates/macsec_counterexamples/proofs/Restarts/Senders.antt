@@ -15,7 +15,8 @@ use Rattle.macsec_counterexamples.proofs.{
 }
 
 -- in this order: with 32-bit packet numbers; with extended ones and a salt of zeros; with another salt; with the salt
--- under which the IV reads as one of 32-bit packet numbers. The last three are at the other end: with the same own SSCI;
+-- under which the IV reads as one of 32-bit packet numbers. The last three are at the other end: with the same own
+-- SSCI;
 -- with another SSCI and the salt under which the IV reads so; with another SSCI and the salt under which the IV is the
 -- same
 pub data Sender : Type 0 where
@@ -115,7 +116,7 @@ pub goes : (salt : List ℕ) (before : List Reservation) (w : Sender) →
     Goes (kept salt before [] (start (config_of w))) (inputs w salt) (use_of w ∷ [])
     (kept salt before (reserves w salt ∷ []) (at_end w))
 goes salt before w free =
-    let f = facts w in
+    let f = facts _ in
     let name = sending_name salt bytes in
     let n = number_of w in
     let k = kept salt before (reserves w salt ∷ []) (sending w) in

@@ -39,14 +39,13 @@ sci_fits sci = (length sci.0 == 8) && are_small sci.0
 sci_is : (sci : Sci) → sci_fits sci ≡ true → IsSci sci
 sci_is sci is =
     let both = and_parts (length sci.0 == 8) (are_small sci.0) is in
-    record { count = (Decides-eqb (length sci.0) 8).0 both.0; octets = small sci.0 both.1 }
+    record { count = (Decides-eqb (length sci.0) 8).0 both.0; octets = small _ both.1 }
 
 -- ---- keys and SAs
 
 abbrev keys_fit : List InstalledKey → Bool
 keys_fit [] = true
-keys_fit (row ∷ rows) =
-    (nat_lt row.number max_key_count && (length row.bytes == key_length row.suite))
+keys_fit (row ∷ rows) = (nat_lt row.number max_key_count && (length row.bytes == key_length row.suite))
     && (((length row.salt == 12) && nat_lt row.ssci (2 ^ 32))
     && ((nat_le 1 row.first_unused && nat_le row.first_unused (2 ^ 64))
     && (not (is_some (key_row rows row.number)) && keys_fit rows)))
@@ -69,14 +68,13 @@ keys_are (row ∷ rows) fit =
         first_unused_least = leb-true _ _ c'.0;
         first_unused = leb-true _ _ c'.1;
       },
-      none_by (key_row rows row.number) (not_true _ d.0),
+      none_by _ (not_true _ d.0),
       keys_are rows d.1,
     )
 
 abbrev tx_fit : List TxRow → Bool
 tx_fit [] = true
-tx_fit (row ∷ rows) =
-    (nat_lt row.an 4 && nat_lt row.key max_key_count)
+tx_fit (row ∷ rows) = (nat_lt row.an 4 && nat_lt row.key max_key_count)
     && ((nat_le 1 row.next && nat_le row.next (2 ^ 64)) && (not (is_some (tx_row rows row.an)) && tx_fit rows))
 
 tx_are : (rows : List TxRow) → tx_fit rows ≡ true → AreTxRows rows
@@ -93,7 +91,7 @@ tx_are (row ∷ rows) fit =
         next_least = leb-true _ _ b'.0;
         next = leb-true _ _ b'.1;
       },
-      none_by (tx_row rows row.an) (not_true _ c.0),
+      none_by _ (not_true _ c.0),
       tx_are rows c.1,
     )
 
@@ -110,8 +108,7 @@ scis_are (sci ∷ scis) fit =
 
 abbrev rx_fit : List Sci → List RxRow → Bool
 rx_fit scis [] = true
-rx_fit scis (row ∷ rows) =
-    (has_channel scis row.sci && nat_lt row.an 4)
+rx_fit scis (row ∷ rows) = (has_channel scis row.sci && nat_lt row.an 4)
     && ((nat_lt row.key max_key_count && nat_lt row.ssci (2 ^ 32))
     && ((nat_le row.next (2 ^ 64) && (nat_le 1 row.lowest && nat_le row.lowest row.next))
     && (not (is_some (rx_row rows row.sci row.an)) && rx_fit scis rows)))
@@ -136,15 +133,14 @@ rx_are scis (row ∷ rows) fit =
         lowest_least = leb-true _ _ e.0;
         lowest = leb-true _ _ e.1;
       },
-      none_by (rx_row rows row.sci row.an) (not_true _ d.0),
+      none_by _ (not_true _ d.0),
       rx_are scis rows d.1,
     )
 
 -- ---- all tables
 
 abbrev pub tables_fit : State → Bool
-tables_fit s =
-    (keys_fit s.keys && tx_fit s.tx)
+tables_fit s = (keys_fit s.keys && tx_fit s.tx)
     && (nat_le (length s.rx.scis) 64 && (scis_fit s.rx.scis && rx_fit s.rx.scis s.rx.rows))
 
 tables_hold : (s : State) → tables_fit s ≡ true → TablesHold s
@@ -154,9 +150,9 @@ tables_hold s fit =
     let c = and_parts _ _ a.1 in
     let d = and_parts _ _ c.1 in
     record {
-      keys = keys_are s.keys b.0;
-      tx = tx_are s.tx b.1;
-      rx = record { count = leb-true _ _ c.0; scis = scis_are s.rx.scis d.0; rows = rx_are s.rx.scis s.rx.rows d.1 };
+      keys = keys_are _ b.0;
+      tx = tx_are _ b.1;
+      rx = record { count = leb-true _ _ c.0; scis = scis_are _ d.0; rows = rx_are _ _ d.1 };
     }
 
 -- ---- how an endpoint stays sound
@@ -167,8 +163,7 @@ begins_well config = not (is_some (config_fault config)) && sci_fits config.sci
 pub begins_sound : (config : EndConfig) → begins_well config ≡ true → IsSound (start config)
 begins_sound config is =
     let both = and_parts _ _ is in
-    at_start config (none_by (config_fault config) (not_true _ both.0)) (sci_is config.sci both.1)
-    (tables_hold (start config) refl)
+    at_start config (none_by _ (not_true _ both.0)) (sci_is _ both.1) (tables_hold _ refl)
 
 -- none of the commands is refused
 abbrev pub none_refused : State → List Command → Bool
@@ -182,14 +177,13 @@ all_fit s (c ∷ cs) = tables_fit (effect s c) && all_fit (effect s c) cs
 
 pub first_carried : (s : State) (c : Command) (cs : List Command) → none_refused s (c ∷ cs) ≡ true →
     (refusal s c ≡ None) × (none_refused (effect s c) cs ≡ true)
-first_carried s c cs none = let both = and_parts _ _ none in (none_by (refusal s c) (not_true _ both.0), both.1)
+first_carried s c cs none = let both = and_parts _ _ none in (none_by _ (not_true _ both.0), both.1)
 
 pub first_sound : (s : State) (c : Command) (cs : List Command) → refusal s c ≡ None → all_fit s (c ∷ cs) ≡ true →
-    IsSound s →
-    IsSound (effect s c) × (all_fit (effect s c) cs ≡ true)
+    IsSound s → IsSound (effect s c) × (all_fit (effect s c) cs ≡ true)
 first_sound s c cs fits fit sound =
     let both = and_parts _ _ fit in
-    (after_effect s c fits (tables_hold (effect s c) both.0) sound, both.1)
+    (after_effect s c fits (tables_hold _ both.0) sound, both.1)
 
 abbrev pub after_commands : State → List Command → State
 after_commands s [] = s
@@ -200,12 +194,11 @@ pub commands_sound : (cs : List Command) {s : State} → none_refused s cs ≡ t
 commands_sound [] none fit sound = sound
 commands_sound (c ∷ cs) {s} none fit sound =
     let it = first_carried s c cs none in
-    let now = first_sound s c cs it.0 fit sound in
+    let now = first_sound _ _ _ it.0 fit sound in
     commands_sound cs it.1 now.1 now.0
 
 pub sent_sound : {s after : State} (frame : List ℕ) → (step s (client_frame frame)).1 ≡ after →
-    tables_fit after ≡ true →
-    IsSound s → IsSound after
+    tables_fit after ≡ true → IsSound s → IsSound after
 sent_sound frame is fits sound = rw is at (after_client_frame _ frame (rw is (tables_hold _ fits)) sound)
 
 pub heard_sound : {s after : State} (frame : List ℕ) → (step s (link_frame frame)).1 ≡ after → tables_fit after ≡ true →

@@ -49,8 +49,7 @@ premises_suffice left_out run other but sci keys = record {
 }
 
 abbrev pub LawWithout : Premise → Run → Run → Type 0
-LawWithout left_out run other =
-    IsHistory (run ∷ []) → IsHistory (other ∷ []) → AreOfTwoEndsBut left_out run other →
+LawWithout left_out run other = IsHistory (run ∷ []) → IsHistory (other ∷ []) → AreOfTwoEndsBut left_out run other →
     AllPairs HasOtherIv (sealed_in_all (run ∷ []) ++ sealed_in_all (other ∷ []))
 
 -- ---- two runs, with empty journals
@@ -69,20 +68,16 @@ one_run run sound = record {
 refuted : (left_out : Premise) (w v : Sender) (k l : Keeping) →
     Goes (opening (run_with w)) (run_with w).inputs (use_of w ∷ []) k →
     Goes (opening (run_with v)) (run_with v).inputs (use_of v ∷ []) l → k.secy.keys ≡ key_at w (number_of w + 1) ∷ [] →
-    l.secy.keys ≡ key_at v (number_of v + 1) ∷ [] →
-    (OtherScis ≢ left_out → (config_of w).sci ≢ (config_of v).sci) →
+    l.secy.keys ≡ key_at v (number_of v + 1) ∷ [] → (OtherScis ≢ left_out → (config_of w).sci ≢ (config_of v).sci) →
     ((p : Premise) → p ≢ left_out → Agree (key_at w (number_of w + 1)) (key_at v (number_of v + 1)) p) →
     (use_of w).key ≡ (use_of v).key → (use_of w).iv ≡ (use_of v).iv → LawWithout left_out (run_with w) (run_with v) → ⊥
 refuted left_out w v k l first second keys keys' sci agree same_key same_iv law =
     let is : sealed_in_all (run_with w ∷ []) ++ sealed_in_all (run_with v ∷ []) ≡ use_of w ∷ use_of v ∷ [] =
     rw (first.seals, second.seals) in
-    let pairs = law (one_run (run_with w) first.sound) (one_run (run_with v) second.sound)
-    (record {
+    let pairs = law (one_run (run_with w) first.sound) (one_run (run_with v) second.sound) (record {
       sci = sci;
-      keys = λ p differ.
-          of_keys (λ x y. x.bytes ≡ y.bytes → Agree x y p) (run_with w) (run_with v) w v
-          (rw (first.ends, keys))
-          (rw (second.ends, keys')) (λ same. agree p differ);
+      keys = λ p differ. of_keys (λ x y. x.bytes ≡ y.bytes → Agree x y p) (run_with w) (run_with v) w v
+          (rw (first.ends, keys)) (rw (second.ends, keys')) (λ same. agree p differ);
     }) in
     subst (AllPairs HasOtherIv) is pairs 0 1 (use_of w) (omega arith) (omega arith) same_key same_iv
 
@@ -101,7 +96,7 @@ salted_goes : Goes (opening (run_with AtBSalted)) (run_with AtBSalted).inputs (u
 salted_goes = run_goes AtBSalted false [] nothing (omega arith)
 
 differ_in_sci : sci_a ≢ sci_b
-differ_in_sci = scis_differ sci_a sci_b (λ same. omega (arith, same))
+differ_in_sci = scis_differ _ _ (λ same. omega (arith, same))
 
 -- ---- the premises
 
@@ -123,8 +118,7 @@ agree_b OtherSscis differ = absurd (differ refl)
 
 pub other_sscis_needed : LawWithout OtherSscis (run_with Extended) (run_with AtB) → ⊥
 unfolding sum_with_stream
-other_sscis_needed = refuted OtherSscis Extended AtB _ _ extended_goes b_goes refl refl
-    (λ d. differ_in_sci) agree_b refl refl
+other_sscis_needed = refuted _ Extended AtB _ _ extended_goes b_goes refl refl (λ d. differ_in_sci) agree_b refl refl
 
 agree_reads : (p : Premise) → p ≢ SameSuite → Agree (key_at Short 2) (key_at AtBReads 2) p
 agree_reads OtherScis differ = tt
@@ -134,7 +128,7 @@ agree_reads OtherSscis differ = λ xpn. cc
 
 pub same_suite_needed : LawWithout SameSuite (run_with Short) (run_with AtBReads) → ⊥
 unfolding sum_with_stream
-same_suite_needed = refuted SameSuite Short AtBReads _ _ short_goes reads_goes refl refl
+same_suite_needed = refuted _ Short AtBReads _ _ short_goes reads_goes refl refl
     (λ d. differ_in_sci) agree_reads refl refl
 
 agree_salted : (p : Premise) → p ≢ SameKeySalt → Agree (key_at Extended 2) (key_at AtBSalted 2) p
@@ -145,5 +139,5 @@ agree_salted OtherSscis differ = λ xpn same. omega (arith, same)
 
 pub same_salt_needed : LawWithout SameKeySalt (run_with Extended) (run_with AtBSalted) → ⊥
 unfolding sum_with_stream
-same_salt_needed = refuted SameKeySalt Extended AtBSalted _ _ extended_goes salted_goes refl refl
+same_salt_needed = refuted _ Extended AtBSalted _ _ extended_goes salted_goes refl refl
     (λ d. differ_in_sci) agree_salted refl refl
