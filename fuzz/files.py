@@ -91,7 +91,8 @@ class File:
         refuse("E_JOURNAL_BUSY", self.step != "RESTING")
         refuse("E_JOURNAL_FULL", count > self.limit // journals.RECORD)
         refuse("E_NOT_RECORD", len(octets) % journals.RECORD != 0 or len(records) != count)
-        refuse("E_JOURNAL_FULL", not fits(self.limit, len(self.table) + count))
+        new = sum(name not in self.table for name, _ in records)
+        refuse("E_JOURNAL_FULL", count >= self.limit // journals.RECORD or not fits(self.limit, len(self.table) + new))
         after = self.at + 2 * ceiling(journals.RECORD * count)
         replaces = self.doubt or anew or self.limit < after
         self.table = journals.one_a_name(iter([*self.table.items(), *records]))

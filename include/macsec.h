@@ -867,7 +867,7 @@ uint32_t macsec_reserve_granted(macsec_endpoint *e, const macsec_record *record)
  * of 4,096 octets of their own. So a file with one damaged sector is refused, or says all that it said before. The
  * first order, and each after a failure, replaces the file by a new one with all that was read or ordered. A file with
  * a header of macsec_journal_header is read too, and then replaced by one of the new form. Names are compared one with
- * another: macsec_journal_begin makes n * n comparisons for n names, and an order of k records 2 * k * n. */
+ * another: macsec_journal_begin makes n * n comparisons for n names, and an order of k records 3 * k * n. */
 
 /* The system call that is next. */
 enum {
@@ -901,7 +901,8 @@ uint32_t macsec_journal_order_raw(macsec_journal *j, const uint8_t *records, siz
 /* Orders that records be made durable. With `anew`, if the file is in doubt, or if they do not fit after its end, the
  * file is replaced, also without records. The first that applies, and then nothing has changed:
  * MACSEC_E_JOURNAL_BUSY (the step is not MACSEC_STEP_RESTING), MACSEC_E_JOURNAL_FULL (more than limit / 64 records),
- * MACSEC_E_NOT_RECORD, MACSEC_E_JOURNAL_FULL (with an entry for each new name they would not fit). */
+ * MACSEC_E_NOT_RECORD, MACSEC_E_JOURNAL_FULL (limit / 64 records; or with an entry for each record whose name has none,
+ * the entries would not fit). */
 static inline uint32_t macsec_journal_order(macsec_journal *j, const macsec_record *records, size_t count, bool anew) {
     const size_t length = MACSEC_RECORD_LENGTH * count;
     return macsec_journal_order_raw(j, macsec_octets((const uint8_t *)records, length), length, anew);
