@@ -18,13 +18,13 @@ static void note(struct device *d, const macsec_command *c, bool passes) {
         keys_retire(d->keys, c->key);
         numbers_note_retired(d->numbers, c->key, passes);
         break;
-    case BEGINS:
+    case BEGINS_SA:
         if (c->kind == MACSEC_COMMAND_TX_SA)
             numbers_reserve(d->numbers, d->endpoint);
         else
             numbers_accept(d->numbers, d->endpoint);
         break;
-    case ENDS:
+    case ENDS_SA:
         totals_end(&d->totals, c->sci, c->kind == MACSEC_COMMAND_RX_DEL ? c->an : -1);
         break;
     }

@@ -230,7 +230,8 @@ static int make_call(struct journal *journal, struct journal_fault *fault) {
         [MACSEC_STEP_SYNCING_FOLDER] = { sync_folder, "sync folder" },
     };
     const uint32_t step = journal->call.step;
-    return calls[step].make(journal) ? 0 : failed(fault, calls[step].step, errno);
+    bool (*make)(struct journal * journal) = calls[step].make;
+    return make != NULL && make(journal) ? 0 : failed(fault, calls[step].step, errno);
 }
 
 /* ---- Creating ---- */

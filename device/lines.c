@@ -59,10 +59,10 @@ enum effect lines_effect(uint32_t kind) {
         return WIPES_KEY;
     case MACSEC_COMMAND_TX_SA:
     case MACSEC_COMMAND_RX_SA:
-        return BEGINS;
+        return BEGINS_SA;
     case MACSEC_COMMAND_RX_DEL:
     case MACSEC_COMMAND_RX_SC_DEL:
-        return ENDS;
+        return ENDS_SA;
     case MACSEC_COMMAND_NONE:
     case MACSEC_COMMAND_PROTECT:
     case MACSEC_COMMAND_VALIDATE:
@@ -84,8 +84,8 @@ uint32_t lines_carry_out(struct numbers *n, macsec_endpoint *e, const macsec_com
     enum effect effect = lines_effect(c->kind);
     uint32_t status;
     *raised = 0;
-    if (effect == ENDS)
+    if (effect == ENDS_SA)
         numbers_note_accepted(n, e, c->sci);
     status = macsec_carry_out(e, c);
-    return status == MACSEC_E_PN_FLOOR && effect == BEGINS ? begin_above(e, c, raised) : status;
+    return status == MACSEC_E_PN_FLOOR && effect == BEGINS_SA ? begin_above(e, c, raised) : status;
 }

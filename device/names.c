@@ -43,7 +43,7 @@ static void add(struct names *n, const struct name *name) {
 
 /* The name of a record, which is added if it is new. Returns NULL if there is no room for it. */
 static struct name *name_of(struct names *n, const macsec_record *record) {
-    if (names_find(n, record->octets) == NULL && n->count < n->room)
+    if (n->slots[slot_of(n, record->octets)] == 0 && n->count < n->room)
         add(n, &(struct name){ .made = *record, .key = NO_KEY });
     return names_find(n, record->octets);
 }
@@ -111,7 +111,7 @@ bool names_cover(const struct name *name, const macsec_record *record) {
 }
 
 struct name *names_note(struct names *n, const macsec_record *record, uint32_t key) {
-    bool existed = names_find(n, record->octets) != NULL;
+    bool existed = n->slots[slot_of(n, record->octets)] != 0;
     struct name *name = name_of(n, record);
     if (name == NULL)
         return NULL;

@@ -183,7 +183,7 @@ void numbers_close(struct numbers *n, macsec_endpoint *e);
 /* ---- lines.c: commands that begin and end associations ---- */
 
 /* What a command that is carried out means for the device beside its endpoint: associations begin or end, say. */
-enum effect { NO_EFFECT, KEEPS_KEY, WIPES_KEY, BEGINS, ENDS };
+enum effect { NO_EFFECT, KEEPS_KEY, WIPES_KEY, BEGINS_SA, ENDS_SA };
 enum effect lines_effect(uint32_t kind);
 
 /* Carries out a command. If an association begins above the command's packet number, since lower ones may have been

@@ -73,7 +73,7 @@ static struct result change(struct device *d, int client, const struct words *w,
  * reserved, or ended the endpoint. One that is refused is answered at once. */
 static bool has_made_records(const struct words *w, const struct result *r) {
     return r->fault == NULL && r->status == MACSEC_OK &&
-           (lines_effect(r->kind) == BEGINS || words_is(w, 0, "open") || words_is(w, 0, "close"));
+           (lines_effect(r->kind) == BEGINS_SA || words_is(w, 0, "open") || words_is(w, 0, "close"));
 }
 
 bool requests_answer(struct device *d, struct text *t, int client, char *request, size_t length) {

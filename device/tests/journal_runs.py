@@ -52,7 +52,7 @@ def compiled(out: pathlib.Path, *words: str) -> pathlib.Path:
 
 def build_numbers(library: pathlib.Path, folder: pathlib.Path) -> pathlib.Path:
     """Builds the end that reserves as macsecd does. Its reservations are short."""
-    parts = "commands journal journal_writer journals lines names numbers receive_rates text words".split()
+    parts = "journal journal_writer journals lines names numbers receive_rates text".split()
     sizes = ['-DNUMBERS_FILE_LENGTH=(size_t)atol(getenv("LIMIT"))', "-DAMOUNT_MIN=8", "-DRECEIVE_RATES_LEAST=8"]
     sources = [str(ROOT / f"device/{it}.c") for it in (*parts, "tests/journal_numbers")]
     return compiled(folder / "journal_numbers", "-pedantic", "-pthread", *sizes, *sources, str(library))

@@ -37,7 +37,7 @@ CONTROLS: dict[str, list[tuple[str, str, str]]] = {
               ("frames.c", "link_no_reservation += got->verdict ==", "link_no_reservation += got->verdict >"),
               ("held_frames.c", "    if (h->count == HELD_FRAMES ||", "    if (true ||"),
               ("loop.c", "    RETURN_IF_FAILED(end_of(d, held_frames_give(d)));\n", ""),
-              ("requests.c", "lines_effect(r->kind) == BEGINS", "r->kind == MACSEC_COMMAND_TX_SA")],
+              ("requests.c", "lines_effect(r->kind) == BEGINS_SA", "r->kind == MACSEC_COMMAND_TX_SA")],
     "disk": [("journal_writer.c", "    if (s->runs) {", "    if (false) {"),
              ("numbers.c", "LASTS = 32, SLOW = 16,", "LASTS = 1, SLOW = 0,"),
              ("waits.c", "enum { LONGEST = 1000 };", "enum { LONGEST = 10000 };"),
