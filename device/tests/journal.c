@@ -2,17 +2,16 @@
  *
  *     journal create JOURNAL
  *     journal send JOURNAL LIMIT SUITE AMOUNT FRAMES CAPTURE
- *     journal keys JOURNAL LIMIT SUITE COUNT
  *     journal receive JOURNAL LIMIT SUITE CAPTURE IN..
  *     journal accept JOURNAL LIMIT SUITE AMOUNT CAPTURE PREFIX COUNT
  *
  * send protects frames under two keys, one after another, and writes each to CAPTURE before it protects the next
- * one. It ends after FRAMES of them, or never if FRAMES is 0. keys makes four reservations for each of COUNT keys.
- * receive gives all frames of IN to an endpoint with a replay window of 0. It writes those that the endpoint
- * delivers to CAPTURE, once their packet numbers are saved. accept gives all frames of the captures PREFIX0, PREFIX1,
- * .. to an endpoint that reserves AMOUNT packet numbers ahead of receiving, and writes those that it delivers to
- * CAPTURE at once. It ends after COUNT captures. If COUNT is 0 it never ends: it waits for more frames of the last
- * capture, and for the next one. The status is 3 if the journal can't be created or opened. */
+ * one. It ends after FRAMES of them, or never if FRAMES is 0. receive gives all frames of IN to an endpoint with a
+ * replay window of 0. It writes those that the endpoint delivers to CAPTURE, once their packet numbers are saved.
+ * accept gives all frames of the captures PREFIX0, PREFIX1, .. to an endpoint that reserves AMOUNT packet numbers ahead
+ * of receiving, and writes those that it delivers to CAPTURE at once. It ends after COUNT captures. If COUNT is 0 it
+ * never ends: it waits for more frames of the last capture, and for the next one. The status is 3 if the journal can't
+ * be created or opened. */
 #define _GNU_SOURCE
 #include "journal.h"
 #include "../../tests/library/suites.h"
@@ -152,7 +151,7 @@ static void reserve_to_accept(uint8_t an, uint64_t pn) {
     (void)keep(macsec_reserve_to_accept(&e, sender, an, amount, pn, &record), &record);
 }
 
-/* ---- send and keys ---- */
+/* ---- send ---- */
 
 static int run_send(char **words) {
     const uint64_t frames = number_of(words[4]);
@@ -174,21 +173,6 @@ static int run_send(char **words) {
             passed++;
         else
             dropped++;
-    }
-    return end("sent");
-}
-
-static int run_keys(char **words) {
-    const uint64_t keys = number_of(words[3]);
-    begin(sender, false, words);
-    out = create_capture("/dev/null");
-    for (uint16_t it = KEYS; it < KEYS + keys; it++) {
-        macsec_sak key = { { 0xc0, (uint8_t)(it >> 8), (uint8_t)it }, { 0 }, 0, MACSEC_SUITE_DEFAULT, it, 16, 0 };
-        must("install_key", macsec_install_key(&e, &key));
-        must("add_tx_sa", macsec_add_tx_sa(&e, 0, it, 1, true));
-        for (amount = 100 + it; amount <= 27 * (100U + it); amount *= 3)
-            reserve(0);
-        must("delete_tx_sa", macsec_delete_tx_sa(&e, 0));
     }
     return end("sent");
 }
@@ -331,12 +315,10 @@ int main(int count, char **words) {
         return run_create(words[2]);
     if (count == 8 && strcmp(words[1], "send") == 0)
         return run_send(words + 2);
-    if (count == 6 && strcmp(words[1], "keys") == 0)
-        return run_keys(words + 2);
     if (count >= 6 && strcmp(words[1], "receive") == 0)
         return run_receive(count - 2, words + 2);
     if (count == 9 && strcmp(words[1], "accept") == 0)
         return run_accept(words + 2);
-    fprintf(stderr, "usage: journal create|send|keys|receive|accept ..: see device/tests/journal.c\n");
+    fprintf(stderr, "usage: journal create|send|receive|accept ..: see device/tests/journal.c\n");
     return 2;
 }
