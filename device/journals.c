@@ -93,6 +93,15 @@ static int compare(const struct config *c, const char *path, const uint8_t *octe
 
 /* ---- The other journals ---- */
 
+/* Reads a journal. Returns its octets, which are to be freed, or NULL. */
+static uint8_t *read_file(const char *path, size_t *length) {
+    int file = open(path, O_RDONLY | O_CLOEXEC | O_NOFOLLOW | O_NONBLOCK | O_NOCTTY);
+    uint8_t *octets = file < 0 ? NULL : journal_read(file, length);
+    if (file >= 0)
+        (void)close(file); /* it was only read */
+    return octets;
+}
+
 /* Does the library begin with the octets of a file? Returns its status. */
 static uint32_t test_octets(const uint8_t *octets, size_t length) {
     macsec_journal journal = MACSEC_JOURNAL_INIT;
@@ -145,22 +154,14 @@ const char *journals_fault(const char *path) {
         return "has another name too";
     if (about.st_size > (off_t)JOURNAL_MAX)
         return "is too long";
-    octets = journal_read(file, &length);
+    octets = read_file(path, &length);
     fault = octets == NULL ? NULL : fault_of_octets(octets, length);
     free(octets);
     return fault;
 }
 
-const char *journals_fault(const char *path) {
-    int file = open(path, O_RDONLY | O_CLOEXEC | O_NOFOLLOW | O_NONBLOCK | O_NOCTTY);
-    const char *fault = file < 0 ? NULL : fault_of_file(file, path);
-    if (file >= 0)
-        (void)close(file); /* it was only read */
-    return fault;
-}
-
 /* Compares with the octets of a journal. An endpoint reads each valid record of a damaged one too, after a header. */
-static int compare_octets(const struct keys *k, const char *path, uint8_t *octets, size_t length) {
+static int compare_octets(const struct config *c, const char *path, uint8_t *octets, size_t length) {
     uint32_t status = test_octets(octets, length);
     macsec_record header;
     int result;
@@ -168,26 +169,25 @@ static int compare_octets(const struct keys *k, const char *path, uint8_t *octet
         return 0;
     (void)macsec_journal_header(octets + SALT_AT, &header); /* it always succeeds */
     memcpy(octets, header.octets, sizeof header.octets);
-    result = compare(k, path, octets, length);
+    result = compare(c, path, octets, length);
     if (result == 0 && status == MACSEC_E_JOURNAL_DAMAGED)
         message("%s is damaged, so not all its keys are compared", path);
     return result;
 }
 
 /* Compares with one journal. It can be written meanwhile. */
-static int compare_file(const struct keys *k, const char *folder, const char *name) {
+static int compare_file(const struct config *c, const char *folder, const char *name) {
     char path[PATH_MAX];
     uint8_t *octets;
     size_t length;
-    int result = 0, file;
+    int result = 0;
     if (snprintf(path, sizeof path, "%s/%s", folder, name) >= (int)sizeof path)
         return 0;
-    file = open(path, O_RDONLY | O_CLOEXEC | O_NOFOLLOW | O_NONBLOCK | O_NOCTTY);
-    octets = file < 0 ? NULL : journal_read(file, &length);
+    octets = read_file(path, &length);
     if (octets == NULL)
         message("%s can't be read, so keys are not compared with it", path);
     else
-        result = compare_octets(k, path, octets, length);
+        result = compare_octets(c, path, octets, length);
     free(octets);
     return result;
 }
