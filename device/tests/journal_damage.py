@@ -99,24 +99,9 @@ def cut(program: pathlib.Path, rng: random.Random) -> bool:
     return noticed
 
 
-def check_again(program: pathlib.Path) -> None:
-    """A key that comes again in one run is not given up: its name stays when those of older keys go."""
-    frames: list[runs.Frame] = []
-    with runs.work_folder() as folder:
-        runs.run(program, ["create", str(folder / "journal")])
-        for _ in range(2):
-            ended = runs.run(program, words_of("agree", folder, 1 << 16, 600))
-            report(ended.status == 0, f"a key that comes again: {ended}")
-            frames += [it for it in runs.frames_of(folder / "capture") if it[1] == 0]
-    sent = [it for it in frames if it[0] == runs.SENDER]
-    holds = len(set(sent)) == len(sent) == 4 and len(frames) - len(sent) == 2
-    report(holds, f"of a key that comes again these frames are sent and delivered: {frames}")
-
-
 def check_damage(options: runs.Options) -> None:
-    """Damaged journals, cut journals, and keys that come again."""
+    """Damaged journals and cut journals."""
     numbers, jobs = runs.build_numbers(options.library, options.folder), []
-    check_again(numbers)
     journals, each, cuts = (12, 15, 8) if options.short else (250, 20, 500)
     with ThreadPoolExecutor(len(os.sched_getaffinity(0))) as pool:
         made = list(pool.map(lambda it: make(options, numbers, it), range(journals)))

@@ -48,6 +48,7 @@ CONTROLS: dict[str, list[tuple[str, str, str]]] = {
              ("names.c", "name->note / 2 + KEPT_NAMES <=", "name->note / 2 + 1 <="),
              ("numbers.c", "    if (passes && n->passes[key])", "    if (passes)"),
              ("numbers.c", "FILLED = 50", "FILLED = 51"),
+             ("numbers.c", "names_note(&n->names, &name->durable, sa.key); /* its", "0; /* its"),
              ("waits.c", "    numbers_go_on(d->numbers, d->endpoint);", "   "),
              ("endpoint.c", "numbers_note_retired(d->numbers, c->key, passes);",
               "numbers_note_retired(d->numbers, c->key, false);")],

@@ -24,7 +24,7 @@ from house.compiling import INCLUDED, WARNINGS
 from house.reporting import call, report, until
 from journal_runs import earlier_header
 from macsecd_handover import dropped, next_of
-from macsecd_world import Background, Client, End, Packets, Stream, World, build, expect, hand_over_lines
+from macsecd_world import Background, Client, End, Packets, Stream, World, build, expect, hand_over_lines, ping
 
 CHANNELS = 64
 
@@ -387,7 +387,12 @@ def check_given_up(world: World) -> None:
     other.socket.close()
     client = Client(a)
     client.carry_out("own", "A txoff 0", "A txdel 0", f"A rxscdel {b.sci}", "A retire 0", "A retire 1")
-    client.carry_out(f"open {a.sci} gcm128", *use)
+    again = f"A key 5 {secrets.token_hex(16)} 0"
+    received = [again, f"A rxsc {b.sci}", f"A rxsa {b.sci} 1 5 1"]
+    client.carry_out(f"open {a.sci} gcm128", *received, f"A rxon {b.sci} 1")
+    b.carry_out(again, "A txsa 1 5 1 conf", "A txon 1")
+    ping(b)
+    client.carry_out(f"A rxdel {b.sci} 1", "A retire 5", f"open {a.sci} gcm128", *received, *use)
     keys = [secrets.token_hex(16) for _ in range(1200)]
     for number, key in enumerate(keys, 8):
         client.carry_out(f"A key {number} {key} 0", f"A txsa 2 {number} 1 conf", "A txdel 2", f"A retire {number}")
@@ -396,6 +401,8 @@ def check_given_up(world: World) -> None:
     report(answers[0].startswith("ok pn"), f"given up: a recent key begins again at 1: {answers}")
     report(answers[1] == "ok\n", f"given up: an old key has not left the journal: {answers}")
     report(answers[2].startswith("ok pn"), f"given up: a key that came again before begins at 1: {answers}")
+    client.carry_out(*received[:2])
+    report(client.ask(received[2]).startswith("ok pn"), "given up: a key that is installed again has left the journal")
     client.close()
     a.stop()
     log = len(a.log())
