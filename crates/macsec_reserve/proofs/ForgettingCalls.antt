@@ -16,24 +16,24 @@ use Rattle.{
 
 -- ---- names
 
-renamed_row : (salt : List ℕ) (n : ℕ) (bytes : List ℕ) (row : InstalledKey) → named salt (if row.number == n then with_bytes bytes row else row) ≡ renamed n (sending_name salt bytes) (named salt row)
-renamed_row salt n bytes row = by_number (row.number == n)
+renamed_rows : (salt : List ℕ) (n : ℕ) (bytes : List ℕ) (change : InstalledKey → InstalledKey) →
+    ((row : InstalledKey) → named salt (change row) ≡ record (named salt row) { name = sending_name salt bytes }) → (keys : List InstalledKey) →
+    map (named salt) (with_key change n keys) ≡ map (renamed n (sending_name salt bytes)) (map (named salt) keys)
+renamed_rows salt n bytes change has [] = refl
+renamed_rows salt n bytes change has (row ∷ rows) =
+    ap (λ (x : NamedKey). x ∷ map (named salt) (with_key change n rows)) (by_number (row.number == n))
+    ∙ ap (λ (xs : List NamedKey). renamed n (sending_name salt bytes) (named salt row) ∷ xs) (renamed_rows salt n bytes change has rows)
   where
-    by_number : (b : Bool) → named salt (if b then with_bytes bytes row else row) ≡ (if b then record (named salt row) { name = sending_name salt bytes } else named salt row)
-    by_number true = refl
+    by_number : (b : Bool) → named salt (if b then change row else row) ≡ (if b then record (named salt row) { name = sending_name salt bytes } else named salt row)
+    by_number true = has row
     by_number false = refl
 
-renamed_rows : (salt : List ℕ) (n : ℕ) (bytes : List ℕ) (keys : List InstalledKey) →
-    map (named salt) (with_key (with_bytes bytes) n keys) ≡ map (renamed n (sending_name salt bytes)) (map (named salt) keys)
-renamed_rows salt n bytes [] = refl
-renamed_rows salt n bytes (row ∷ rows) =
-    ap (λ (x : NamedKey). x ∷ map (named salt) (with_key (with_bytes bytes) n rows)) (renamed_row salt n bytes row)
-    ∙ ap (λ (xs : List NamedKey). renamed n (sending_name salt bytes) (named salt row) ∷ xs) (renamed_rows salt n bytes rows)
-
--- after the octets of a key are replaced, the keys have these names
-pub names_replaced : (salt : List ℕ) (n : ℕ) (bytes : List ℕ) (keys : List InstalledKey) (names : List NamedKey) → HasNames salt keys names →
-    HasNames salt (with_key (with_bytes bytes) n keys) (map (renamed n (sending_name salt bytes)) names)
-names_replaced salt n bytes keys names are = renamed_rows salt n bytes keys ∙ ap (λ (ns : List NamedKey). map (renamed n (sending_name salt bytes)) ns) are
+-- after a key gets other octets, the keys have these names
+pub names_changed : (salt : List ℕ) (n : ℕ) (bytes : List ℕ) (change : InstalledKey → InstalledKey) →
+    ((row : InstalledKey) → named salt (change row) ≡ record (named salt row) { name = sending_name salt bytes }) → (keys : List InstalledKey) (names : List NamedKey) →
+    HasNames salt keys names → HasNames salt (with_key change n keys) (map (renamed n (sending_name salt bytes)) names)
+names_changed salt n bytes change has keys names are =
+    renamed_rows salt n bytes change has keys ∙ ap (λ (ns : List NamedKey). map (renamed n (sending_name salt bytes)) ns) are
 
 -- ---- the fingerprint of a key
 

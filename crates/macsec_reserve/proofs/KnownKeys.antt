@@ -110,7 +110,7 @@ forgotten_repeated k key was =
     ap (λ bytes. is_repeated k.secy.keys bytes) (bytes_of_fingerprint k.salt key.bytes) ∙ retired_repeated k.secy.keys (fingerprint k.salt (key_bytes key.bytes)) was
 
 -- the octets that are taken are in the table
-taken_repeated : (k : Keeping) (key : NewKey) → is_known k (key_bytes key.bytes) ≡ true → is_repeated k.secy.keys (key_bytes (as_taken k key).bytes) ≡ true
+pub taken_repeated : (k : Keeping) (key : NewKey) → is_known k (key_bytes key.bytes) ≡ true → is_repeated k.secy.keys (key_bytes (as_taken k key).bytes) ≡ true
 taken_repeated k key known = by_test (is_forgotten k (key_bytes key.bytes)) refl known
   where
     by_test : (b : Bool) → is_forgotten k (key_bytes key.bytes) ≡ b → (is_repeated k.secy.keys (key_bytes key.bytes) || b) ≡ true →
@@ -234,7 +234,7 @@ any_changed P change stays n (row ∷ rows) any = by_case (or_cases (P row) (lis
     by_case (inl here) later = ap (λ b. b || list_any P (with_key change n rows)) (by_test (row.number == n) here)
     by_case (inr there) later = ap (λ b. P (at_number change n row) || b) (later there) ∙ or_true (P (at_number change n row))
 
-any_with : (P : InstalledKey → Bool) (keys more : List InstalledKey) → list_any P keys ≡ true → list_any P (keys ++ more) ≡ true
+pub any_with : (P : InstalledKey → Bool) (keys more : List InstalledKey) → list_any P keys ≡ true → list_any P (keys ++ more) ≡ true
 any_with P [] more any = cc
 any_with P (row ∷ rows) more any = by_case (or_cases (P row) (list_any P rows) any) (any_with P rows more)
   where
@@ -281,10 +281,10 @@ keeping_leaves P stays k (endpoint_input input) any =
 
 -- ---- what is known
 
-abbrev has_bytes : List ℕ → InstalledKey → Bool
+abbrev pub has_bytes : List ℕ → InstalledKey → Bool
 has_bytes bytes row = same_octets row.bytes bytes
 
-abbrev is_retired_with : List ℕ → InstalledKey → Bool
+abbrev pub is_retired_with : List ℕ → InstalledKey → Bool
 is_retired_with bytes row = row.retired && same_octets row.bytes bytes
 
 has_stays : (bytes : List ℕ) → StaysTrue (has_bytes bytes)
@@ -294,10 +294,10 @@ retired_stays : (bytes : List ℕ) → StaysTrue (is_retired_with bytes)
 retired_stays bytes = record { noting = λ pn row is. is; retiring = λ row is. (and_parts row.retired (same_octets row.bytes bytes) is).1 }
 
 -- octets that are known in a table, at this salt
-abbrev KnownIn : List ℕ → List ℕ → List InstalledKey → Type 0
+abbrev pub KnownIn : List ℕ → List ℕ → List InstalledKey → Type 0
 KnownIn salt bytes keys = (is_repeated keys bytes || has_retired keys (fingerprint salt bytes)) ≡ true
 
-known_in : (salt bytes : List ℕ) (keys : List InstalledKey) → (is_repeated keys bytes ≡ true) ⊎ (has_retired keys (fingerprint salt bytes) ≡ true) → KnownIn salt bytes keys
+pub known_in : (salt bytes : List ℕ) (keys : List InstalledKey) → (is_repeated keys bytes ≡ true) ⊎ (has_retired keys (fingerprint salt bytes) ≡ true) → KnownIn salt bytes keys
 known_in salt bytes keys (inl has) = ap (λ b. b || has_retired keys (fingerprint salt bytes)) has
 known_in salt bytes keys (inr was) = ap (λ b. is_repeated keys bytes || b) was ∙ or_true (is_repeated keys bytes)
 
@@ -350,10 +350,10 @@ kept_row : (octets : List ℕ) (n : ℕ) (row : InstalledKey) → (row.number ==
 kept_row octets n row at = ap (at_number (with_bytes octets) n) (at_false retired_row n row at) ∙ at_false (with_bytes octets) n row at
 
 -- the row of a number, in a table whose keys are apart
-row_of : (keys : List InstalledKey) (n : ℕ) (x : InstalledKey) → KeysAreApart keys → Contains keys x → (x.number == n) ≡ true → key_row keys n ≡ Some x
+pub row_of : (keys : List InstalledKey) (n : ℕ) (x : InstalledKey) → KeysAreApart keys → Contains keys x → (x.number == n) ≡ true → key_row keys n ≡ Some x
 row_of keys n x apart there at = subst (λ m. key_row keys m ≡ Some x) (eqb-true x.number n at) (apart.by_number x there)
 
-same_octets_is : (x y : List ℕ) → same_octets x y ≡ true → x ≡ y
+pub same_octets_is : (x y : List ℕ) → same_octets x y ≡ true → x ≡ y
 same_octets_is x y is = (bytes_eq-Decides x y).0 is
 
 -- the octets of a key that is retired and then forgotten, and the table after it

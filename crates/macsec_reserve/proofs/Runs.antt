@@ -46,7 +46,7 @@ none_at_all : (go : Bool) → AllPairs HasOtherIv (sealed_if go [])
 none_at_all true = no_pairs HasOtherIv
 none_at_all false = no_pairs HasOtherIv
 
-one_at_most : (k : Keeping) (input : KeepingInput) → AllPairs HasOtherIv (newly_sealed k input)
+pub one_at_most : (k : Keeping) (input : KeepingInput) → AllPairs HasOtherIv (newly_sealed k input)
 one_at_most k (now_durable r) = no_pairs HasOtherIv
 one_at_most k (endpoint_input (operator_command c)) = none_at_all (may_go k (operator_command c))
 one_at_most k (endpoint_input (client_frame frame)) = none_or_one (may_go k (client_frame frame)) k.secy frame (frame_fault frame) (sending_of k.secy frame).by

@@ -2,7 +2,7 @@
 -- that no earlier run may have used.
 use Rattle.std.proofs.Common.{ltb-true}
 use Rattle.macsec_reserve.proofs.{
-  Prelude.{[], ◌<◌, ◌||◌, ◌∙◌, ◌∷◌, ◌≡◌, ◌≤◌, All, All-cons, All-nil, and_parts, ap, arith, Bool, CipherUse},
+  Prelude.{[], ◌<◌, ◌||◌, ◌∙◌, ◌∷◌, ◌≡◌, ◌≤◌, All, All-cons, All-nil, All-weaker, and_parts, ap, arith, Bool, CipherUse},
   Prelude.{client_frame, Contains, dropped_no_reservation, EndConfig, endpoint_input, false, frame_fault, FrameFault},
   Prelude.{highest, if◌then◌else◌, InstalledKey, IsSound, iv_of, Keeping, keeping_step, KeepingInput, key_name},
   Prelude.{KeysStay, last_of, leb-true, link_frame, List, list_any, may_go, may_use, nat_le, nat_lt, newly_sealed},
@@ -35,7 +35,7 @@ pub record IsNewUse (k after later : Keeping) (x : CipherUse) : Type 0 where
   pub bytes : x.key ≡ key.bytes
   pub noted : is_use.number < key.first_unused
 
-iv_again : (suite suite' : Suite) (sci sci' : Sci) (ssci ssci' : ℕ) (salt salt' : List ℕ) (n : ℕ) → suite' ≡ suite → sci' ≡ sci → ssci' ≡ ssci → salt' ≡ salt →
+pub iv_again : (suite suite' : Suite) (sci sci' : Sci) (ssci ssci' : ℕ) (salt salt' : List ℕ) (n : ℕ) → suite' ≡ suite → sci' ≡ sci → ssci' ≡ ssci → salt' ≡ salt →
     iv_of suite sci ssci salt n ≡ iv_of suite' sci' ssci' salt' n
 iv_again suite suite' sci sci' ssci ssci' salt salt' n a b c d =
     ap (λ x. iv_of x sci ssci salt n) (sym a)
@@ -120,30 +120,35 @@ new_use laws k frame row later keeps sound fits by go stay grow =
 
 -- ---- every input
 
-frame_uses : Laws → (k : Keeping) (frame : List ℕ) (later : Keeping) → k.keeps ≡ true → IsSound k.secy →
-    KeysStay (keeping_step k (endpoint_input (client_frame frame))).1.secy later.secy →
-    ((name : List ℕ) → highest k.granted name ≤ highest later.granted name) →
-    (fault : Option FrameFault) → frame_fault frame ≡ fault → (by : Option TxRow) → (sending_of k.secy frame).by ≡ by →
-    (go : Bool) → may_go k (client_frame frame) ≡ go →
-    All (IsNewUse k (keeping_step k (endpoint_input (client_frame frame))).1 later) (sealed_if go (sealed_by k.secy frame fault by))
-frame_uses laws k frame later keeps sound stay grow fault fits by sent false go = All-nil (IsNewUse k (keeping_step k (endpoint_input (client_frame frame))).1 later)
-frame_uses laws k frame later keeps sound stay grow (Some f) fits by sent true go = All-nil (IsNewUse k (keeping_step k (endpoint_input (client_frame frame))).1 later)
-frame_uses laws k frame later keeps sound stay grow None fits None sent true go = All-nil (IsNewUse k (keeping_step k (endpoint_input (client_frame frame))).1 later)
-frame_uses laws k frame later keeps sound stay grow None fits (Some row) sent true go =
-    let P : CipherUse → Type 0 = IsNewUse k (keeping_step k (endpoint_input (client_frame frame))).1 later in
-    All-cons P (use_sent (tx_options k.secy) (the_key k.secy.keys row.key) row frame) [] (new_use laws k frame row later keeps sound fits sent go stay grow) (All-nil P)
+-- every use is a client frame's that the enabled SA protects
+pub each_use : (P : KeepingInput → CipherUse → Type 0) (k : Keeping) →
+    ((frame : List ℕ) (row : TxRow) → frame_fault frame ≡ None → (sending_of k.secy frame).by ≡ Some row → may_go k (client_frame frame) ≡ true →
+    P (endpoint_input (client_frame frame)) (use_sent (tx_options k.secy) (the_key k.secy.keys row.key) row frame)) →
+    (input : KeepingInput) → All (P input) (newly_sealed k input)
+each_use P k holds (now_durable r) = All-nil (P (now_durable r))
+each_use P k holds (endpoint_input (client_frame frame)) =
+    by_tests (frame_fault frame) (sending_of k.secy frame).by (may_go k (client_frame frame)) refl refl refl
+  where
+    Q : CipherUse → Type 0
+    Q = P (endpoint_input (client_frame frame))
 
-none_if : (P : CipherUse → Type 0) (go : Bool) → All P (sealed_if go [])
-none_if P true = All-nil P
-none_if P false = All-nil P
+    by_tests : (fault : Option FrameFault) (by : Option TxRow) (go : Bool) → frame_fault frame ≡ fault → (sending_of k.secy frame).by ≡ by → may_go k (client_frame frame) ≡ go →
+        All Q (sealed_if go (sealed_by k.secy frame fault by))
+    by_tests fault by false fits sent goes = All-nil Q
+    by_tests (Some f) by true fits sent goes = All-nil Q
+    by_tests None None true fits sent goes = All-nil Q
+    by_tests None (Some row) true fits sent goes = All-cons Q (use_sent (tx_options k.secy) (the_key k.secy.keys row.key) row frame) [] (holds frame row fits sent goes) (All-nil Q)
+each_use P k holds (endpoint_input input) = none_if (P (endpoint_input input)) (may_go k input)
+  where
+    none_if : (Q : CipherUse → Type 0) (go : Bool) → All Q (sealed_if go [])
+    none_if Q true = All-nil Q
+    none_if Q false = All-nil Q
 
 -- what a step seals, up to a later moment of the run
 pub new_uses : Laws → (k : Keeping) (input : KeepingInput) (later : Keeping) → k.keeps ≡ true → IsSound k.secy →
     KeysStay (keeping_step k input).1.secy later.secy → ((name : List ℕ) → highest k.granted name ≤ highest later.granted name) →
     All (IsNewUse k (keeping_step k input).1 later) (newly_sealed k input)
-new_uses laws k (now_durable r) later keeps sound stay grow = All-nil (IsNewUse k (keeping_step k (now_durable r)).1 later)
-new_uses laws k (endpoint_input (operator_command c)) later keeps sound stay grow = none_if (IsNewUse k (keeping_step k (endpoint_input (operator_command c))).1 later) (may_go k (operator_command c))
-new_uses laws k (endpoint_input (client_frame frame)) later keeps sound stay grow =
-    frame_uses laws k frame later keeps sound stay grow (frame_fault frame) refl (sending_of k.secy frame).by refl (may_go k (client_frame frame)) refl
-new_uses laws k (endpoint_input (uncontrolled_frame frame)) later keeps sound stay grow = none_if (IsNewUse k (keeping_step k (endpoint_input (uncontrolled_frame frame))).1 later) (may_go k (uncontrolled_frame frame))
-new_uses laws k (endpoint_input (link_frame frame)) later keeps sound stay grow = none_if (IsNewUse k (keeping_step k (endpoint_input (link_frame frame))).1 later) (may_go k (link_frame frame))
+new_uses laws k input later keeps sound stay grow =
+    let Stays : KeepingInput → Type 0 = λ i. KeysStay (keeping_step k i).1.secy later.secy in
+    All-weaker (λ x. Stays input → IsNewUse k (keeping_step k input).1 later x) (IsNewUse k (keeping_step k input).1 later) (λ x it. it stay) (newly_sealed k input)
+    (each_use (λ i x. Stays i → IsNewUse k (keeping_step k i).1 later x) k (λ frame row fits by go stays. new_use laws k frame row later keeps sound fits by go stays grow) input)

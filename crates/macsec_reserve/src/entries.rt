@@ -1,6 +1,6 @@
 //! Reservations, one entry for each name.
 
-ghost use Rattle.std.specs.Prelude.{◌≡◌, map, OnOk};
+ghost use Rattle.std.specs.Prelude.{◌≡◌, map, set, OnOk};
 ghost use Rattle.macsec_reserve.specs.Entries.{has_entry, raised_by, with_one_more};
 
 use crate::Reservation;
@@ -51,5 +51,15 @@ fn raised_by(entry: Reservation, by: &Reservation) -> Reservation
         Reservation { name, last }
     } else {
         entry
+    }
+}
+
+/// Gives the entry at a place, if there is one, another name, with nothing reserved.
+pub(crate) fn restart(entries: &mut [Reservation], place: usize, name: &[u8; 32])
+    ensures { entries.new ≡ set entries.old place (record { name = name.now; last = 0 }) }
+{
+    if place < entries.len() {
+        let name = *name;
+        entries[place] = Reservation { name, last: 0 };
     }
 }

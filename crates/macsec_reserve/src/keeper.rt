@@ -1,6 +1,6 @@
 //! The keeping endpoint.
 
-ghost use Rattle.std.specs.Prelude.{◌≡◌, ◌≤◌, ◌+◌, ◌++◌, ◌==◌, ◌&&◌, List, ℕ, true, drop, length, map, option_and_then, option_map, Some, None, Err, IfErr, IfSome, is_some, ◌-◌, ◌^◌, min, IfOk, nat_lt, nat_le, vec_capacity, vec_len, if◌then◌else◌};
+ghost use Rattle.std.specs.Prelude.{◌≡◌, ◌≤◌, ◌+◌, ◌++◌, ◌==◌, ◌&&◌, List, ℕ, true, drop, length, map, option_and_then, option_map, Some, None, Err, IfErr, IfSome, is_some, ◌-◌, ◌^◌, min, IfOk, OnErr, nat_lt, nat_le, vec_capacity, vec_len, if◌then◌else◌};
 ghost use Rattle.std.specs.Borrow.{sem};
 ghost use Rattle.macsec_aes.specs.Keys.{key_bytes};
 ghost use Rattle.macsec_tx.specs.Rows.{IsEnabled};
@@ -20,11 +20,14 @@ ghost use Rattle.macsec_reserve.specs.Forgetting.{as_taken, can_forget, fingerpr
 ghost use Rattle.macsec_reserve.specs.Journal.{highest, sending_name};
 ghost use Rattle.macsec_reserve.specs.Keeping.{begins_at, endpoint_input, endpoint_output, is_below_floor, keeping_step, may_go, now_durable, rx_floor, tx_floor, uses_reserved, wanted_for, wanted_last, was_reserved};
 ghost use Rattle.macsec_reserve.specs.Limited.{limited_keeping_step};
-ghost use Rattle.macsec_reserve.specs.Names.{IsAtHand, entry_of, name_or_none, name_row, names_after};
+ghost use Rattle.macsec_reserve.specs.Names.{IsAtHand, entry_of, name_or_none, name_row, names_after, place_named};
+ghost use Rattle.macsec_suite.specs.Refusals.{refusal_of};
+ghost use Rattle.macsec_secy.specs.Renewing.{renewal_refusal};
+ghost use Rattle.macsec_reserve.specs.Renewing.{forgetting_refusal, is_given_up, forgetting_after_renewing, keeping_after_renewing};
 ghost use Rattle.macsec_reserve.specs.Replay.{row_name, saved_for};
 ghost use Rattle.macsec_reserve.specs.Rests.{RestsAs};
 
-use crate::entries::raise;
+use crate::entries::{raise, restart};
 use crate::forgetting::{fingerprint, key_of_name, name_of_key, rename};
 use crate::journal::{entries_of, salt_of};
 use crate::{Reservation, highest, is_journal, receiving_name, sending_name};
@@ -33,7 +36,7 @@ use macsec_secy::{
     An, Command, EnabledSa, EndConfig, FrameFault, KeyNumber, NewFault, NewKey, OpenedFrame,
     Outcome, OutsidePn, Planned, PnLimits, Received, Refusal, RxRow, Sci, Secy, Sent, TxRow,
 };
-use std::alloc::Global;
+use std::alloc::{AllocError, Global};
 use std::marker::Model;
 
 /// How many keys an endpoint can have.
@@ -418,6 +421,78 @@ impl Keeper {
         }
     }
 
+    /// Installs a key, as `Secy::renew_key`: also under the number of a retired key that no association uses. What earlier
+    /// runs reserved stays known by the names of the keys, so a transmit association under the new key begins above what was
+    /// reserved under its octets. Nothing is reserved for the new key; what is reserved for every other key stays.
+    ///
+    /// The name of the key that was there is given up, for which 40 octets are needed: `AllocError` means that there is no
+    /// memory for them, and changes nothing.
+    pub fn renew_key(&mut self, key: &NewKey) -> Result<Result<(), Refusal>, AllocError>
+        ensures refusal { IfOk result (λ answer. refusal_of answer ≡ renewal_refusal self.old.secy key.now) }
+        ensures after { IfOk result (λ answer. self.new ≡ keeping_after_renewing key.now self.old) }
+        ensures unchanged { OnErr result (self.new ≡ self.old) }
+        ensures sound { IsSound self.new.secy }
+    {
+        // For the prover only: after this line it knows that the endpoint is sound. The compiler deletes the line.
+        let _ = &self.keeps;
+        self.before.reserve(1)?;
+        match self.secy.renew_key(key) {
+            Ok(()) => {
+                self.at_hand = None;
+                match named_key(self.names.as_slice(), key.number) {
+                    Some(gone) => {
+                        let name = name_of_key(&self.salt, key.bytes);
+                        let old = gone.name;
+                        self.before
+                            .push(Reservation {
+                                name: old,
+                                last: u64::MAX,
+                            })
+                            .unwrap();
+                        let place = place_of(self.names.as_slice(), key.number);
+                        rename(self.names.as_mut_slice(), key.number, &name);
+                        restart(self.granted.as_mut_slice(), place, &name);
+                        self.take_at_hand();
+                        Ok(Ok(()))
+                    }
+                    None => {
+                        note_key(&self.salt, &mut self.names, &Command::Key(*key));
+                        self.take_at_hand();
+                        Ok(Ok(()))
+                    }
+                }
+            }
+            Err(refusal) => Ok(Err(refusal)),
+        }
+    }
+
+    /// Installs a key, as `renew_key`. It also refuses octets that are given up, and, as `command_forgetting` does, those of
+    /// a forgotten key.
+    pub fn renew_forgetting(&mut self, key: &NewKey) -> Result<Result<(), Refusal>, AllocError>
+        ensures refusal { IfOk result (λ answer. refusal_of answer ≡ forgetting_refusal self.old key.now) }
+        ensures after { IfOk result (λ answer. self.new ≡ forgetting_after_renewing self.old key.now) }
+        ensures unchanged { OnErr result (self.new ≡ self.old) }
+        ensures sound { IsSound self.new.secy }
+    {
+        // For the prover only: after this line it knows that the endpoint is sound. The compiler deletes the line.
+        let _ = &self.keeps;
+        if self.is_given_up(key.bytes) {
+            return Ok(Err(Refusal::KeyRepeated));
+        }
+        let key = self.as_taken(*key);
+        self.renew_key(&key)
+    }
+
+    /// Did a new key take the row of the key with these octets?
+    pub fn is_given_up(&self, bytes: Key) -> bool
+        ensures { result ≡ is_given_up self.now (key_bytes bytes) }
+    {
+        let name = name_of_key(&self.salt, bytes);
+        let of_fingerprint = name_of_key(&self.salt, fingerprint(&self.salt, bytes));
+        is_all(highest(self.before.as_slice(), &name))
+            || is_all(highest(self.before.as_slice(), &of_fingerprint))
+    }
+
     /// A key to install, with its fingerprint in place of its octets if it was forgotten.
     fn as_taken(&self, key: NewKey) -> NewKey
         ensures { result ≡ as_taken self.now key }
@@ -618,6 +693,27 @@ fn named_key(names: &[NamedKey], key: KeyNumber) -> Option<NamedKey>
         }
     }
     None
+}
+
+/// The place of the key of this number among the names.
+fn place_of(names: &[NamedKey], key: KeyNumber) -> usize
+    ensures { result ≡ place_named names.now key }
+{
+    let mut place = 0;
+    for named in names {
+        if named.number == key {
+            return place;
+        }
+        place += 1;
+    }
+    place
+}
+
+/// Is no packet number above this one?
+fn is_all(last: u64) -> bool
+    ensures { result ≡ nat_le (2 ^ 64 - 1) last }
+{
+    u64::MAX <= last
 }
 
 /// Was this packet number not used by an earlier run, and is it reserved?

@@ -10,10 +10,13 @@ ghost use Rattle.macsec_tag.specs.declared.identifiers.Sci.{Sci};
 ghost use Rattle.macsec_rx.specs.declared.RxRow.{RxRow};
 ghost use Rattle.macsec_secy.specs.State.{State};
 ghost use Rattle.macsec_secy.specs.Step.{Input};
+ghost use Rattle.macsec_suite.specs.KeyRows.{InstalledKey};
 ghost use Rattle.macsec_suite.specs.declared.key_row.NewKey.{NewKey};
 ghost use Rattle.macsec_reserve.specs.Forgotten.{BecomesKnown, ForgetsAlike, IsAsBefore, RefusesKnown, RepeatsNoIvForgetting, StaysKnown};
 ghost use Rattle.macsec_reserve.specs.OfKeys.{RepeatsNoIvOfKeys, RepeatsNoIvOfKeysForgetting};
 ghost use Rattle.macsec_reserve.specs.Keeping.{Keeping, KeepingInput, alone};
+ghost use Rattle.macsec_reserve.specs.Renewing.{GivesUpOctets, KeepsFloors, RefusesGivenUp, StaysGivenUp, StaysGivenUpBy};
+ghost use Rattle.macsec_reserve.specs.RenewingRuns.{OctetsHaveOneKey, RepeatsNoIvRenewing};
 ghost use Rattle.macsec_reserve.specs.Replay.{DeliversAbove, NeverDeliversAgain, NeverDeliversAgainUnder, SavesAccepted};
 ghost use Rattle.macsec_reserve.specs.Transparent.{IsTheMachine, IsTheMachineAlone};
 ghost use Rattle.macsec_reserve.specs.TwoEnds.{RepeatsNoIvAtBoth, RepeatsNoIvAtBothAfterCrashes};
@@ -125,6 +128,34 @@ pub fn refuses_forgotten_keys()
 {
     // Laws that the proof cites; the calls do nothing.
     keys_stay();
+    retired_keys_decide_nothing();
+    rows_agree();
+}
+
+/// When a new key takes the row of a retired one, the retired key's octets are given up: `Keeper::renew_forgetting` refuses
+/// them from then on, also if only their fingerprint was left, whatever the inputs and the renewals are. No floor falls:
+/// what an earlier run may have used stays refused.
+pub fn renewing_gives_up_octets()
+    ensures gives_up { (k : Keeping) (key : NewKey) (bytes : List ℕ) → GivesUpOctets k key bytes }
+    ensures stays { (k : Keeping) (key : NewKey) (bytes : List ℕ) → StaysGivenUp k key bytes }
+    ensures forever { (k : Keeping) (input : KeepingInput) (bytes : List ℕ) → StaysGivenUpBy k input bytes }
+    ensures refuses { (k : Keeping) (key : NewKey) → RefusesGivenUp k key }
+    ensures floors { (k : Keeping) (key : NewKey) (name : List ℕ) → KeepsFloors k key name }
+{}
+
+/// One run of an endpoint that renews keys, with a journal or without one: each key is installed by
+/// `Keeper::renew_forgetting`, and each other command is carried out by `Keeper::command_forgetting`. The first promise: no
+/// two frames are sealed with the same key octets and the same IV, however many keys took the row of another one
+/// (`ivs`). Octets of a key that was installed do not return: if an SA uses a key with these octets later, it is that
+/// key, and the key's first unused packet number has not fallen (`octets`).
+pub fn renews_keys_safely()
+    ensures ivs { (k : Keeping) (inputs : List KeepingInput) → RepeatsNoIvRenewing k inputs }
+    ensures octets { (k : Keeping) (inputs : List KeepingInput) (n : ℕ) (key : InstalledKey) (m : ℕ) (later : InstalledKey) → OctetsHaveOneKey k inputs n key m later }
+{
+    // Laws that the proof cites; the calls do nothing.
+    equal_ivs();
+    keys_stay();
+    protects_frames();
     retired_keys_decide_nothing();
     rows_agree();
 }

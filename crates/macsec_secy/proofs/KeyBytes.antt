@@ -1,10 +1,10 @@
 -- No two keys have the same bytes: bytes that are in the table are refused.
 use Rattle.std.proofs.{Common.cond, lemmas.Cmp.nat_list_eq_equiv}
 use Rattle.macsec_secy.proofs.{
-  Names.{[], ◌==◌, ◌∙◌, ◌∷◌, ◌≡◌, AreKeyRows, at_number, Bool, eqb-true, false, first_refusal, if◌then◌else◌},
-  Names.{install_refusals, InstalledKey, is_repeated, key_row, keys_after, keys_replacing, keys_retiring, keys_with},
+  Names.{[], ◌==◌, ◌∙◌, ◌∷◌, ◌≡◌, ap, AreKeyRows, at_number, Bool, eqb-true, false, first_refusal, if◌then◌else◌},
+  Names.{install_refusals, InstalledKey, is_repeated, key_row, keys_after, keys_retiring, keys_with},
   Names.{List, list_any, map, new_row, NewKey, None, NoTwo, Option, or_from, or_parts, refl, retired_row, row_noting},
-  Names.{same_bytes, same_octets, Some, subst, Suite, true, TxRow, with_bytes, ℕ},
+  Names.{same_bytes, same_octets, Some, subst, Suite, true, TxRow, with_key, ℕ},
   AfterCommands.none_hold,
   KeysKept.field_kept,
   NoTwo.{no_two-map, no_two-with, none-map},
@@ -39,33 +39,35 @@ both_none : (b : Bool) (x : InstalledKey) (r : Option InstalledKey) → cond b (
 both_none true x r h = cc
 both_none false x r h = (refl, h)
 
--- no key has the bytes after a replacement of a key that is not in the table
-none_has : (keys : List InstalledKey) (n : ℕ) (bytes : List ℕ) → key_row keys n ≡ None → is_repeated keys bytes ≡ false →
-    list_any (λ key. same_octets bytes key.bytes) (keys_replacing keys n bytes) ≡ false
-none_has [] n bytes free none = refl
-none_has (key ∷ keys) n bytes free none =
+-- no key has the bytes after a change of a key that is not in the table
+none_has : (change : InstalledKey → InstalledKey) (keys : List InstalledKey) (n : ℕ) (bytes : List ℕ) → key_row keys n ≡ None → is_repeated keys bytes ≡ false →
+    list_any (λ key. same_octets bytes key.bytes) (with_key change n keys) ≡ false
+none_has change [] n bytes free none = refl
+none_has change (key ∷ keys) n bytes free none =
     let parts = or_parts (same_octets key.bytes bytes) (is_repeated keys bytes) none in
     let others = both_none (key.number == n) key (key_row keys n) free in
     let differs : same_octets bytes key.bytes ≡ false = nat_list_eq_equiv.symm bytes key.bytes ∙ parts.0 in
-    rw others.0 (or_from (same_octets bytes key.bytes) (list_any (λ (k : InstalledKey). same_octets bytes k.bytes) (keys_replacing keys n bytes)) differs
-    (none_has keys n bytes others.1 parts.1))
+    rw others.0 (or_from (same_octets bytes key.bytes) (list_any (λ (k : InstalledKey). same_octets bytes k.bytes) (with_key change n keys)) differs
+    (none_has change keys n bytes others.1 parts.1))
 
--- the bytes of one key are replaced by bytes that no key has
-pub with_a_key_replaced : (keys : List InstalledKey) (n : ℕ) (bytes : List ℕ) → AreKeyRows keys → is_repeated keys bytes ≡ false →
-    NoTwo same_bytes keys → NoTwo same_bytes (keys_replacing keys n bytes)
-with_a_key_replaced [] n bytes are none apart = tt
-with_a_key_replaced (key ∷ keys) n bytes are none apart = (by_test (key.number == n) refl, with_a_key_replaced keys n bytes are.2 parts.1 apart.1)
+-- one key gets bytes that no key has
+pub with_a_key_changed : (bytes : List ℕ) (change : InstalledKey → InstalledKey) → ((key : InstalledKey) → (change key).bytes ≡ bytes) → (keys : List InstalledKey) (n : ℕ) → AreKeyRows keys →
+    is_repeated keys bytes ≡ false → NoTwo same_bytes keys → NoTwo same_bytes (with_key change n keys)
+with_a_key_changed bytes change has [] n are none apart = tt
+with_a_key_changed bytes change has (key ∷ keys) n are none apart = (by_test (key.number == n) refl, with_a_key_changed bytes change has keys n are.2 parts.1 apart.1)
   where
     parts : (same_octets key.bytes bytes ≡ false) × (is_repeated keys bytes ≡ false)
     parts = or_parts (same_octets key.bytes bytes) (is_repeated keys bytes) none
 
-    stays : (k : InstalledKey) → same_bytes key k ≡ false → same_bytes key (at_number (with_bytes bytes) n k) ≡ false
+    stays : (k : InstalledKey) → same_bytes key k ≡ false → same_bytes key (at_number change n k) ≡ false
     stays k differs = by_number (k.number == n)
       where
-        by_number : (b : Bool) → same_bytes key (if b then with_bytes bytes k else k) ≡ false
-        by_number true = parts.0
+        by_number : (b : Bool) → same_bytes key (if b then change k else k) ≡ false
+        by_number true = ap (same_octets key.bytes) (has k) ∙ parts.0
         by_number false = differs
 
-    by_test : (b : Bool) → (key.number == n) ≡ b → list_any (same_bytes (if b then with_bytes bytes key else key)) (keys_replacing keys n bytes) ≡ false
-    by_test true is = none_has keys n bytes (subst (λ m. key_row keys m ≡ None) (eqb-true key.number n is) are.1) parts.1
-    by_test false is = none-map (at_number (with_bytes bytes) n) (same_bytes key) (same_bytes key) stays keys apart.0
+    by_test : (b : Bool) → (key.number == n) ≡ b → list_any (same_bytes (if b then change key else key)) (with_key change n keys) ≡ false
+    by_test true is =
+        ap (λ (octets : List ℕ). list_any (λ (k : InstalledKey). same_octets octets k.bytes) (with_key change n keys)) (has key)
+        ∙ none_has change keys n bytes (subst (λ m. key_row keys m ≡ None) (eqb-true key.number n is) are.1) parts.1
+    by_test false is = none-map (at_number change n) (same_bytes key) (same_bytes key) stays keys apart.0

@@ -4,7 +4,7 @@ use Rattle.macsec_suite.specs.Replacing.{can_have}
 use Rattle.macsec_secy.proofs.{
   Names.{◌∙◌, ◌≡◌, Agrees, and_parts, ap, AreKeyRows, Bool, can_replace, false, holds_of, if◌then◌else◌, InstalledKey},
   Names.{is_repeated, IsReady, IsSound, key_row, keys_replacing, List, not, replacing, State, state_after_replacing},
-  Names.{subst, sym, true, ℕ},
+  Names.{refl, subst, sym, true, with_bytes, ℕ},
   FirstUnused.first-replacing,
   UnusedNext.{KeysStay, with_keys},
 }
@@ -19,7 +19,7 @@ agrees_after s n bytes none are agrees =
     let stay : KeysStay s.keys (keys_replacing s.keys n bytes) =
     record { there = λ m. tx.there_replacing s.keys n bytes m; first = λ m. first-replacing s.keys n bytes m } in
     assumption (
-      bytes_of.with_a_key_replaced s.keys n bytes are none agrees.key_bytes,
+      bytes_of.with_a_key_changed bytes (with_bytes bytes) (λ key. refl) s.keys n are none agrees.key_bytes,
       with_keys s.keys (keys_replacing s.keys n bytes) stay s.tx agrees.unused_next,
       sscis.with_a_key_replaced s.keys s.rx.rows n bytes agrees.other_sscis,
     )

@@ -72,7 +72,7 @@ pub with_another_key : (keys : List InstalledKey) (rows : List TxRow) (new : Ins
 with_another_key keys rows new have an =
     has_key_where_keys_stay keys (keys ++ new ∷ []) (tx_row rows an) (there_with_more keys (new ∷ [])) (have an)
 
-with_a_key_changed : (change : InstalledKey → InstalledKey) → ((key : InstalledKey) → (change key).number ≡ key.number) →
+pub with_a_key_changed : (change : InstalledKey → InstalledKey) → ((key : InstalledKey) → (change key).number ≡ key.number) →
     (keys : List InstalledKey) (rows : List TxRow) (number : ℕ) → HaveKeys keys rows → HaveKeys (map (at_number change number) keys) rows
 with_a_key_changed change same keys rows number have an =
     has_key_where_keys_stay keys (map (at_number change number) keys) (tx_row rows an)

@@ -42,6 +42,7 @@ pub mod Contained
 pub mod KeysApart
 pub mod KeysStay
 pub mod KeyReplaced
+pub mod KeyRenewed
 pub mod OtherOctets
 pub mod GivenUp
 pub mod RxRowsStay

@@ -58,20 +58,24 @@ alike g keys n bytes k same =
     ap g (row-map (at_number (with_bytes bytes) n) (same_number (with_bytes bytes) (λ key. refl) n) keys k) ∙ same_by g bytes n same (key_row keys k)
 
 -- the row of another number stays
-pub another : (keys : List InstalledKey) (n : ℕ) (bytes : List ℕ) (k : ℕ) → (k == n) ≡ false → key_row (with_key (with_bytes bytes) n keys) k ≡ key_row keys k
-another [] n bytes k differs = refl
-another (row ∷ keys) n bytes k differs =
-    subst (λ m. (if m == k then Some (at_number (with_bytes bytes) n row) else key_row (with_key (with_bytes bytes) n keys) k) ≡ key_row (row ∷ keys) k)
-    (sym (same_number (with_bytes bytes) (λ key. refl) n row))
-    (by_tests (row.number == k) refl (row.number == n) refl (another keys n bytes k differs))
+pub other_row : (change : InstalledKey → InstalledKey) → ((row : InstalledKey) → (change row).number ≡ row.number) → (keys : List InstalledKey) (n k : ℕ) → (k == n) ≡ false →
+    key_row (with_key change n keys) k ≡ key_row keys k
+other_row change number [] n k differs = refl
+other_row change number (row ∷ keys) n k differs =
+    subst (λ m. (if m == k then Some (at_number change n row) else key_row (with_key change n keys) k) ≡ key_row (row ∷ keys) k)
+    (sym (same_number change number n row))
+    (by_tests (row.number == k) refl (row.number == n) refl (other_row change number keys n k differs))
   where
-    by_tests : (b : Bool) → (row.number == k) ≡ b → (d : Bool) → (row.number == n) ≡ d → key_row (with_key (with_bytes bytes) n keys) k ≡ key_row keys k →
-        (if b then Some (if d then with_bytes bytes row else row) else key_row (with_key (with_bytes bytes) n keys) k) ≡ (if b then Some row else key_row keys k)
+    by_tests : (b : Bool) → (row.number == k) ≡ b → (d : Bool) → (row.number == n) ≡ d → key_row (with_key change n keys) k ≡ key_row keys k →
+        (if b then Some (if d then change row else row) else key_row (with_key change n keys) k) ≡ (if b then Some row else key_row keys k)
     by_tests true at_k true at_n later =
         let same : k ≡ n = sym (eqb-true row.number k at_k) ∙ eqb-true row.number n at_n in
         absurd (let no = sym (eq-eqb k n same) ∙ differs in cc)
     by_tests true at_k false at_n later = refl
     by_tests false at_k d at_n later = later
+
+pub another : (keys : List InstalledKey) (n : ℕ) (bytes : List ℕ) (k : ℕ) → (k == n) ≡ false → key_row (with_key (with_bytes bytes) n keys) k ≡ key_row keys k
+another keys n bytes k differs = other_row (with_bytes bytes) (λ row. refl) keys n k differs
 
 -- ---- the keys
 

@@ -1,5 +1,6 @@
 -- The widest replay window that the keys allow, when keys are installed and changed.
-use Rattle.macsec_secy.proofs.Names.{[], ◌&&◌, ◌++◌, ◌==◌, ◌||◌, ◌∷◌, ◌≡◌, ◌≤◌, arith, at_number, Bool, false}
+use Rattle.macsec_suite.specs.Renewing.{keys_renewing, renewed_row}
+use Rattle.macsec_secy.proofs.Names.{[], ◌&&◌, ◌++◌, ◌==◌, ◌||◌, ◌∙◌, ◌∷◌, ◌≡◌, ◌≤◌, ap, arith, at_number, Bool, false}
 use Rattle.macsec_secy.proofs.Names.{if◌then◌else◌, InstalledKey, is_extended, is_too_wide, is_xpn, keys_noting}
 use Rattle.macsec_secy.proofs.Names.{keys_replacing, keys_retiring, keys_with, List, list_any, ltb-false, map, nat_lt}
 use Rattle.macsec_secy.proofs.Names.{new_row, NewKey, refl, retired_row, row_noting, subst, Suite, sym, true}
@@ -84,3 +85,18 @@ with_one_noting keys number pn window within =
 pub with_one_replaced : (keys : List InstalledKey) (number : ℕ) (bytes : List ℕ) (window : ℕ) → window ≤ widest_beside keys → window ≤ widest_beside (keys_replacing keys number bytes)
 with_one_replaced keys number bytes window within =
     omega (arith, within, changed (at_number (with_bytes bytes) number) (at_one (with_bytes bytes) (λ key is. is) number) keys)
+
+-- a window that is within the new key's limit is within that of all keys
+pub with_one_renewed : (suite : Suite) (keys : List InstalledKey) (key : NewKey) (window : ℕ) → is_too_wide suite window ≡ false → window ≤ widest_beside keys →
+    window ≤ widest_beside (keys_renewing suite keys key)
+with_one_renewed suite keys key window fits within = by_suite (is_xpn suite) refl fits
+  where
+    least : (b : Bool) → window ≤ widest_extended_window → window ≤ widest_if b
+    least true narrow = narrow
+    least false narrow = omega (arith, narrow)
+
+    by_suite : (b : Bool) → is_xpn suite ≡ b → (b && nat_lt widest_extended_window window) ≡ false → window ≤ widest_beside (keys_renewing suite keys key)
+    by_suite true is fits' = least (list_any is_extended (keys_renewing suite keys key)) (ltb-false widest_extended_window window fits')
+    by_suite false is fits' =
+        let none : ExtendsNone (renewed_row suite key) = λ row extended. let no : false && true ≡ true = ap (λ b. b && true) (sym is) ∙ extended in cc in
+        omega (arith, within, changed (at_number (renewed_row suite key) key.number) (at_one (renewed_row suite key) none key.number) keys)

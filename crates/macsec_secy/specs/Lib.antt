@@ -16,6 +16,7 @@ pub mod Rests
 pub mod Accepts
 pub mod Kept
 pub mod GivenUp
+pub mod Renewing
 pub mod Protects
 pub mod Delivers
 pub mod Jobs

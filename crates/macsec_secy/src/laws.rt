@@ -19,6 +19,8 @@ ghost use Rattle.macsec_rx.specs.declared.OpenedFrame.{OpenedFrame};
 ghost use Rattle.macsec_tx.specs.declared.SealJob.{SealJob};
 ghost use Rattle.macsec_secy.specs.Jobs.{KeyStaysPrepared, OpensLater, SealsLater};
 ghost use Rattle.macsec_secy.specs.Protects.{Protects};
+ghost use Rattle.macsec_suite.specs.declared.key_row.NewKey.{NewKey};
+ghost use Rattle.macsec_secy.specs.Renewing.{KeepsAllButKeys, KeepsOtherKeys, TakesNewOctets, TakesNoKeyInUse};
 ghost use Rattle.macsec_secy.specs.Delivers.{DeliversFrom};
 
 use macsec_gcm::laws::{open_undoes_seal, sealed_lengths, sealing_is_injective};
@@ -90,6 +92,16 @@ pub fn retired_keys_decide_nothing()
     ensures stays { (s : State) (n : ℕ) (input : Input) → StaysGivenUp s n input }
     ensures replaced { (s : State) (m n : ℕ) (bytes : List ℕ) → StaysReplaced s m n bytes }
     ensures alike { (s : State) (n : ℕ) (bytes : List ℕ) (input : Input) → StepsAlike s n bytes input }
+{}
+
+/// A new key that takes the number of a retired key changes nothing but that key's row: every other key stays, with its
+/// first unused packet number, and so do all SAs, options and counters. It takes no number of a key that an SA uses or that
+/// is not retired, and brings no octets that a key in the table has.
+pub fn renewing_changes_one_key()
+    ensures others { (s : State) (key : NewKey) (n : ℕ) → KeepsOtherKeys s key n }
+    ensures all_but_keys { (s : State) (key : NewKey) → KeepsAllButKeys s key }
+    ensures in_use { (s : State) (key : NewKey) → TakesNoKeyInUse s key }
+    ensures octets { (s : State) (key : NewKey) → TakesNewOctets s key }
 {}
 
 /// In every state for which `IsSound` holds, a receive SA is the only one with its SC and number. After every input

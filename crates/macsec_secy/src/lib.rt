@@ -9,7 +9,8 @@
 //! InPkts counters of the endpoint and its receive SCs by one, modulo 2^64. Of all other calls only a `command` that
 //! deletes a receive SC can change that sum (`AddsFrames`). The calls that make or change an endpoint also state what
 //! holds of it at all times (`IsSound`, which includes `Agrees`). By its type only `new` takes an allocator.
-//! `replace_key` is no step: it gives a retired key other octets and changes nothing else.
+//! Two calls are no steps. `replace_key` gives a retired key other octets. `renew_key` gives a new key the number and the
+//! row of a retired one that no SA uses. Each changes nothing else.
 //!
 //! Proved: the cipher's work for a frame can be left to another thread. `plan_send` is the step of `send` and returns a
 //! `SealJob`, which makes the frame that `send` would return. `plan_receive` changes nothing and returns the `OpenJob`
@@ -27,6 +28,7 @@
 //! protected gets the verdict `OK` and gives the client frame if the conditions of `specs/Accepts.antt` hold; if its SL
 //! is not 0, also with octets after it. `rows_agree`, `keys_stay`, `rx_rows_stay`: what a step keeps.
 //! `retired_keys_decide_nothing`: the octets of a retired key decide only the refusal `KeyRepeated`.
+//! `renewing_changes_one_key`: what `renew_key` keeps. The laws about lists of inputs are of runs without it.
 //! `lengths_of_frames` and `lengths_of_protected_frames`; `protects_frames` and `delivers_in_time`: facts about the SA
 //! that protects or delivers a frame.
 #![tactic(auto)]

@@ -10,8 +10,9 @@ ghost use Rattle.macsec_secy.specs.State.{tx_options};
 ghost use Rattle.macsec_secy.specs.Sound.{IsSound};
 ghost use Rattle.macsec_secy.specs.Commands.{refusal, state_after_command, uses};
 ghost use Rattle.macsec_secy.specs.GivenUp.{state_after_replacing};
+ghost use Rattle.macsec_secy.specs.Renewing.{renewal_refusal, state_after_renewing};
 
-use crate::{Key, KeyNumber, Mode, Refusal, Sci, Secy, TagForm};
+use crate::{Key, KeyNumber, Mode, NewKey, Refusal, Sci, Secy, TagForm};
 use macsec_commands::is_unfit;
 use macsec_tx::TxOptions;
 
@@ -32,6 +33,27 @@ impl Secy {
         // For the prover only: after this line it knows that the endpoint is sound. The compiler deletes the line.
         let _ = &self.counters;
         self.keys.replace(number, bytes)
+    }
+
+    /// Installs a key as the command does, also under the number of a retired key that no SA uses. Then it takes the row of
+    /// that key, whose octets are overwritten, with all that was prepared from them. Nothing else changes: every other key
+    /// stays, with its first unused packet number, and so do all SAs, counters and options.
+    ///
+    /// The endpoint no longer knows the octets of the key that was in the row, so it does not refuse them any more. A keeper
+    /// that remembers a fingerprint of them does. Do not seal a job that was planned under the old key, and do not pass what
+    /// was opened under it to `finish_receive`.
+    ///
+    /// Errors: those of the command, in the same order.
+    pub fn renew_key(&mut self, key: &NewKey) -> Result<(), Refusal>
+        ensures refusal { refusal_of result ≡ renewal_refusal self.old key.now }
+        ensures after { self.new ≡ state_after_renewing key.now self.old }
+        ensures sound { IsSound self.new }
+    {
+        // For the prover only: after this line it knows that the endpoint is sound. The compiler deletes the line.
+        let _ = &self.counters;
+        let in_use = self.uses(key.number);
+        self.keys
+            .renew(self.config.suite, key, self.options.window, in_use)
     }
 
     /// Whether a retired key has these octets. It compares every key.

@@ -38,7 +38,7 @@ impl Secy {
         self.tx_counters
     }
 
-    /// How many keys can still be installed: 4,096 less the number of keys that were installed, retired or not.
+    /// How many keys the command can still install: 4,096 less the number of keys in the table, retired or not.
     pub fn keys_left(&self) -> u16
         ensures { result + length self.now.keys ≡ max_key_count }
     {

@@ -78,7 +78,7 @@ pub extended_count-same : (row other : InstalledKey) → is_extended row ≡ is_
 extended_count-same row other same =
     extended_count-one row ∙ ap (λ b. if b then 1 else 0) same ∙ sym (extended_count-one other)
 
-extended_count-retired : (row : InstalledKey) → row.retired ≡ true → extended_count (row ∷ []) ≡ 0
+pub extended_count-retired : (row : InstalledKey) → row.retired ≡ true → extended_count (row ∷ []) ≡ 0
 extended_count-retired row is = by_test (is_xpn row.suite) row.retired is
   where
     by_test : (b retired : Bool) → retired ≡ true → length (if b && not retired then row ∷ [] else []) ≡ 0

@@ -149,7 +149,7 @@ with_key-set change (first ∷ rows) n (suc i) row h there is =
     rw other (ap (λ rest. first ∷ rest) (with_key-set change rows n i row h.2 there is))
 
 -- a row found by a number has that number
-number_found : (rows : List InstalledKey) (n : ℕ) (row : InstalledKey) → key_row rows n ≡ Some row → row.number ≡ n
+pub number_found : (rows : List InstalledKey) (n : ℕ) (row : InstalledKey) → key_row rows n ≡ Some row → row.number ≡ n
 number_found [] n row there = cc
 number_found (first ∷ rows) n row there = by_test (first.number == n) (key_row rows n) refl there (number_found rows n row)
   where
@@ -163,6 +163,14 @@ number_found (first ∷ rows) n row there = by_test (first.number == n) (key_row
 pub place_within : (keys : List StoredKey) (row : Option InstalledKey) (i : ℕ) → IsSome row → row ≡ slice_get (map stored_row keys) i → i < length keys
 place_within keys None i some finds = cc
 place_within keys (Some row) i some finds = omega (arith, slice_get_within (map stored_row keys) i row (sym finds), length-map keys stored_row)
+
+-- the key that the index finds is the one of the number
+pub found_at : (keys : List StoredKey) (number place : ℕ) (old : StoredKey) → key_row (map stored_row keys) number ≡ slice_get (map stored_row keys) place →
+    IsSome (key_row (map stored_row keys) number) → old ≡ get_or keys place old → key_row (map stored_row keys) number ≡ Some (stored_row old)
+found_at keys number place old finds some read =
+    let within : place < length keys = place_within keys (key_row (map stored_row keys) number) place some finds in
+    let there : slice_get keys place ≡ Some old = slice_get_read keys (length keys) place old refl within read in
+    finds ∙ slice_get-map stored_row keys place ∙ ap (option_map stored_row) there
 
 -- the keys after the one of a number was changed, and their rows
 pub record IsChanged (change : InstalledKey → InstalledKey) (number : ℕ) (places : List ℕ) (old new : List StoredKey) : Type 0 where

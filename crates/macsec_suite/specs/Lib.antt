@@ -10,6 +10,7 @@ pub mod KeyNumbers
 pub mod KeyRows
 pub mod CipherUses
 pub mod Refusals
+pub mod Renewing
 pub mod Replacing
 pub mod RefusalNumbers
 pub mod KeyTables

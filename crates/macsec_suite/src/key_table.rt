@@ -1,14 +1,16 @@
 //! The table of an endpoint's keys (IEEE 802.1AE, 10.7).
 
-ghost use Rattle.std.specs.Prelude.{◌≡◌, ◌≤◌, ◌+◌, [], ◌∷◌, ◌++◌, length, map, slice_get, IfOk, OnOk, OnErr, IfSome, MatchOption, is_some, option_map, Some, None};
+ghost use Rattle.std.specs.Prelude.{◌≡◌, ◌≤◌, ◌+◌, true, not, [], ◌∷◌, ◌++◌, length, map, slice_get, IfOk, OnOk, OnErr, IfSome, MatchOption, is_some, option_map, Some, None};
 ghost use Rattle.std.specs.Bool.{OnTrue, OnFalse};
 ghost use Rattle.std.specs.List.{All, list_any};
 ghost use Rattle.macsec_aes.specs.Keys.{key_bytes};
 ghost use Rattle.macsec_gcm.specs.Octets.{same_octets};
-ghost use Rattle.macsec_suite.specs.KeyRows.{AreKeyRows, is_extended, key_row, keys_noting, keys_replacing, keys_retiring, keys_with, max_key_count, suite_of, the_key, widest_beside, with_bytes};
+ghost use Rattle.macsec_suite.specs.KeyRows.{AreKeyRows, is_extended, key_row, keys_noting, keys_replacing, keys_retiring, keys_with, max_key_count, new_row, suite_of, the_key, widest_beside, with_bytes};
 ghost use Rattle.macsec_suite.specs.KeyTables.{HasOwnKey, IsPlace, extended_count, first_unused_of, row_shown, stored_row};
 ghost use Rattle.macsec_suite.specs.Suites.{key_length};
 ghost use Rattle.macsec_suite.specs.Refusals.{first_refusal, has_retired, install_refusals, is_repeated, is_retired_with, refusal_of, retire_refusals};
+ghost use Rattle.macsec_suite.specs.Refusals.{is_retired};
+ghost use Rattle.macsec_suite.specs.Renewing.{add_refusals, is_number_taken, keys_added, keys_renewing};
 ghost use Rattle.macsec_suite.specs.Replacing.{can_replace};
 
 use crate::key_number::MAX_KEY_COUNT;
@@ -112,13 +114,52 @@ impl KeyTable {
         ensures unchanged { OnErr result (self.new ≡ self.old) }
         ensures rows { OnOk result (AreKeyRows self.new) }
     {
+        self.add(default, key, window, false)
+    }
+
+    /// Installs a key as `install` does, also under the number of a retired key. Then it takes the row of that key, whose
+    /// octets are overwritten, with all that was prepared from them. Every other row stays as it is, and where it is.
+    ///
+    /// The table no longer knows the octets of the key that was in the row, so it does not refuse them any more. Remember
+    /// them, or a fingerprint of them, and install no key that has them.
+    ///
+    /// Errors: those of `install`, in the same order. `KeyNumberUsed` applies if a key that is not retired has the number,
+    /// or if a key has it and `in_use` is true. `in_use` is whether an SA uses the key with this number now.
+    pub fn renew(
+        &mut self,
+        default: Suite,
+        key: &NewKey,
+        window: u64,
+        in_use: bool,
+    ) -> Result<(), Refusal>
+        ensures refusal { refusal_of result ≡ first_refusal (add_refusals (not in_use) (suite_of default key.now) window self.old key.now) }
+        ensures done { OnOk result (self.new ≡ keys_added (not in_use) (suite_of default key.now) self.old key.now) }
+        ensures unchanged { OnErr result (self.new ≡ self.old) }
+        ensures rows { OnOk result (AreKeyRows self.new) }
+    {
+        self.add(default, key, window, !in_use)
+    }
+
+    /// Installs a key. If keys are renewed, a new key takes the row of a retired one with its number.
+    fn add(
+        &mut self,
+        default: Suite,
+        key: &NewKey,
+        window: u64,
+        renews: bool,
+    ) -> Result<(), Refusal>
+        ensures refusal { refusal_of result ≡ first_refusal (add_refusals renews (suite_of default key.now) window self.old key.now) }
+        ensures done { OnOk result (self.new ≡ keys_added renews (suite_of default key.now) self.old key.now) }
+        ensures unchanged { OnErr result (self.new ≡ self.old) }
+        ensures rows { OnOk result (AreKeyRows self.new) }
+    {
         let suite = key.suite.unwrap_or(default);
         let mut suite_key = match SuiteKey::new(suite, key.bytes, key.salt, key.offset) {
             Ok(suite_key) => suite_key,
             Err(SuiteFault::KeyLength) => return Err(Refusal::KeyLength),
             Err(SuiteFault::Offset) => return Err(Refusal::Offset),
         };
-        if self.key(key.number).is_some() {
+        if self.is_taken(key.number, renews) {
             return Err(Refusal::KeyNumberUsed);
         }
         if self.has_bytes(key.bytes) {
@@ -128,6 +169,10 @@ impl KeyTable {
             return Err(Refusal::Window);
         }
         suite_key.prefer_wide(self.wide);
+        if self.key(key.number).is_some() {
+            self.put(*key, suite);
+            return Ok(());
+        }
         self.append(KeyRow {
             key: NewKey {
                 suite: Some(suite),
@@ -241,7 +286,7 @@ impl KeyTable {
         }
     }
 
-    /// How many keys can still be installed: 4,096 less the number of keys that were installed, retired or not.
+    /// How many keys `install` can still take: 4,096 less the number of keys in the table, retired or not.
     pub fn keys_left(&self) -> u16
         ensures { result + length self.now ≡ max_key_count }
     {
@@ -303,6 +348,30 @@ impl KeyTable {
             found |= rows[i].is_retired_with(bytes);
         }
         found
+    }
+
+    /// Whether a key has this number; if keys are renewed, one that is not retired.
+    fn is_taken(&self, number: KeyNumber, renews: bool) -> bool
+        ensures { result ≡ is_number_taken renews self.now number }
+    {
+        match self.key(number) {
+            None => false,
+            Some(row) => !(renews && row.retired),
+        }
+    }
+
+    /// Puts a new key in the row of the retired key with its number.
+    fn put(&mut self, key: NewKey, suite: Suite)
+        requires retired { is_retired self.old key.number ≡ true }
+        requires length { length (key_bytes key.bytes) ≡ key_length suite }
+        ensures put { self.new ≡ keys_renewing suite self.old key }
+        ensures rows { AreKeyRows self.new }
+    {
+        let index = self.index_of(key.number) as usize;
+        let stored = &mut self.rows[index];
+        stored.renew(key, suite, self.wide);
+        let count = stored.extended_count();
+        self.extended += count;
     }
 
     /// Appends a row, in the space that `new` reserved.
@@ -370,6 +439,22 @@ impl StoredKey {
     {
         let same = self.has_bytes(bytes);
         self.row.retired & same
+    }
+
+    /// Puts a new key here. No packet number is used under it. The old octets, and all that was prepared from them, are
+    /// overwritten.
+    fn renew(&mut self, key: NewKey, suite: Suite, wide: bool)
+        ensures row { stored_row self.new ≡ new_row suite key }
+        ensures prepared { HasOwnKey self.new.row }
+    {
+        self.row.suite_key.renew(suite, key.bytes, key.offset);
+        self.row.suite_key.prefer_wide(wide);
+        self.row.key = NewKey {
+            suite: Some(suite),
+            ..key
+        };
+        self.row.retired = false;
+        self.first_unused = 1;
     }
 
     /// Replaces the octets of the key by `bytes`, and prepares it again.

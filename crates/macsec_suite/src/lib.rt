@@ -18,7 +18,8 @@
 //! the first refusal that applies, and then change nothing. Otherwise they change the one key and no other, as does
 //! `note_used`, which like `key_at` requires the place of a key. So no key number and no key bytes are installed twice,
 //! even after a key is retired. `replace` gives a retired key other bytes, which no key has; after it the new ones are
-//! refused, and no longer the old ones. Only `KeyTable::new` takes an allocator. `KeyRow::prepared_again` returns an
+//! refused, and no longer the old ones. `renew` installs a key also under the number of a retired key. Then the one row
+//! becomes the new key's, and the old bytes are no longer refused. Only `KeyTable::new` takes an allocator. `KeyRow::prepared_again` returns an
 //! equal row.
 #![tactic(auto)]
 

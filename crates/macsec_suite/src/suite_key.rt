@@ -76,6 +76,15 @@ impl SuiteKey {
         self.key = GcmKey::new(key);
     }
 
+    /// Prepares another key, for this suite and with this offset. What was prepared from the old one is overwritten.
+    pub(crate) fn renew(&mut self, suite: Suite, key: Key, offset: u8)
+        ensures { self.new ≡ prepared_from suite key offset }
+    {
+        self.suite = suite;
+        self.key = GcmKey::new(key);
+        self.offset = offset;
+    }
+
     /// Says whether the key's key streams are to be made 16 blocks at once, as `GcmKey::prefer_wide`.
     pub(crate) fn prefer_wide(&mut self, wide: bool)
         ensures { self.new ≡ self.old }

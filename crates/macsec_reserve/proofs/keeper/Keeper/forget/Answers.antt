@@ -2,9 +2,9 @@
 use Rattle.macsec_reserve.{
   proofs.{
     Prelude.{◌++◌, ◌∙◌, ◌≡◌, ap, arith, can_forget, can_replace, drop, entry_of, fingerprint_of, for_each_key},
-    Prelude.{forgetting, if◌then◌else◌, Keeping, key_bytes, length, length-map, map, named, renamed, replacing, State},
-    Prelude.{sym, true, vec_capacity, with_items_is},
-    ForgettingCalls.{is_forgetting, names_replaced, replaced_if},
+    Prelude.{forgetting, if◌then◌else◌, Keeping, key_bytes, length, length-map, map, named, refl, renamed, replacing, State},
+    Prelude.{sym, true, vec_capacity, with_bytes, with_items_is},
+    ForgettingCalls.{is_forgetting, names_changed, replaced_if},
     KeyEntries.{entries_of_names, names_fit},
   },
   specs.contracts.keeper.Keeper.the_view,
@@ -33,7 +33,7 @@ invariant_of-self-2 c =
     let whole = with_items_is c.self.inside.names c.rename.new.names (omega (arith, count, c.as_mut_slice.ensures.len)) in (
       record {
         names = ap (λ (t : State). map (named salt) t.keys) after
-            ∙ names_replaced salt n octets c.self.inside.secy.value.keys c.self.inside.names.items c.self.invariant.0.names
+            ∙ names_changed salt n octets (with_bytes octets) (λ row. refl) c.self.inside.secy.value.keys c.self.inside.names.items c.self.invariant.0.names
             ∙ sym (whole ∙ items);
         names_room = c.self.invariant.0.names_room;
         granted_room = omega (arith, c.add_entries.ensures.room, c.self.invariant.0.granted_room);

@@ -1,7 +1,7 @@
 -- If nothing refuses a key, its number is free. The refusal and the effect are as defined. Proved by search; written
 -- out for speed, and so that a wrong body is refused quickly.
 use Rattle.{std.proofs.Common.{◌≡◌, rules}, macsec_suite.specs.{KeyRows.suite_of, Refusals.is_too_wide}}
-use Rattle.macsec_suite.proofs.key_table.KeyTable.install.Goals as goal
+use Rattle.macsec_suite.proofs.key_table.KeyTable.add.Goals as goal
 
 pub append-requires-clause-free : goal.append-requires-clause-free
 append-requires-clause-free c = search rules
@@ -16,8 +16,8 @@ returns-in-Err-Offset-clause-refusal c =
     let suite : c.unwrap_or-suite.result ≡ suite_of c.args.default c.args.key.now = c.unwrap_or-suite.ensures in
     search rules
 
-pub returns-then-is_some-clause-refusal : goal.returns-then-is_some-clause-refusal
-returns-then-is_some-clause-refusal c =
+pub returns-then-is_taken-clause-refusal : goal.returns-then-is_taken-clause-refusal
+returns-then-is_taken-clause-refusal c =
     let suite : c.unwrap_or-suite.result ≡ suite_of c.args.default c.args.key.now = c.unwrap_or-suite.ensures in
     search rules
 
