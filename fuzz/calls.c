@@ -170,19 +170,21 @@ void __wrap_free(void *block) {
     __real_free(block);
 }
 
-/* An endpoint has 14 blocks, and one more with a journal that has records; a key has one, a slot three, and the file of
- * a journal five. Only the calls that make one, a line and a journal ask for blocks; one that answers MACSEC_E_TAKEN or
- * MACSEC_E_EMPTY does not. */
+/* An endpoint has 14 blocks, and one more with a journal that has records, or once it has renewed a key; a key has one,
+ * a slot three, and the file of a journal five. Only the calls that make one or renew a key, a line and a journal ask
+ * for blocks; one that answers MACSEC_E_TAKEN or MACSEC_E_EMPTY does not. */
 enum { BLOCKS = 14 };
 
 static void check_blocks(const char *name, unsigned handle, bool held_before, uint32_t status) {
-    const char *reading[] = { "configure",    "command_line",      "parse_line",        "parse_end",    "answer",
-                              "reserve_open", "reserve_configure", "journal_compacted", "journal_begin" };
+    const char *reading[] = { "configure",    "command_line",      "parse_line",        "parse_end",     "answer",
+                              "reserve_open", "reserve_configure", "journal_compacted", "journal_begin", "renew_key" };
     bool beside = strncmp(name, "reserve_", strlen("reserve_")) == 0, may_ask = false;
     for (size_t i = 0; i < sizeof reading / sizeof reading[0]; i++)
         may_ask = may_ask || strcmp(name, reading[i]) == 0;
     int changed = made[handle] == held_before ? 0 : held_before ? -blocks[handle] : held;
-    if (held != changed + for_jobs || (changed > 0 && held != BLOCKS && (held != BLOCKS + 1 || !beside)))
+    int names = strcmp(name, "renew_key") == 0 && held == 1 && blocks[handle] == BLOCKS;
+    blocks[handle] += names;
+    if (held != changed + names + for_jobs || (changed > 0 && held != BLOCKS && (held != BLOCKS + 1 || !beside)))
         fail("the library holds another number of blocks");
     if (refused == 0 && !may_ask && asked != (unsigned)(changed > 0 ? BLOCKS : for_jobs > 0 ? for_jobs : 0))
         fail("the library asked for another number of blocks");
@@ -585,6 +587,7 @@ static uint32_t command(macsec_endpoint *e, const char *name, char **w) {
     COMMAND(set_replay, number(w[0]) != 0, number(w[1]));
     COMMAND(set_tag_form, (uint32_t)number(w[0]));
     COMMAND(install_key, sealed_key(w));
+    COMMAND(renew_key, sealed_key(w));
     COMMAND(retire_key, NUMBER(0));
     COMMAND(add_tx_sa, AN(0), NUMBER(1), number(w[2]), number(w[3]) != 0);
     COMMAND(enable_tx_sa, AN(0));

@@ -36,7 +36,7 @@ from rarely import Rarely
 # is refused twice its size may get a smaller one.
 ALLOCATING = {"new": "!", "reserve_open": "!", "journal_compacted": "!", "key_take": "!", "slot_new": "!"}
 ALLOCATING |= dict.fromkeys("configure reserve_configure command_line parse_line parse_end answer".split(), "?")
-ALLOCATING["journal_begin"] = "?"
+ALLOCATING |= {"journal_begin": "?", "renew_key": "!"}
 EVERY = 8
 # The calls that are made seldom, and often fail before they allocate: of these every one is first made so.
 SELDOM = {"reserve_open", "reserve_configure", "journal_compacted", "journal_begin", "key_take", "slot_new"}
@@ -226,25 +226,25 @@ class Calls(Filed, Rarely):
     GIVEN = """send 200 0,0,0,0,0,1,2 client_frame; receive 300 1,1,1,1,1,0,2 link_frame; send_uncontrolled 5 handle
         client_frame; new 12 new; configure 12 handle text; free 2 handle; set_protect 4 handle 0,1,1; set_validation 8
         handle 0,1,1,2,2,2,3,4294967295; set_replay 8 handle 0,1,1 WINDOWS; set_tag_form 8 handle 0,1,2,3,4,4294967295;
-        install_key 25 key; retire_key 6 handle NUMBERS; add_tx_sa 20 handle an NUMBERS PNS 0,1; enable_tx_sa 20 handle
-        an; disable_tx_sa 2 handle an; delete_tx_sa 2 handle an; add_rx_sc 10 handle sci; delete_rx_sc 2 handle sci;
-        add_rx_sa 30 handle sci an NUMBERS PNS SSCIS; enable_rx_sa 25 handle sci an; disable_rx_sa 2 handle sci an;
-        set_lowest_pn 10 handle sci an PNS; delete_rx_sa 3 handle sci an; command_line 60 handle line; answer 60
-        answering; parse_line 40 handle line; parse_end 10 handle end_line; carry_out 60 handle row; clear_command 2
-        handle row; get_options 8 handle; keys_left 8 handle; get_counters 20 handle; get_tx_counters 10 handle;
-        get_rx_counters 15 handle sci; get_rx_sa_counters 15 handle sci an; get_removed_counters 10 handle sci;
-        get_rx_sc 6 handle 0,0,1,2,63,64,18446744073709551615; get_tx_sa 10 handle an; get_rx_sa 15 handle sci an;
-        reserve_open 4 new journal 0,1; reserve_configure 4 handle text journal 0,1; reserve_wanted 15 0,0,0,1,2 an
-        AMOUNTS; reserve_to_save 10 handle sci an; reserve_granted 15 0,0,0,1,2 record; reserve_to_accept 15 receiving
-        AMOUNTS PNS; reserve_tx_floor 6 0,0,0,1,2 NUMBERS; reserve_rx_floor 10 receiving NUMBERS; journal_header 5
-        handle salt; journal_compacted 5 handle journal; seal 25 sealing; key_take 20 0,0,1,1,2 place NUMBERS; key_free
-        4 0 place; slot_new 6 0 place; slot_free 4 0 place; slot_clear 3 0 place; plan_send 60 0,0,0,0,1,2 place
-        client_frame; seal_job 80 0 place place 400,400,400,9248,0,23,60; plan_receive 80 1,1,1,1,0,2 place link_frame;
-        open_job 60 0 place place; finish_receive 80 1,1,1,1,0,2 place 9248,9248,9248,9248,9248,9248,9248,9248,9247,0;
-        journal_created 2 0 salt; journal_begin 6 0 0,1 file LIMITS; journal_order 10 0 0,1 orders 0,0,1; journal_next
-        20 0 0,1 16384,16384,8192,8191,0; journal_answered 20 0 0,1 0,1,1,1; journal_shown 6 0 0,1 0,0,1,2;
-        journal_record 6 0 0,1 0,0,1,2,18446744073709551615; journal_let_go 3 0 0,1 name; journal_whole 4 0 0,1
-        16384,16384,64,63,0; journal_noted 2 0 name PNS; journal_free 3 0 0,1"""
+        install_key 25 key; renew_key 25 key; retire_key 6 handle NUMBERS; add_tx_sa 20 handle an NUMBERS PNS 0,1;
+        enable_tx_sa 20 handle an; disable_tx_sa 2 handle an; delete_tx_sa 2 handle an; add_rx_sc 10 handle sci;
+        delete_rx_sc 2 handle sci; add_rx_sa 30 handle sci an NUMBERS PNS SSCIS; enable_rx_sa 25 handle sci an;
+        disable_rx_sa 2 handle sci an; set_lowest_pn 10 handle sci an PNS; delete_rx_sa 3 handle sci an; command_line 60
+        handle line; answer 60 answering; parse_line 40 handle line; parse_end 10 handle end_line; carry_out 60 handle
+        row; clear_command 2 handle row; get_options 8 handle; keys_left 8 handle; get_counters 20 handle;
+        get_tx_counters 10 handle; get_rx_counters 15 handle sci; get_rx_sa_counters 15 handle sci an;
+        get_removed_counters 10 handle sci; get_rx_sc 6 handle 0,0,1,2,63,64,18446744073709551615; get_tx_sa 10 handle
+        an; get_rx_sa 15 handle sci an; reserve_open 4 new journal 0,1; reserve_configure 4 handle text journal 0,1;
+        reserve_wanted 15 0,0,0,1,2 an AMOUNTS; reserve_to_save 10 handle sci an; reserve_granted 15 0,0,0,1,2 record;
+        reserve_to_accept 15 receiving AMOUNTS PNS; reserve_tx_floor 6 0,0,0,1,2 NUMBERS; reserve_rx_floor 10 receiving
+        NUMBERS; journal_header 5 handle salt; journal_compacted 5 handle journal; seal 25 sealing; key_take 20
+        0,0,1,1,2 place NUMBERS; key_free 4 0 place; slot_new 6 0 place; slot_free 4 0 place; slot_clear 3 0 place;
+        plan_send 60 0,0,0,0,1,2 place client_frame; seal_job 80 0 place place 400,400,400,9248,0,23,60; plan_receive 80
+        1,1,1,1,0,2 place link_frame; open_job 60 0 place place; finish_receive 80 1,1,1,1,0,2 place
+        9248,9248,9248,9248,9248,9248,9248,9248,9247,0; journal_created 2 0 salt; journal_begin 6 0 0,1 file LIMITS;
+        journal_order 10 0 0,1 orders 0,0,1; journal_next 20 0 0,1 16384,16384,8192,8191,0; journal_answered 20 0 0,1
+        0,1,1,1; journal_shown 6 0 0,1 0,0,1,2; journal_record 6 0 0,1 0,0,1,2,18446744073709551615; journal_let_go 3 0
+        0,1 name; journal_whole 4 0 0,1 16384,16384,64,63,0; journal_noted 2 0 name PNS; journal_free 3 0 0,1"""
     MADE_OF = {name: words for name, *words in map(str.split, GIVEN.split(";"))}
 
     def arguments(self, name):
@@ -401,7 +401,7 @@ class Calls(Filed, Rarely):
 
     def all(self, count):
         rarely = self.rarely_written, self.rarely_refused, self.rarely_made, self.rarely_reserved, self.rarely_forgotten
-        rarely += self.rarely_ahead, self.rarely_parsed, self.rarely_filed
+        rarely += self.rarely_renewed, self.rarely_ahead, self.rarely_parsed, self.rarely_filed
         waiting = itertools.chain.from_iterable(it() for it in (self.crowded, *rarely))
         names, weights = list(self.MADE_OF), [int(weight) for weight, *_ in self.MADE_OF.values()]
         for _ in range(count):
@@ -428,7 +428,7 @@ class Calls(Filed, Rarely):
 
     def meet(self, name, words):
         given = {"new": ("SUITE_", 2), "install_key": ("SUITE_", 4), "carry_out": ("COMMAND_", 11)}
-        given |= {"reserve_open": given["new"], "seal": given["install_key"]}
+        given |= {"reserve_open": given["new"], "seal": given["install_key"], "renew_key": given["install_key"]}
         prefix, place = given.get(name, ("", 0))
         for it, value in CONSTANTS.items():
             if place and it.startswith(prefix) and value == words[place]:

@@ -227,6 +227,9 @@ class Endpoint:
         refuse("SciForm", not form_fits(form, self.sci))
         self.form = form
 
+    def is_taken(self, number):
+        return number in self.keys
+
     def do_key(self, number, octets, offset, *rest):
         """After the offset come no words, a suite, an SSCI and a salt, or all three."""
         suite = rest[0] if len(rest) in (1, 3) else self.suite
@@ -234,7 +237,7 @@ class Endpoint:
         key_length, is_xpn = SUITES[suite]
         refuse("KeyLength", len(octets) != key_length)
         refuse("Offset", offset not in ((0,) if is_xpn else (0, 30, 50)))
-        refuse("KeyNumberUsed", number in self.keys)
+        refuse("KeyNumberUsed", self.is_taken(number))
         refuse("KeyRepeated", any(it.octets == octets for it in self.keys.values()))
         refuse("Window", is_xpn and self.window > 2**30 - 1)
         self.keys[number] = Key(octets, offset, suite, ssci, salt)

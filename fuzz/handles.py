@@ -496,13 +496,20 @@ class Model:
     def command(self, handle, keyword, *values):
         self.ends[handle].command(keyword, values)
 
-    def call_install_key(self, handle, octets, salt, ssci, suite, number, length, offset, shown=None):
+    def call_renew_key(self, handle, *sak):
+        self.key(self.ends[handle].renew, handle, *sak)
+
+    def call_install_key(self, handle, *sak):
+        self.key(lambda *values: self.command(handle, "key", *values), handle, *sak)
+
+    def key(self, install, handle, octets, salt, ssci, suite, number, length, offset, shown=None):
+        """A key that this function installs."""
         end = self.ends[handle]
         suite = end.suite if suite == CONSTANTS["SUITE_DEFAULT"] else named(SUITES, suite, "E_NO_SUCH_SUITE")
         number = key_number_of(number)
         status_if(length not in (16, 32), "E_NO_SUCH_KEY_OCTETS")
         status_if(shown not in (None, number), "E_NO_SUCH_COMMAND")
-        self.command(handle, "key", number, octets[:length], offset, suite, struct.pack(">I", ssci), salt)
+        install(number, octets[:length], offset, suite, struct.pack(">I", ssci), salt)
 
     def call_add_rx_sa(self, handle, sci, an, key, pn, ssci):
         self.command(handle, "rxsa", sci, an_of(an), key_number_of(key), pn, struct.pack(">I", ssci))

@@ -42,6 +42,8 @@ class Endpoint(expected.Endpoint):
         self.taken: list[journals.Reservation] = []
         # Where deleted receive associations ended, by key, SCI and AN. While 1,024 are enough the library keeps each.
         self.ends: dict[tuple[int, bytes, int], int] = {}
+        # Has it renewed a key, and is it renewing one?
+        self.renews = self.renewing = False
 
     def key_name(self, number):
         return journals.sending_name(self.salt, self.keys[number].octets if number in self.keys else b"")
@@ -51,10 +53,35 @@ class Endpoint(expected.Endpoint):
         return journals.sending_name(self.salt, octets)[: len(octets)]
 
     def do_key(self, number, octets, *rest):
-        """A forgotten key is refused by its fingerprint."""
+        """A forgotten key is refused by its fingerprint, and so is one that is given up."""
+        expected.refuse("KeyRepeated", self.renews and self.is_given_up(octets))
         mark = self.fingerprint(octets)
         is_forgotten = any(it.retired and it.octets == mark for it in self.keys.values())
         super().do_key(number, mark if is_forgotten else octets, *rest)
+
+    def is_given_up(self, octets):
+        """Has a new key taken the place of this one, or has the journal reserved all packet numbers under it?"""
+        names = [journals.sending_name(self.salt, it) for it in (octets, self.fingerprint(octets))]
+        return any(journals.highest(self.before, it) == journals.LAST for it in names)
+
+    def is_taken(self, number):
+        """A key that is renewed may take the place of a retired key, which no association uses."""
+        return number in self.keys and not (self.renewing and self.keys[number].retired)
+
+    def renew(self, number, octets, *rest):
+        """Installs a key. The name of the key whose place it takes is given up."""
+        expected.refuse("KeyRepeated", self.is_given_up(octets))
+        takes, name = number in self.keys, self.key_name(number)
+        self.renewing = True
+        try:
+            self.do_key(number, octets, *rest)
+        finally:
+            self.renewing = False
+        self.renews = True
+        if takes:
+            self.before.append((name, journals.LAST))
+            place = list(self.keys).index(number)
+            self.granted[place : place + 1] = [(self.key_name(number), 0)] if place < len(self.granted) else []
 
     def do_retire(self, number):
         """The key is forgotten, unless a key has its fingerprint already."""

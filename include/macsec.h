@@ -40,7 +40,8 @@
  * MEMORY     macsec_new allocates 14 blocks by malloc, 19.1 MB in all: four for 4,096 keys, two for a frame, eight for
  *            the rest. macsec_free frees them. macsec_configure allocates the same, and so do macsec_reserve_open and
  *            macsec_reserve_configure, with one more for a journal that has records. macsec_key_take allocates one
- *            block, macsec_slot_new three, and macsec_journal_begin five. macsec_configure, macsec_reserve_configure,
+ *            block, macsec_slot_new three, and macsec_journal_begin five. macsec_renew_key makes the block of the names
+ *            larger from time to time, or allocates it. macsec_configure, macsec_reserve_configure,
  *            macsec_command_line, macsec_parse_line, macsec_parse_end and macsec_answer also allocate while they read
  *            their text, macsec_answer while it composes counters and packet numbers, and macsec_journal_compacted and
  *            macsec_journal_begin while they work, and free that before they return. No other call allocates, so no
@@ -80,8 +81,9 @@
  *
  * Proved with Rattle: each call creates an endpoint, takes it out of its handle, is one step of the written machine
  * (crates/macsec_secy/specs/Step.antt; with a journal, ahead_step of crates/macsec_ahead/specs/Ahead.antt; a command,
- * with or without a journal, command_forgetting there), or reads its state, for the arguments that C gave; or it takes
- * the steps that the lines of a text say. A call with a journal as a file is one step of its machine
+ * with or without a journal, command_forgetting there, and once a key is renewed command_renewing of Renewing.antt), or
+ * renews a key (ahead_after_renewing there), or reads its state, for the arguments that C gave; or it takes the steps
+ * that the lines of a text say. A call with a journal as a file is one step of its machine
  * (crates/macsec_journal/specs/Machine.antt), or shows it. Each call reads and writes only what it was given, and
  * returns. A reader that finds nothing leaves its output struct unchanged. Measured or tested, not proved: sizes and
  * stack, that macsec_free frees each block, that memory is overwritten, and which calls allocate. Not proved: this
@@ -91,9 +93,9 @@
  * In the calls for keys, frames and jobs no branch and no address depends on a key or on data, except the verdict, the
  * refusal KeyRepeated (is the key one of the endpoint's, or its fingerprint a retired key's?) and MACSEC_E_OTHER_KEY
  * (is it the key of the job?). The digits of a key in a line or a text decide two branches more, in the same way for
- * every key: does an octet end the word or the line, and are all of them hex digits? With a journal, names of keys
- * decide branches too: the journal shows them. This is measured on the libraries by tests/library/constant-time, and
- * not proved.
+ * every key: does an octet end the word or the line, and are all of them hex digits? With a journal, and once a key is
+ * renewed, names of keys decide branches too: they are digests, which the journal shows. This is measured on the
+ * libraries by tests/library/constant-time, and not proved.
  */
 #ifndef MACSEC_H
 #define MACSEC_H
@@ -638,9 +640,15 @@ uint32_t macsec_set_replay(macsec_endpoint *e, bool protect, uint64_t window);
 uint32_t macsec_set_tag_form(macsec_endpoint *e, uint32_t form);
 
 /* Install a key. This endpoint never takes the key's number or its octets again, even after the key is retired: it
- * takes 4,096 keys in its life (macsec_keys_left), and then another endpoint has to take over (docs/C.md). Another
- * endpoint, or the next run of the program, knows nothing of the key: see macsec_add_tx_sa. */
+ * takes 4,096 keys in its life (macsec_keys_left), unless they are renewed (macsec_renew_key). Another endpoint, or the
+ * next run of the program, knows nothing of the key: see macsec_add_tx_sa. */
 uint32_t macsec_install_key(macsec_endpoint *e, const macsec_sak *key);
+/* The same, also under the number of a retired key that no association uses. The new key then takes that key's place,
+ * so 4,096 is a limit on keys at one time. Associations, packet numbers, windows and counters go on. Every later call
+ * refuses the octets of the key whose place was taken (KeyRepeated, before any other refusal): the endpoint keeps 40
+ * octets for each. MACSEC_E_MEMORY if there is no memory for them; then nothing has changed. Octets under which the
+ * journal reserves all packet numbers are refused in the same way. */
+uint32_t macsec_renew_key(macsec_endpoint *e, const macsec_sak *key);
 /* Retire a key that no association uses: no new association may use it. The endpoint overwrites its octets, and what it
  * had computed from them. Of the key only a fingerprint stays, by which the octets are still refused: the first octets
  * of a SHA-256 digest, as many as the key had. */
@@ -735,7 +743,8 @@ static inline uint32_t macsec_answer(macsec_endpoint *e, uint32_t number, const 
 uint32_t macsec_get_options(const macsec_endpoint *e, macsec_options *out);
 uint32_t macsec_get_counters(const macsec_endpoint *e, macsec_counters *out);
 uint32_t macsec_get_tx_counters(const macsec_endpoint *e, macsec_tx_counters *out);
-/* How many keys it can still take in its life: 4,096 less the number of keys that were installed, retired or not. */
+/* How many numbers of keys are left that no key had: 4,096 less the number of keys, retired or not. A key that took a
+ * retired key's place counts once with it. */
 uint32_t macsec_keys_left(const macsec_endpoint *e, uint32_t *out);
 /* A receive channel's counters. Each is, modulo 2^64, the sum of its SAs' and of its deleted SAs' counters. */
 uint32_t macsec_get_rx_counters(const macsec_endpoint *e, const uint8_t sci[8], macsec_rx_counters *out);
@@ -865,9 +874,11 @@ uint32_t macsec_reserve_granted(macsec_endpoint *e, const macsec_record *record)
  *
  * A file begins with a header and a count of its entries, with a digest of them. Records are appended twice, in sectors
  * of 4,096 octets of their own. So a file with one damaged sector is refused, or says all that it said before. The
- * first order, and each after a failure, replaces the file by a new one with all that was read or ordered. A file with
- * a header of macsec_journal_header is read too, and then replaced by one of the new form. Names are compared one with
- * another: macsec_journal_begin makes n * n comparisons for n names, and an order of k records 3 * k * n. */
+ * first order, and each after a failure, replaces the file by a new one with all that was read or ordered. If a
+ * renameat fails, its new file may have the name all the same: keep it open and locked. If the name leads to it at the
+ * next MACSEC_STEP_LOOKING_BEFORE, it is the journal. A file with a header of macsec_journal_header is read too, without
+ * a test for damage, and then replaced by one of the new form. Names are compared one with another: macsec_journal_begin
+ * makes n * n comparisons for n names, and an order of k records 3 * k * n. */
 
 /* The system call that is next. */
 enum {
@@ -930,8 +941,8 @@ uint32_t macsec_journal_shown(macsec_journal *j, size_t place, macsec_record *ou
 uint32_t macsec_journal_record(macsec_journal *j, size_t place, macsec_record *out);
 
 /* Lets a name go, the first 32 octets of its records: the next file that replaces the journal has no record of it.
- * Let a name go only if no later endpoint will have its key: else it begins below numbers that were used.
- * MACSEC_E_JOURNAL_BUSY as for macsec_journal_order. */
+ * A name in use is not refused: let a name go only if no endpoint has its key, and no later one will have it. Else a
+ * later one begins below numbers that were used. MACSEC_E_JOURNAL_BUSY as for macsec_journal_order. */
 uint32_t macsec_journal_let_go(macsec_journal *j, const uint8_t name[32]);
 
 /* The record with this name and number: a program can keep numbers of its own in a journal, under names that no key

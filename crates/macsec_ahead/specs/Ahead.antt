@@ -22,21 +22,22 @@ use Rattle.macsec_reserve.specs.Replay.{row_name}
 use Rattle.macsec_rx.specs.declared.within.RxPn.{RxPn}
 use Rattle.macsec_ahead.specs.Ends.{Ends, after_retiring, end_of, ended_by, no_ends, with_ends}
 
--- the keeping endpoint; whether it reserves ahead of receiving; what was reported durable for its receive SAs; and where
--- deleted receive SAs ended
+-- the keeping endpoint; whether it reserves ahead of receiving; what was reported durable for its receive SAs; where
+-- deleted receive SAs ended; and whether it has renewed a key
 pub record Ahead : Type 0 where
   pub k : Keeping
   pub ahead : Bool
   pub taken : List Reservation
   pub ended : Ends
+  pub renews : Bool
 
 -- an endpoint opened with a journal, with the option or without it: nothing is reserved
 abbrev pub opened_with : Bool → EndConfig → List ℕ → Ahead
-opened_with ahead config journal = record { k = opened config journal; ahead = ahead; taken = []; ended = no_ends }
+opened_with ahead config journal = record { k = opened config journal; ahead = ahead; taken = []; ended = no_ends; renews = false }
 
 -- an endpoint made without a journal, and so without the option
 abbrev pub alone_with : EndConfig → Ahead
-alone_with config = record { k = alone config; ahead = false; taken = []; ended = no_ends }
+alone_with config = record { k = alone config; ahead = false; taken = []; ended = no_ends; renews = false }
 
 -- ---- which packet numbers it accepts
 

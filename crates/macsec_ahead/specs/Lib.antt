@@ -1,5 +1,6 @@
 pub mod Ends
 pub mod Ahead
+pub mod Renewing
 pub mod Space
 pub mod Limits
 pub mod Answers

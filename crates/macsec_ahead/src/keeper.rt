@@ -1,6 +1,6 @@
 //! The endpoint.
 
-ghost use Rattle.std.specs.Prelude.{◌≡◌, ◌≤◌, ◌+◌, ◌∷◌, [], ◌++◌, map, length, IfOk, option_and_then, vec_capacity, vec_len, if◌then◌else◌};
+ghost use Rattle.std.specs.Prelude.{◌≡◌, ◌≤◌, ◌+◌, ◌∷◌, [], ◌++◌, map, false, length, IfOk, OnErr, option_and_then, vec_capacity, vec_len, if◌then◌else◌};
 ghost use Rattle.std.specs.Borrow.{sem};
 ghost use Rattle.macsec_tag.specs.Limits.{max_frame_len};
 ghost use Rattle.macsec_rx.specs.Channels.{rx_row};
@@ -16,6 +16,9 @@ ghost use Rattle.macsec_ahead.specs.Ahead.{ahead_step, begins_again, command_for
 ghost use Rattle.macsec_ahead.specs.Answers.{MakesAhead, MakesAloneWith, PlansAhead, output_of_ahead};
 ghost use Rattle.macsec_ahead.specs.Ends.{after_retiring, ends_among, no_ends, with_ends, without_key};
 ghost use Rattle.macsec_ahead.specs.Limits.{limits_for, limits_with};
+ghost use Rattle.macsec_suite.specs.Refusals.{refusal_of};
+ghost use Rattle.macsec_reserve.specs.Renewing.{forgetting_refusal};
+ghost use Rattle.macsec_ahead.specs.Renewing.{ahead_after_renewing, command_renewing, installs_given_up};
 ghost use Rattle.macsec_ahead.specs.Rests.{RestsAs};
 
 use crate::EndTable;
@@ -25,7 +28,7 @@ use macsec_reserve::{
 };
 use macsec_secy::{
     An, Command, EndConfig, FrameFault, KeyNumber, LimitedReceived, MAX_FRAME_LEN, NewFault,
-    OpenedFrame, PnLimits, Refusal, RxRow, Sci, Secy, limited_received,
+    NewKey, OpenedFrame, PnLimits, Refusal, RxRow, Sci, Secy, limited_received,
 };
 use std::alloc::{AllocError, Global};
 use std::marker::Model;
@@ -48,6 +51,8 @@ pub struct AheadKeeper {
     spare: Vec<Reservation>,
     /// Where deleted SAs ended.
     ended: EndTable,
+    /// Has it renewed a key?
+    renews: bool,
     /// Space for the SAs as they are before a command.
     rows: Vec<RxRow>,
     /// With the option, the packet numbers that may be accepted from each receive SA, in the order of the SAs. They are
@@ -66,7 +71,7 @@ impl Model for AheadKeeper {
 
     ghost Value = { Ahead };
 
-    ghost view = { λ a. record { k = a.keeper; ahead = a.ahead; taken = a.taken.items; ended = a.ended } };
+    ghost view = { λ a. record { k = a.keeper; ahead = a.ahead; taken = a.taken.items; ended = a.ended; renews = a.renews } };
 
     // There is space for the most SAs that an endpoint can have, and the limits follow from what is reserved.
     ghost invariant = { λ a. HasSpace (vec_capacity a.taken) (vec_capacity a.spare) (vec_capacity a.rows) (vec_capacity a.limits) (vec_len a.room)
@@ -110,7 +115,7 @@ impl AheadKeeper {
 
     /// A keeping endpoint with nothing reserved for its SAs, and none deleted.
     fn with(alloc: Global, keeper: Keeper, ahead: bool) -> Result<AheadKeeper, AllocError>
-        ensures { IfOk result (λ a. a ≡ record { k = keeper; ahead = ahead; taken = []; ended = no_ends }) }
+        ensures { IfOk result (λ a. a ≡ record { k = keeper; ahead = ahead; taken = []; ended = no_ends; renews = false }) }
     {
         let taken: Vec<Reservation> = Vec::with_capacity(alloc, MAX_ROW_COUNT)?;
         let spare = Vec::with_capacity(alloc, MAX_ROW_COUNT)?;
@@ -125,6 +130,7 @@ impl AheadKeeper {
             taken,
             spare,
             ended,
+            renews: false,
             rows,
             limits,
             room,
@@ -341,6 +347,53 @@ impl AheadKeeper {
             self.ahead,
         );
         done
+    }
+
+    /// Installs a key, also under the number of a retired key that no SA uses, as `Keeper::renew_forgetting`. Everything else
+    /// goes on where it is: every other key, the SAs with their packet numbers and windows, what was reported durable for
+    /// them, the counters, and where SAs under other keys ended. From then on `command_renewing` refuses octets that are
+    /// given up.
+    pub fn renew_key(&mut self, key: &NewKey) -> Result<Result<(), Refusal>, AllocError>
+        ensures refusal { IfOk result (λ answer. refusal_of answer ≡ forgetting_refusal self.old.k key.now) }
+        ensures after { IfOk result (λ answer. self.new ≡ ahead_after_renewing self.old key.now) }
+        ensures unchanged { OnErr result (self.new ≡ self.old) }
+    {
+        match self.keeper.renew_forgetting(key)? {
+            Ok(()) => {
+                self.ended.remove(key.number);
+                self.renews = true;
+                take_limits(
+                    &mut self.limits,
+                    self.taken.as_slice(),
+                    &self.keeper,
+                    self.ahead,
+                );
+                Ok(Ok(()))
+            }
+            Err(refusal) => Ok(Err(refusal)),
+        }
+    }
+
+    /// Carries out a management command, as `command_forgetting`. Once `renew_key` has installed a key, octets whose row a
+    /// new key took are refused with `KeyRepeated`, before any other refusal.
+    pub fn command_renewing(&mut self, command: &Command) -> Result<(), Refusal>
+        ensures output { kept (endpoint_output (output_of_command result)) ≡ (command_renewing self.old command.now).0 }
+        ensures after { self.new ≡ (command_renewing self.old command.now).1 }
+    {
+        if self.installs_given_up(command) {
+            return Err(Refusal::KeyRepeated);
+        }
+        self.command_forgetting(command)
+    }
+
+    /// Does a command install octets whose row a new key took?
+    fn installs_given_up(&self, command: &Command) -> bool
+        ensures { result ≡ installs_given_up self.now command.now }
+    {
+        match *command {
+            Command::Key(key) => self.renews && self.keeper.is_given_up(key.bytes),
+            _ => false,
+        }
     }
 
     /// Does a command create an SA again at a packet number that this run may have accepted from it?

@@ -7,7 +7,10 @@
 //! dropped because its packet number is not reserved changes nothing. It is dropped as soon as its ICV is found valid:
 //! the limits of each receive SA are made after each command, and when something is reported durable.
 //! `wanted_to_accept` returns the reservation to make durable next, and `rx_floor` the number above which an SA can
-//! begin. An `EndTable` is the table of `specs/Ends.antt`. After the creation of the endpoint no call allocates.
+//! begin. An `EndTable` is the table of `specs/Ends.antt`. After the creation of the endpoint no call allocates, except
+//! `renew_key`, which installs a key also under the number of a retired one. No law over restarts is about runs with it.
+//! From then on `command_renewing` refuses the octets of keys whose row a new key took; before, it is
+//! `command_forgetting` (`specs/Renewing.antt`).
 //!
 //! The laws of this endpoint over restarts are in `macsec_restarts`. `accepts_above`, `accepts_once_reserved`,
 //! `begins_above_its_end`, `comes_in_order_once_ahead` and `is_keeping_inside` are about runs in which no key is

@@ -1,6 +1,8 @@
 -- What the calls of a handle return, given the outputs of its endpoint. The endpoint is the machine of `macsec_ahead`,
--- which without a journal is the machine. A command takes its step in the machine that forgets retired keys.
+-- which without a journal is the machine. A command takes its step in the machine that forgets retired keys, and that
+-- refuses octets which are given up.
 use Rattle.std.specs.Prelude.{◌≡◌, ℕ, List, Bool, true, false, Option, Some, None, Ok, Err, option_map}
+use Rattle.macsec_suite.specs.declared.key_row.NewKey.{NewKey}
 use Rattle.macsec_commands.specs.declared.command.Command.{Command}
 use Rattle.macsec_commands.specs.declared.config.EndConfig.{EndConfig}
 use Rattle.macsec_commands.specs.declared.fault.NewFault.{NewFault}
@@ -12,7 +14,7 @@ use Rattle.macsec_reserve.specs.Journal.{is_journal}
 use Rattle.macsec_reserve.specs.Keeping.{endpoint_input}
 use Rattle.macsec_ahead.specs.Ahead.{Ahead, ahead_step, alone_with, opened_with}
 use Rattle.macsec_c_calls.specs.Arguments.{Named}
-use Rattle.macsec_c_calls.specs.Commands.{status_of_ahead}
+use Rattle.macsec_c_calls.specs.Commands.{Renews, status_of_ahead}
 use Rattle.macsec_c_calls.specs.Commands.{commanded as by_endpoint}
 use Rattle.macsec_c_calls.specs.Parsing.{row_commanded as row_by_endpoint}
 use Rattle.macsec_c_calls.specs.ReceivedParts.{ReceivedParts, unreceived}
@@ -40,6 +42,11 @@ commanded (Some e) c = held_after (by_endpoint e c)
 abbrev pub row_commanded : Option Ahead → Named (Option Command) → ℕ × Option Ahead
 row_commanded None c = (empty_status, None)
 row_commanded (Some e) c = held_after (row_by_endpoint e c)
+
+-- the status of installing a key that may take the row of a retired one, and what the handle holds after it
+abbrev pub RenewsHeld : Option Ahead → Named NewKey → ℕ → Option Ahead → Type 0
+RenewsHeld None key status after = (status ≡ empty_status) × (after ≡ None)
+RenewsHeld (Some e) key status after = (left : Ahead) × Renews e key status left × (after ≡ Some left)
 
 -- the status of a report that what some octets reserve is durable, and what the handle holds after it
 abbrev pub reported : Option Ahead → List Reservation → ℕ × Option Ahead

@@ -4,3 +4,4 @@ pub mod Short
 pub mod JobSteps
 pub mod Parsed
 pub mod RowsMean
+pub mod GivenUp

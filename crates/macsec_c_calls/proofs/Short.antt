@@ -14,7 +14,8 @@ use Rattle.{
   macsec_commands.specs.declared.{command.Command.Command, event.End.TheVariants.A},
   macsec_secy.specs.Step.{Output, refused},
   macsec_reserve.specs.Keeping.{dropped_no_reservation, endpoint_output, noted},
-  macsec_ahead.specs.Ahead.{Ahead, AheadOutput, command_forgetting, dropped_before_this_run, dropped_not_reserved},
+  macsec_ahead.specs.Ahead.{Ahead, AheadOutput, dropped_before_this_run, dropped_not_reserved},
+  macsec_ahead.specs.Renewing.command_renewing,
   macsec_ahead.specs.Ahead.kept,
   macsec_script_parser.specs.Kinds.tells,
   macsec_script_printer.specs.{OneEnd.command_text, Refusals.refusal_text},
@@ -63,10 +64,17 @@ done_short n small = omega (arith, two (decimal n) (codes " done\n"), number_sho
 
 pub command_short : (n : ℕ) → n < 2 ^ 32 → (output : Output) → length (command_text n output) ≤ 64
 command_short n small (refused r) =
-    omega (arith, four (decimal n) (codes " refused ") (refusal_text r) (codes "\n"), number_short n small, refusal_short r)
+    omega (
+      arith,
+      four (decimal n) (codes " refused ") (refusal_text r)
+          (codes "\n"),
+      number_short n small,
+      refusal_short r,
+    )
 command_short n small other = done_short n small
 
-pub commanded_short : (n : ℕ) → n < 2 ^ 32 → (output : AheadOutput) (e : Ahead) → length (commanded n output e).text ≤ 64
+pub commanded_short : (n : ℕ) → n < 2 ^ 32 → (output : AheadOutput) (e : Ahead) →
+    length (commanded n output e).text ≤ 64
 commanded_short n small (kept (endpoint_output output)) e = command_short n small output
 commanded_short n small (kept dropped_no_reservation) e = omega arith
 commanded_short n small (kept noted) e = omega arith
@@ -76,6 +84,6 @@ commanded_short n small (dropped_before_this_run at) e = omega arith
 -- no answer to a management command needs more than the smallest buffer
 pub command_needs : (e : Ahead) (n : ℕ) (c : Command) → n < 2 ^ 32 → needed (answer_of_line e n (tells A c)) ≡ 64
 command_needs e n c small =
-    let after = command_forgetting e c in
+    let after = command_renewing e c in
     let short = commanded_short n small after.0 after.1 in
     omega arith

@@ -6,7 +6,8 @@ use Rattle.macsec_commands.specs.declared.event.Event.TheVariants as event
 use Rattle.macsec_suite.specs.RefusalNumbers.{number_of_refusal}
 use Rattle.macsec_secy.specs.Step.{Output, refused}
 use Rattle.macsec_reserve.specs.Keeping.{KeepingOutput, dropped_no_reservation, endpoint_output, noted}
-use Rattle.macsec_ahead.specs.Ahead.{Ahead, AheadOutput, command_forgetting, dropped_before_this_run, dropped_not_reserved, kept}
+use Rattle.macsec_ahead.specs.Ahead.{Ahead, AheadOutput, dropped_before_this_run, dropped_not_reserved, kept}
+use Rattle.macsec_ahead.specs.Renewing.{command_renewing}
 use Rattle.macsec_script_parser.specs.declared.lines.Action.TheVariants as action
 use Rattle.macsec_script_parser.specs.declared.lines.Line.{Line}
 use Rattle.macsec_script_parser.specs.declared.lines.Line.TheVariants as line
@@ -42,7 +43,8 @@ ending_of_output (refused r) = Refused r
 ending_of_output other = Done
 
 abbrev pub commanded_as : ℕ → KeepingOutput → Ahead → Answer
-commanded_as n (endpoint_output output) after = record { ending = ending_of_output output; text = command_text n output; after = after }
+commanded_as n (endpoint_output output) after =
+    record { ending = ending_of_output output; text = command_text n output; after = after }
 commanded_as n dropped_no_reservation after = shown after []
 commanded_as n noted after = shown after []
 
@@ -54,7 +56,7 @@ commanded n (dropped_before_this_run at) after = shown after []
 -- line n
 abbrev pub answer_of_line : Ahead → ℕ → Line → Answer
 answer_of_line e n (line.Action (action.Event (event.Command A c))) =
-    let after = command_forgetting e c in
+    let after = command_renewing e c in
     commanded n after.0 after.1
 answer_of_line e n (line.Action (action.Counters A)) = shown e (counters_text (label.Line n) e.k.secy)
 answer_of_line e n (line.Action (action.Numbers A)) = shown e (numbers_text n e.k.secy)

@@ -1,12 +1,18 @@
 -- What commands return, and the status of every output of an endpoint.
-use Rattle.std.specs.Prelude.{ℕ, Ok, Err}
+use Rattle.std.specs.Prelude.{◌≡◌, ◌⊎◌, ℕ, Option, Some, None, Ok, Err}
+use Rattle.macsec_suite.specs.declared.key_row.NewKey.{NewKey}
+use Rattle.macsec_suite.specs.declared.refusal.Refusal.{Refusal}
 use Rattle.macsec_suite.specs.RefusalNumbers.{number_of_refusal}
 use Rattle.macsec_commands.specs.declared.command.Command.{Command}
+use Rattle.macsec_commands.specs.declared.fault.NewFault.TheVariants.{Memory}
 use Rattle.macsec_secy.specs.Step.{Output, done, refused, leaves, dropped_no_sa, dropped_too_long, received, fault}
 use Rattle.macsec_reserve.specs.Keeping.{KeepingOutput, dropped_no_reservation, endpoint_output, noted}
-use Rattle.macsec_ahead.specs.Ahead.{Ahead, AheadOutput, command_forgetting, dropped_before_this_run, dropped_not_reserved, kept}
+use Rattle.macsec_reserve.specs.Renewing.{forgetting_refusal}
+use Rattle.macsec_ahead.specs.Ahead.{Ahead, AheadOutput, dropped_before_this_run, dropped_not_reserved, kept}
+use Rattle.macsec_ahead.specs.Renewing.{ahead_after_renewing, command_renewing}
 use Rattle.macsec_c_calls.specs.Arguments.{Named}
 use Rattle.macsec_c_calls.specs.Statuses.{done_status, status_of_argument_fault, status_of_frame_fault}
+use Rattle.macsec_c_calls.specs.Statuses.{status_of_new_fault}
 
 -- the status for an output of the machine
 abbrev pub status_of : Output → ℕ
@@ -32,5 +38,21 @@ status_of_ahead (dropped_before_this_run at) = done_status
 abbrev pub commanded : Ahead → Named Command → ℕ × Ahead
 commanded e (Err f) = (status_of_argument_fault f, e)
 commanded e (Ok c) =
-    let after = command_forgetting e c in
+    let after = command_renewing e c in
     (status_of_ahead after.0, after.1)
+
+-- ---- a key that may take the row of a retired one
+
+abbrev pub status_of_refusal : Option Refusal → ℕ
+status_of_refusal None = done_status
+status_of_refusal (Some r) = number_of_refusal r
+
+-- the status of a key, and the endpoint after it
+abbrev pub renewed : Ahead → NewKey → ℕ × Ahead
+renewed e key = (status_of_refusal (forgetting_refusal e.k key), ahead_after_renewing e key)
+
+-- the same, unless memory runs out, and then nothing changes; or of arguments that name no key
+abbrev pub Renews : Ahead → Named NewKey → ℕ → Ahead → Type 0
+Renews e (Err f) status after = (status ≡ status_of_argument_fault f) × (after ≡ e)
+Renews e (Ok key) status after =
+    ((status, after) ≡ renewed e key) ⊎ ((status ≡ status_of_new_fault Memory) × (after ≡ e))

@@ -17,3 +17,4 @@ pub mod Texts
 pub mod Writing
 pub mod Jobs
 pub mod TakenKeys
+pub mod GivenUp

@@ -112,7 +112,7 @@ fn answer_command(endpoint: &mut AheadKeeper, n: u32, command: &Command, out: &m
             length: MIN_ANSWER_LEN,
         };
     }
-    let outcome = endpoint.command_forgetting(command);
+    let outcome = endpoint.command_renewing(command);
     let text = command_text(n, outcome);
     let octets = text.as_str().as_bytes();
     put(out, octets);

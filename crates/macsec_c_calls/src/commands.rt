@@ -3,12 +3,12 @@
 ghost use Rattle.std.specs.Prelude.{◌≡◌};
 ghost use Rattle.macsec_commands.specs.declared.command.Command.TheVariants as by;
 ghost use Rattle.macsec_c_calls.specs.Arguments.{an_of, key_number_of, naming_both};
-ghost use Rattle.macsec_c_calls.specs.Commands.{commanded};
+ghost use Rattle.macsec_c_calls.specs.Commands.{Renews, commanded};
 ghost use Rattle.macsec_c_calls.specs.Keys.{new_key_of};
 
-use crate::{ArgumentFault, DONE, an_of, key_number_of, key_of, key_suite_of};
+use crate::{ArgumentFault, DONE, an_of, key_number_of, key_of, key_suite_of, status_of_new_fault};
 use macsec_ahead::AheadKeeper;
-use macsec_secy::{Command, NewKey, Sci};
+use macsec_secy::{Command, NewFault, NewKey, Sci};
 
 /// Carries out a command, or refuses it and changes nothing. Returns the status.
 pub fn carry_out(endpoint: &mut AheadKeeper, command: Result<Command, ArgumentFault>) -> u32
@@ -18,9 +18,25 @@ pub fn carry_out(endpoint: &mut AheadKeeper, command: Result<Command, ArgumentFa
         Ok(command) => command,
         Err(fault) => return fault.status(),
     };
-    match endpoint.command_forgetting(&command) {
+    match endpoint.command_renewing(&command) {
         Ok(()) => DONE,
         Err(refusal) => u32::from(refusal.number()),
+    }
+}
+
+/// Installs a key, also under the number of a retired key that no SA uses. If it is refused, or memory runs out,
+/// nothing changes. Returns the status.
+pub fn renew_key(endpoint: &mut AheadKeeper, key: Result<NewKey, ArgumentFault>) -> u32
+    ensures { Renews endpoint.old key result endpoint.new }
+{
+    let key = match key {
+        Ok(key) => key,
+        Err(fault) => return fault.status(),
+    };
+    match endpoint.renew_key(&key) {
+        Ok(Ok(())) => DONE,
+        Ok(Err(refusal)) => u32::from(refusal.number()),
+        Err(_) => status_of_new_fault(NewFault::Memory),
     }
 }
 

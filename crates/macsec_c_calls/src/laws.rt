@@ -1,12 +1,17 @@
-//! Laws of answers and of rows. They are about the definitions alone: the contracts of empty functions.
+//! Laws of answers, of rows and of renewed keys. They are about the definitions alone: the contracts of functions that
+//! do nothing.
 
 ghost use Rattle.std.specs.Prelude.{ℕ, List};
 ghost use Rattle.macsec_commands.specs.declared.command.Command.{Command};
 ghost use Rattle.macsec_ahead.specs.Ahead.{Ahead};
 ghost use Rattle.macsec_script_parser.specs.declared.lines.Line.{Line};
 ghost use Rattle.macsec_c_calls.specs.declared.rows.CommandRow.{CommandRow};
+ghost use Rattle.macsec_suite.specs.declared.key_row.NewKey.{NewKey};
+ghost use Rattle.macsec_c_calls.specs.GivenUp.{Call, GivesUp, RefusesOctets, StayGivenUp};
 ghost use Rattle.macsec_c_calls.specs.Laws.{AnswersAsPrinted};
 ghost use Rattle.macsec_c_calls.specs.RowLaws.{CommandsParsed, MeansCommand};
+
+use macsec_reserve::laws::renewing_gives_up_octets;
 
 /// The answer to a line about end A alone is what a script prints for it, and leaves the endpoint that is there after
 /// the script's line, except that a key which the line retires is forgotten. Premises: no packet number of the line is
@@ -26,3 +31,14 @@ pub fn rows_mean_commands()
 pub fn parsed_lines_are_commanded()
     ensures { (e : Ahead) (text : List ℕ) (status : ℕ) (row : CommandRow) → CommandsParsed e text status row }
 {}
+
+/// Once a new key took the row of a retired one, each call that installs a key refuses the octets of the retired one
+/// with `KeyRepeated` and changes nothing, whatever calls come in between, also if only their fingerprint was left.
+pub fn refuses_given_up_octets()
+    ensures begins { (e : Ahead) (key : NewKey) (bytes : List ℕ) → GivesUp e key bytes }
+    ensures stays { (e : Ahead) (calls : List Call) (bytes : List ℕ) → StayGivenUp e calls bytes }
+    ensures refuses { (e : Ahead) (key : NewKey) → RefusesOctets e key }
+{
+    // A law that the proof cites; the call does nothing.
+    renewing_gives_up_octets();
+}

@@ -6,9 +6,10 @@
 //!   status of each fault and the number of each verdict are the ones in `specs/Statuses.antt`.
 //! - A reader returns the status and shows the value of `specs/Shown.antt` or `specs/Reserving.antt`. If it finds
 //!   nothing, its output is unchanged.
-//! - A command has the status of its output in the machine of `macsec_ahead` that forgets retired keys
-//!   (`specs/Commands.antt`). The result for a frame shows the output (`specs/SentParts.antt`,
-//!   `specs/ReceivedParts.antt`).
+//! - A command has the status of its output in the machine of `macsec_ahead` that forgets retired keys, and that
+//!   refuses the octets of a key whose row a new key took. `renew_key` installs a key as `AheadKeeper::renew_key` does
+//!   (`specs/Commands.antt`). A law (`laws`): such octets stay refused, whatever calls come. The result for a frame
+//!   shows the output (`specs/SentParts.antt`, `specs/ReceivedParts.antt`).
 //! - `configured` and `configured_beside` create the endpoint of a text after the steps of all its commands, or give
 //!   the first fault or refusal, or run out of memory. `command_line` is the step of a line's command
 //!   (`specs/Texts.antt`).
@@ -50,7 +51,7 @@ pub use answering::{Answered, Ending, answer};
 pub use arguments::{
     ArgumentFault, an_of, form_of, key_number_of, key_of, key_suite_of, mode_of, suite_of,
 };
-pub use commands::{Sak, carry_out, new_key_of, rx_sa_of, tx_sa_of};
+pub use commands::{Sak, carry_out, new_key_of, renew_key, rx_sa_of, tx_sa_of};
 pub use configuring::{ConfigFault, command_line, configured, configured_beside};
 pub use creating::{Config, config_of, endpoint_alone, endpoint_beside, status_of_open_fault};
 pub use jobs::{
