@@ -14,14 +14,17 @@ use macsec_secy::{NewFault, Secy};
 use std::alloc::Global;
 use std::io::Write;
 
-/// Creates an endpoint. The only fault is `Memory`.
-pub(crate) fn endpoint_of(alloc: Global, end: CheckedEnd) -> Result<Secy, ScriptFault>
+/// Creates an endpoint. The only fault is `Memory`. `wide` is what `Secy::prefer_wide` takes.
+pub(crate) fn endpoint_of(alloc: Global, wide: bool, end: CheckedEnd) -> Result<Secy, ScriptFault>
     ensures state { IfOk result (λ s. s ≡ start end) }
     ensures sound { IfOk result IsSound }
     ensures fault { IfErr result (λ fault. fault ≡ Memory) }
 {
     match Secy::new(alloc, end.config()) {
-        Ok(endpoint) => Ok(endpoint),
+        Ok(mut endpoint) => {
+            endpoint.prefer_wide(wide);
+            Ok(endpoint)
+        }
         Err(NewFault::Memory) => Err(ScriptFault::Memory),
         Err(_) => unreachable!(),
     }

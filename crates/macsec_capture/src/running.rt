@@ -26,9 +26,11 @@ use std::alloc::Global;
 use std::io::{self, Read, Write};
 
 /// Runs an endpoint over a capture file. Reads the whole configuration, and does what `run_config` does with its octets.
-/// Returns its first fault; `Script(Read)` if the configuration can't be read, and then nothing was written.
+/// Returns its first fault; `Script(Read)` if the configuration can't be read, and then nothing was written. `wide` is
+/// what `Secy::prefer_wide` takes.
 pub fn run_capture<C: Read, R: Read, W: Write, T: Write>(
     alloc: Global,
+    wide: bool,
     direction: Direction,
     config: &mut C,
     input: &mut R,
@@ -41,7 +43,15 @@ pub fn run_capture<C: Read, R: Read, W: Write, T: Write>(
     ensures unwritten { IfErr result (LeavesBoth (known (W.contents output.old) (T.contents text.old)) (known (W.contents output.new) (T.contents text.new))) }
 {
     let config = read_text(alloc, config)?;
-    run_config(alloc, direction, config.as_slice(), input, output, text)
+    run_config(
+        alloc,
+        wide,
+        direction,
+        config.as_slice(),
+        input,
+        output,
+        text,
+    )
 }
 
 /// Runs an endpoint over a capture file, by the octets of a configuration. Parses the whole configuration, carries out
@@ -64,6 +74,7 @@ pub fn run_capture<C: Read, R: Read, W: Write, T: Write>(
 /// only the octets that `input` has left could show which record that is, and `CaptureReader` has no clause on these.
 pub fn run_config<R: Read, W: Write, T: Write>(
     alloc: Global,
+    wide: bool,
     direction: Direction,
     config: &[u8],
     input: &mut R,
@@ -80,6 +91,7 @@ pub fn run_config<R: Read, W: Write, T: Write>(
     let mut outputs = Outputs { output, text };
     run_configured(
         alloc,
+        wide,
         direction,
         config.end,
         config.commands.as_slice(),
@@ -91,6 +103,7 @@ pub fn run_config<R: Read, W: Write, T: Write>(
 /// Creates an endpoint of this configuration, carries out its commands, and runs it over a capture file.
 fn run_configured<R: Read, W: Write, T: Write>(
     alloc: Global,
+    wide: bool,
     direction: Direction,
     end: CheckedEnd,
     commands: &[(u32, Command)],
@@ -107,7 +120,7 @@ fn run_configured<R: Read, W: Write, T: Write>(
     ensures fault { IfErr result IsAfterConfig }
     ensures unwritten { IfErr result (LeavesBoth (written W.contents T.contents outputs.old) (written W.contents T.contents outputs.new)) }
 {
-    let mut endpoint = endpoint_of(alloc, end)?;
+    let mut endpoint = endpoint_of(alloc, wide, end)?;
     run_commands(&mut endpoint, outputs.text, commands)?;
     run_file(alloc, direction, &mut endpoint, input, outputs)
 }

@@ -41,7 +41,7 @@ pub fn task_of_words<'a>(alloc: Global, words: &'a [String]) -> Result<Task<'a>,
 }
 
 /// Carries out the task of the arguments after the program's name, and prints to standard output.
-pub fn run_words<'a>(rt: &HostRuntime, words: &'a [String]) -> Result<(), Failure<'a>>
+pub fn run_words<'a>(rt: &HostRuntime, wide: bool, words: &'a [String]) -> Result<(), Failure<'a>>
     ensures done { IfOk result (λ _. IsSome (asked (map string_bytes words.now))) }
     ensures failure { IfErr result (FailsBy (map string_bytes words.now)) }
 {
@@ -50,9 +50,9 @@ pub fn run_words<'a>(rt: &HostRuntime, words: &'a [String]) -> Result<(), Failur
         return Err(Failure::Script(ScriptFault::Memory));
     };
     match task {
-        Task::Run(script) => run_named(rt, rt.alloc(), script, &mut rt.stdin(), &mut text),
+        Task::Run(script) => run_named(rt, rt.alloc(), wide, script, &mut rt.stdin(), &mut text),
         Task::Capture(direction, paths) => {
-            capture_named(rt, rt.alloc(), direction, paths, &mut text)
+            capture_named(rt, rt.alloc(), wide, direction, paths, &mut text)
         }
     }
 }

@@ -59,6 +59,7 @@ fn reported<'a>(done: Result<(), CaptureFault>) -> Result<(), Failure<'a>>
 /// Runs a capture like `run_capture`, which flushes the output, and then flushes the text.
 fn run_and_flush<'a, C: Read, R: Read, W: Write, T: Write>(
     alloc: Global,
+    wide: bool,
     direction: Direction,
     config: &mut C,
     input: &mut R,
@@ -73,7 +74,7 @@ fn run_and_flush<'a, C: Read, R: Read, W: Write, T: Write>(
     ensures unwritten { Reports result (λ done. IfErr done (LeavesBoth (record { output = W.contents output.old; text = T.contents text.old })
         (record { output = W.contents output.new; text = T.contents text.new }))) }
 {
-    let done = run_capture(alloc, direction, config, input, output, text);
+    let done = run_capture(alloc, wide, direction, config, input, output, text);
     let flushed = text.flush();
     reported(capture_end(done, flushed))
 }
@@ -83,6 +84,7 @@ fn run_and_flush<'a, C: Read, R: Read, W: Write, T: Write>(
 pub fn capture_named<'a, H: Files, T: Write>(
     rt: &H,
     alloc: Global,
+    wide: bool,
     direction: Direction,
     paths: CapturePaths<'a>,
     text: &mut T,
@@ -106,5 +108,13 @@ pub fn capture_named<'a, H: Files, T: Write>(
     ) else {
         return Err(Failure::Pcap(PcapFault::Memory));
     };
-    run_and_flush(alloc, direction, &mut config, &mut input, &mut output, text)
+    run_and_flush(
+        alloc,
+        wide,
+        direction,
+        &mut config,
+        &mut input,
+        &mut output,
+        text,
+    )
 }

@@ -11,17 +11,18 @@ use std::env;
 use std::io::{self, Write};
 
 /// The program `macsec`: carries out the task of the process's arguments, and reports a failure on `errors`, as
-/// `run_and_tell` does.
-pub fn run_program<W: Write>(rt: &HostRuntime, errors: &mut W) -> (u8, io::Result<()>)
+/// `run_and_tell` does. `wide` is what `Secy::prefer_wide` takes.
+pub fn run_program<W: Write>(rt: &HostRuntime, wide: bool, errors: &mut W) -> (u8, io::Result<()>)
     ensures { IsTold EndsAtAll (W.contents errors.old) (W.contents errors.new) result.0 result.1 }
 {
     let own = own_words(rt);
-    run_own(rt, &own, errors)
+    run_own(rt, wide, &own, errors)
 }
 
 /// The same, for arguments that were read or could not be read.
 fn run_own<W: Write>(
     rt: &HostRuntime,
+    wide: bool,
     own: &io::Result<Vec<String>>,
     errors: &mut W,
 ) -> (u8, io::Result<()>)
@@ -29,7 +30,7 @@ fn run_own<W: Write>(
     ensures unread { IfErr own.now (λ error. IsTold (IsUnread (error_kind error)) (W.contents errors.old) (W.contents errors.new) result.0 result.1) }
 {
     match own {
-        Ok(words) => run_and_tell(rt, words.as_slice(), errors),
+        Ok(words) => run_and_tell(rt, wide, words.as_slice(), errors),
         Err(error) => tell(errors, Err(failure_of_words(error))),
     }
 }
@@ -38,21 +39,22 @@ fn run_own<W: Write>(
 /// the exit status, and whether the line was written.
 pub fn run_and_tell<W: Write>(
     rt: &HostRuntime,
+    wide: bool,
     words: &[String],
     errors: &mut W,
 ) -> (u8, io::Result<()>)
     ensures { IsTold (EndsBy (map string_bytes words.now)) (W.contents errors.old) (W.contents errors.new) result.0 result.1 }
 {
-    let ended = end_of_words(rt, words);
+    let ended = end_of_words(rt, wide, words);
     tell(errors, ended)
 }
 
 /// Carries out the task of the arguments, while no file that is opened can get the descriptor of a standard stream.
-fn end_of_words<'a>(rt: &HostRuntime, words: &'a [String]) -> Result<(), Failure<'a>>
+fn end_of_words<'a>(rt: &HostRuntime, wide: bool, words: &'a [String]) -> Result<(), Failure<'a>>
     ensures { EndsBy (map string_bytes words.now) result }
 {
     match open_stand_ins(rt) {
-        Ok(_held) => run_words(rt, words),
+        Ok(_held) => run_words(rt, wide, words),
         Err(failure) => Err(failure),
     }
 }

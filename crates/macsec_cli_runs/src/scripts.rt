@@ -27,6 +27,7 @@ fn run_end(done: Result<(), ScriptFault>, flushed: io::Result<()>) -> Result<(),
 /// Runs a script by `run_text`, and flushes what it printed.
 fn run_text_and_flush<W: Write>(
     alloc: Global,
+    wide: bool,
     writer: &mut W,
     script: &[u8],
 ) -> Result<(), ScriptFault>
@@ -35,7 +36,7 @@ fn run_text_and_flush<W: Write>(
     ensures promised { OnOk result (IsPromised script.now) }
     ensures promised_before { IfErr result (IsPromisedThen script.now (W.contents writer.old) (W.contents writer.new)) }
 {
-    let done = run_text(alloc, writer, script);
+    let done = run_text(alloc, wide, writer, script);
     let flushed = writer.flush();
     run_end(done, flushed)
 }
@@ -43,6 +44,7 @@ fn run_text_and_flush<W: Write>(
 /// Reads a script, runs it, and flushes what it printed.
 fn run_read<R: Read, W: Write>(
     alloc: Global,
+    wide: bool,
     reader: &mut R,
     writer: &mut W,
 ) -> Result<(), ScriptFault>
@@ -52,7 +54,7 @@ fn run_read<R: Read, W: Write>(
     ensures some_text { RunsSomeText (W.contents writer.old) (W.contents writer.new) result }
 {
     let text = read_text(alloc, reader)?;
-    run_text_and_flush(alloc, writer, text.as_slice())
+    run_text_and_flush(alloc, wide, writer, text.as_slice())
 }
 
 /// Runs the script of this name, and flushes what it printed. The name `-` is standard input; any other is the path of
@@ -60,6 +62,7 @@ fn run_read<R: Read, W: Write>(
 pub fn run_named<'a, H: Files, R: Read, W: Write>(
     rt: &H,
     alloc: Global,
+    wide: bool,
     name: &'a str,
     input: &mut R,
     output: &mut W,
@@ -72,7 +75,7 @@ pub fn run_named<'a, H: Files, R: Read, W: Write>(
     ensures unwritten { IfErr result (LeavesOutput (W.contents output.old) (W.contents output.new)) }
 {
     if name == "-" {
-        return match run_read(alloc, input, output) {
+        return match run_read(alloc, wide, input, output) {
             Ok(()) => Ok(()),
             Err(fault) => Err(Failure::Script(fault)),
         };
@@ -80,7 +83,7 @@ pub fn run_named<'a, H: Files, R: Read, W: Write>(
     let Ok(mut file) = fs::open(rt, name) else {
         return Err(Failure::CannotOpen(name));
     };
-    match run_read(alloc, &mut file, output) {
+    match run_read(alloc, wide, &mut file, output) {
         Ok(()) => Ok(()),
         Err(fault) => Err(Failure::Script(fault)),
     }

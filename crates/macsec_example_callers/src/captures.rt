@@ -41,6 +41,7 @@ pub fn protected_capture(
     let (mut output, mut text) = (Vec::new(alloc), Vec::new(alloc));
     run_capture(
         alloc,
+        false,
         Direction::Protect,
         &mut config,
         &mut input,
@@ -56,6 +57,7 @@ pub fn text_of_capture(alloc: Global, config: &[u8], file: &[u8]) -> Result<Vec<
     let (mut output, mut text) = (Vec::new(alloc), Vec::new(alloc));
     run_config(
         alloc,
+        false,
         Direction::Validate,
         config,
         &mut input,

@@ -16,7 +16,7 @@ pub fn world_after(
     b: EndConfig,
     events: &[Event],
 ) -> Result<World, WorldFault> {
-    let mut world = World::new(alloc, a, b)?;
+    let mut world = World::new(alloc, false, a, b)?;
     for event in events {
         world.step(event)?;
     }
@@ -28,13 +28,13 @@ pub fn text_of_script(alloc: Global, script: &[u8]) -> Result<Vec<u8>, ScriptFau
     ensures promised { OnOk result (IsPromised script.now) }
 {
     let mut text = Vec::new(alloc);
-    run_text(alloc, &mut text, script)?;
+    run_text(alloc, false, &mut text, script)?;
     Ok(text)
 }
 
 /// What the script that a reader has prints.
 pub fn text_of_reader<R: Read>(alloc: Global, reader: &mut R) -> Result<Vec<u8>, ScriptFault> {
     let mut text = Vec::new(alloc);
-    run_script(alloc, reader, &mut text)?;
+    run_script(alloc, false, reader, &mut text)?;
     Ok(text)
 }

@@ -14,8 +14,8 @@ use macsec_secy::laws::{accepts_sent, delivers_in_time, keys_stay, protects_fram
 use macsec_suite::laws::equal_ivs;
 use macsec_tag::laws::reads_by_grammar;
 
-/// The four promises, for every list of events for which the world is sound at each moment. `World::run` states each
-/// one.
+/// The four promises, and what a first forged tag needs, for every list of events for which the world is sound at each
+/// moment. `World::run` states each one.
 pub fn promises()
     ensures { (a b : EndConfig) (events : List Event) → AreSound a b events → KeepsPromises a b events }
 {

@@ -65,12 +65,13 @@ impl Model for EndLogs {
 }
 
 impl EndLogs {
-    /// Creates an end, or returns the fault of its configuration, or `Memory`.
-    pub fn new(alloc: Global, config: EndConfig) -> Result<EndLogs, NewFault>
+    /// Creates an end, or returns the fault of its configuration, or `Memory`. `wide` is what `Secy::prefer_wide` takes.
+    pub fn new(alloc: Global, wide: bool, config: EndConfig) -> Result<EndLogs, NewFault>
         ensures made { MakesEnd config result }
         ensures sound { IfOk result IsSoundEnd }
     {
-        let secy = Secy::new(alloc, config)?;
+        let mut secy = Secy::new(alloc, config)?;
+        secy.prefer_wide(wide);
         Ok(EndLogs {
             secy,
             sent: SentLogs::new(alloc),

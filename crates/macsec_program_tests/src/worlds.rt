@@ -38,7 +38,7 @@ fn carry_out(world: &mut World, lines: &[(u32, Action)]) -> bool {
 /// The world of A and B after the events of a script, which have no fault.
 pub fn world_after(rt: &impl Abort, alloc: Global, script: &str) -> Result<World, Fail> {
     let script = parse_script(alloc, script.as_bytes())?;
-    let mut world = World::new(alloc, A, B)?;
+    let mut world = World::new(alloc, true, A, B)?;
     if let Some(script) = script {
         assert!(rt; carry_out(&mut world, script.lines.as_slice()));
     }

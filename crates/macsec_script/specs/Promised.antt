@@ -1,5 +1,6 @@
--- The four promises, on the run of a script's two ends over the events of its lines.
-use Rattle.std.specs.Prelude.{◌≡◌, ◌<◌, ◌+◌, ◌⊎◌, ℕ, List, [], ◌∷◌, ◌++◌, length, take, IfOk, IfSome, Option, Some, None, Result, Err}
+-- The four promises, and what a forged tag needs, on the run of a script's two ends over the events of its lines.
+use Rattle.std.specs.Prelude.{◌≡◌, ◌<◌, ◌+◌, ◌⊎◌, ℕ, List, [], ◌∷◌, ◌++◌, length, take, IfOk, IfSome, Option, Some}
+use Rattle.std.specs.Prelude.{None, Result, Err}
 use Rattle.std.specs.Io.{StartsWith}
 use Rattle.std.specs.Io.KnownBytes.{Appends, Keeps}
 use Rattle.macsec_commands.specs.declared.event.Event.{Event}
@@ -51,12 +52,14 @@ abbrev pub up_to : ℕ → ScriptParts → ScriptParts
 up_to n script = record script { lines = take n script.lines }
 
 -- out of memory: nothing is written, or the text is all that the first n lines print, and the promises hold of those
--- lines. At a failed write: the text has all that the first n lines print, and at most what the first n + 1 lines print,
--- and the promises hold of those n + 1 lines
+-- lines. At a failed write: the text has all that the first n lines print, and at most what the first n + 1 lines
+-- print, and the promises hold of those n + 1 lines
 abbrev pub ArePromisedUpTo : ScriptParts → ScriptFault → List ℕ → Type 0
-ArePromisedUpTo script Memory text = (text ≡ []) ⊎ ((n : ℕ) × (text ≡ text_of (up_to n script)) × ArePromised (up_to n script))
+ArePromisedUpTo script Memory text = (text ≡ [])
+    ⊎ ((n : ℕ) × (text ≡ text_of (up_to n script)) × ArePromised (up_to n script))
 ArePromisedUpTo script Write text =
-    (n : ℕ) × (n < length script.lines) × StartsWith text (text_of (up_to n script)) × StartsWith (text_of (up_to (n + 1) script)) text
+    (n : ℕ) × (n < length script.lines) × StartsWith text (text_of (up_to n script))
+    × StartsWith (text_of (up_to (n + 1) script)) text
     × ArePromised (up_to (n + 1) script)
 ArePromisedUpTo script other text = Unit {0}
 

@@ -10,9 +10,9 @@
 //!   next line prints. The promises hold of these lines and that one (`promised_before`).
 //!
 //! Over any writer: with `Ok`, the four promises hold of the run of the script's two ends over the events of all its
-//! lines (`promised`). `run_script` is `read_text`, then `run_text`. Of it the same is proved for all that the reader
-//! had, if a contract can name that (as of a slice). Over any reader: with a fault other than `Memory` and `Write`
-//! nothing was written.
+//! lines, and no tag is forged, or a first one is and needs one of few hash keys (`promised`). `run_script` is
+//! `read_text`, then `run_text`. Of it the same is proved for all that the reader had, if a contract can name that (as
+//! of a slice). Over any reader: with a fault other than `Memory` and `Write` nothing was written.
 //!
 //! The world refuses no configuration of a script without a fault, so `Memory` hides no such refusal.
 //! A law: each line is printed from the world after the events of the lines before it. Worked scripts are in

@@ -142,7 +142,7 @@ fn devices_of(alloc: Global, run: &Run, place: Place, fails: Fails) -> Devices<'
 }
 
 fn script_run(alloc: Global, devices: &mut Devices<'_>) -> Answer {
-    match run_script(alloc, &mut devices.source, &mut devices.text) {
+    match run_script(alloc, true, &mut devices.source, &mut devices.text) {
         Ok(()) => ("", ""),
         Err(fault) => ("script", fault.name()),
     }
@@ -159,6 +159,7 @@ fn of_capture(done: Result<(), CaptureFault>) -> Answer {
 fn capture_run(alloc: Global, direction: Direction, devices: &mut Devices<'_>) -> Answer {
     of_capture(run_capture(
         alloc,
+        true,
         direction,
         &mut devices.source,
         &mut devices.input,

@@ -15,7 +15,7 @@ fn faults_of(
     b: EndConfig,
 ) -> (Option<WorldFault>, Option<WorldFault>) {
     (
-        World::new(alloc, a, b).err(),
+        World::new(alloc, true, a, b).err(),
         World::run(alloc, a, b, &[]).err(),
     )
 }

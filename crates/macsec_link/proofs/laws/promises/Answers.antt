@@ -3,6 +3,7 @@ use Rattle.macsec_link.proofs.{
   Accepted.accepts_in_time,
   Deliveries.Grammar,
   EndpointLaws.EndpointLaws,
+  Forged.genuine_or_forged,
   GenuineRuns.{comes_from_other, comes_in_order, keeps_window, marks_each_frame, repeats_no_iv, seals_each_frame},
   Moments.sound_up_to,
   Names.take,
@@ -29,5 +30,6 @@ returns c a b events sounds =
       marks = λ k. marks_each_frame laws grammar a b (take k events) (then k);
       origin = λ k. comes_from_other laws grammar a b (take k events) (then k);
       order = λ k. comes_in_order laws grammar a b (take k events) (then k);
+      genuine_or_forged = λ k. genuine_or_forged laws grammar a b (take k events) (then k);
       acceptance = accepts_in_time c.accepts_sent.ensures laws a b events sounds;
     }

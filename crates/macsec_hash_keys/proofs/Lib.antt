@@ -1,0 +1,17 @@
+pub mod Sums
+pub mod AesOctets
+pub mod UnderKey
+pub mod Products
+pub mod Squares
+pub mod Idempotents
+pub mod Inverses
+pub mod Roots
+pub mod Lists
+pub mod Padding
+pub mod Hashes
+pub mod Masks
+pub mod Tags
+pub mod Forgeries
+pub mod Reached
+pub mod Counting
+pub mod EachKey
