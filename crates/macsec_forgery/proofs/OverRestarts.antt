@@ -11,8 +11,11 @@ use Rattle.{
   macsec_commands.specs.declared.event.End.{End, TheVariants.{A, B}},
   macsec_secy.specs.Step.link_frame,
   macsec_reserve.specs.{Histories.{Run, closing, sealed_in_all}, Keeping.endpoint_input},
-  macsec_link.specs.Genuine.use_opened,
-  macsec_secrecy.proofs.UnderKey.under_key,
+  macsec_hash_keys.{
+    proofs.{Counting.contained_or_not, Forgeries.few_keys_have_forgeries, UnderKey.under_key},
+    specs.{Forgeries.{IsWithin, Opens, under}, Tags.mask_of},
+  },
+  macsec_link.{proofs.{Forged.counted, Opened.opened_opens}, specs.Genuine.use_opened},
   macsec_restarts.specs.{
     AheadOrder.{ComesInOrderOnceWith, IsOrderlyInside, inside},
     ForgettingOrder.ComesInOrderOnceForgetting,
@@ -21,34 +24,28 @@ use Rattle.{
     Origin.ComesFromOther,
     Peers.IsGenuineAt,
   },
-  macsec_forgery.proofs.{
-    Counting.contained_or_not,
-    Forgeries.few_keys_have_forgeries,
-    InRuns.counted,
-    Opened.opened_opens,
-    Sealed.runs_open,
-  },
+  macsec_forgery.proofs.Sealed.runs_open,
   macsec_forgery.specs.{
-    Forgeries.{IsWithin, Opens},
-    Restarts.{FewKeysForge, GenuineOrForged, IsForgedBy, IsForgedIn, IsOrderlyButForged, IsOrderlyInsideButForged},
-    Restarts.{OrderAheadOrForged, OrderForgettingOrForged, OrderOrForged, OriginOrForged, sealed_so_far},
-    Runs.under,
-    Tags.mask_of,
+    Restarts.{FewKeysForgeOverRestarts, ForgeryIsCountedOverRestarts, GenuineOrForgedOverRestarts, IsForgedBy},
+    Restarts.{IsForgedIn, IsOrderlyButForged, IsOrderlyInsideButForged, OrderAheadOrForged, OrderForgettingOrForged},
+    Restarts.{OrderOrForgedOverRestarts, OriginOrForgedOverRestarts, sealed_so_far},
   },
 }
 
-all_open : (before : List Happening) → All Opens (sealed_so_far before)
-all_open before =
-    All-append Opens (sealed_in_all (runs_of A before)) (sealed_in_all (runs_of B before)) (runs_open (runs_of A before)) (runs_open (runs_of B before))
+pub both_open : (runs others : List Run) → All Opens (sealed_in_all runs ++ sealed_in_all others)
+both_open runs others = All-append Opens (sealed_in_all runs) (sealed_in_all others) (runs_open runs) (runs_open others)
 
 -- ---- one happening
 
 link_frame_or_forged : (before : List Happening) (e : End) (frame : List ℕ)
-    → IsGenuineAt before (comes_in e (endpoint_input (link_frame frame))) ⊎ IsForgedBy before (comes_in e (endpoint_input (link_frame frame)))
+    → IsGenuineAt before (comes_in e (endpoint_input (link_frame frame))) ⊎ IsForgedBy before
+    (comes_in e (endpoint_input (link_frame frame)))
 link_frame_or_forged before e frame = by_run (last_run (runs_of e before)) refl
   where
-    by_use : (run : Run) → last_run (runs_of e before) ≡ Some run → (o : Option CipherUse) → use_opened (closing run).secy frame ≡ o
-        → IfSome o (Contains (sealed_so_far before)) ⊎ IsForgedBy before (comes_in e (endpoint_input (link_frame frame)))
+    by_use : (run : Run) → last_run (runs_of e before) ≡ Some run → (o : Option CipherUse)
+        → use_opened (closing run).secy frame ≡ o
+        → IfSome o (Contains (sealed_so_far before)) ⊎ IsForgedBy before
+        (comes_in e (endpoint_input (link_frame frame)))
     by_use run in_run None opened = inl tt
     by_use run in_run (Some u) opened = elim (contained_or_not (sealed_so_far before) u) [
       | inl there ↦ inl there
@@ -61,7 +58,6 @@ link_frame_or_forged before e frame = by_run (last_run (runs_of e before)) refl
         forged = u;
         opened = opened;
         not_sealed = none;
-        counted = counted (sealed_so_far before) u (all_open before) (opened_opens (closing run).secy frame u opened) none;
       })
     ]
 
@@ -83,22 +79,31 @@ AtEach-append P before [] h all now = (rw append-nil at now, tt)
 AtEach-append P before (e ∷ events) h all now =
     (all.0, AtEach-append P _ events h all.1 (rw (← append_assoc before (e ∷ []) events) at now))
 
-from_here : (before events : List Happening) → AtEach IsGenuineAt [] before → AtEach IsGenuineAt before events ⊎ IsForgedIn (before ++ events)
+from_here : (before events : List Happening) → AtEach IsGenuineAt [] before
+    → AtEach IsGenuineAt before events ⊎ IsForgedIn (before ++ events)
 from_here before [] genuine = inl tt
 from_here before (h ∷ events) genuine = elim (genuine_or_forged_at before h) [
-  | inr forged ↦ inr (record { before = before; now = h; later = events; in_order = refl; genuine_before = genuine; by = forged })
+  | inr forged ↦ inr (record {
+    before = before;
+    now = h;
+    later = events;
+    in_order = refl;
+    genuine_before =
+        genuine;
+    by = forged;
+  })
   | inl now ↦ elim (from_here _ events (AtEach-append _ [] before h genuine now)) [
     | inl later ↦ inl (now, later)
     | inr forged ↦ inr (rw append_assoc at forged)
   ]
 ]
 
-pub genuine_or_forged : GenuineOrForged
+pub genuine_or_forged : GenuineOrForgedOverRestarts
 genuine_or_forged events = from_here [] events tt
 
 -- ---- origin and order
 
-pub origin_or_forged : ((before : List Happening) → ComesFromOther before) → OriginOrForged
+pub origin_or_forged : ((before : List Happening) → ComesFromOther before) → OriginOrForgedOverRestarts
 origin_or_forged comes before peers e run frame row delivered octets in_run strict of_row delivers =
     elim (genuine_or_forged_at before _) [
       | inr forged ↦ inl forged
@@ -106,12 +111,16 @@ origin_or_forged comes before peers e run frame row delivered octets in_run stri
     ]
 
 orderly : (e : End) (bytes : List ℕ) (sci : Sci) (an : ℕ) (before events : List Happening)
-    → AtEach IsGenuineAt before events → AtEach (IsOrderlyButForged e bytes sci an) before events → AtEach (IsOrderly e bytes sci an) before events
+    → AtEach IsGenuineAt before events → AtEach (IsOrderlyButForged e bytes sci an) before events
+    → AtEach (IsOrderly e bytes sci an) before events
 orderly e bytes sci an before [] genuine order = tt
-orderly e bytes sci an before (h ∷ events) genuine order =
-    (record { genuine = genuine.0; octets = order.0.octets; ordered = order.0.ordered }, orderly e bytes sci an _ events genuine.1 order.1)
+orderly e bytes sci an before (h ∷ events) genuine order = (
+  record { genuine = genuine.0; octets = order.0.octets; ordered = order.0.ordered },
+  orderly e bytes sci an _ events
+      genuine.1 order.1,
+)
 
-pub order_or_forged : ((events : List Happening) → ComesInOrderOnce events) → OrderOrForged
+pub order_or_forged : ((events : List Happening) → ComesInOrderOnce events) → OrderOrForgedOverRestarts
 order_or_forged comes events e bytes sci an order peers = elim (genuine_or_forged events) [
   | inr forged ↦ inl forged
   | inl genuine ↦ inr (comes events e bytes sci an (orderly e bytes sci an [] events genuine order) peers)
@@ -126,21 +135,30 @@ orderly_inside ahead e bytes sci an before (h ∷ events) genuine order = (
   orderly_inside ahead e bytes sci an _ events genuine.1 order.1,
 )
 
-pub order_ahead_or_forged : ((ahead : End → Bool) (events : List Happening) → ComesInOrderOnceWith ahead events) → OrderAheadOrForged
+pub order_ahead_or_forged : ((ahead : End → Bool) (events : List Happening) → ComesInOrderOnceWith ahead events)
+    → OrderAheadOrForged
 order_ahead_or_forged comes ahead events e bytes sci an order peers = elim (genuine_or_forged (inside ahead events)) [
   | inr forged ↦ inl forged
   | inl genuine ↦ inr (comes ahead events e bytes sci an (orderly_inside _ e bytes sci an [] _ genuine order) peers)
 ]
 
-pub order_forgetting_or_forged : ((ahead : End → Bool) (events : List Happening) → ComesInOrderOnceForgetting ahead events) → OrderForgettingOrForged
-order_forgetting_or_forged comes ahead events e bytes sci an sound order peers = elim (genuine_or_forged (inside ahead _)) [
-  | inr forged ↦ inl forged
-  | inl genuine ↦ inr (comes ahead events e bytes sci an sound (orderly_inside _ e bytes sci an [] _ genuine order) peers)
-]
+pub order_forgetting_or_forged : ((ahead : End → Bool) (events : List Happening)
+    → ComesInOrderOnceForgetting ahead events) → OrderForgettingOrForged
+order_forgetting_or_forged comes ahead events e bytes sci an sound order peers =
+    elim (genuine_or_forged (inside ahead _)) [
+      | inr forged ↦ inl forged
+      | inl genuine ↦ inr (comes ahead events e bytes sci an sound
+          (orderly_inside _ e bytes sci an [] _ genuine order) peers)
+    ]
 
 -- ---- counting
 
-pub few_keys_forge : FewKeysForge
+pub forgery_is_counted_over_restarts : ForgeryIsCountedOverRestarts
+forgery_is_counted_over_restarts before now it =
+    counted (sealed_so_far before) it.forged (both_open (runs_of A before) (runs_of B before))
+    (opened_opens (closing it.run).secy it.frame it.forged it.opened) it.not_sealed
+
+pub few_keys_forge : FewKeysForgeOverRestarts
 few_keys_forge n before now it hs within_seals within keys each =
     let u = it.forged in
     let seals = sealed_so_far before in

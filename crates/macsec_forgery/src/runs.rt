@@ -1,15 +1,10 @@
 //! Each law is about definitions only: the contract of a function that does nothing.
 
-ghost use Rattle.macsec_forgery.specs.Runs.{EveryKeyIsPossibleInRuns, FewKeysForgeInAnyRun, FewKeysForgeInRuns};
-ghost use Rattle.macsec_forgery.specs.Runs.{GenuineOrForged, OneOfFewKeys, OrderOrForged, OriginOrForged};
+ghost use Rattle.macsec_forgery.specs.Runs.{EveryKeyIsPossibleInRuns, OneOfFewKeys, OrderOrForged, OriginOrForged};
+ghost use Rattle.macsec_forgery.specs.WholeRuns.{FewKeysForgeInWholeRun, OwnKeyForgesInRun, TriesHaveAll};
 
 use macsec_link::laws::promises;
 use macsec_tag::laws::reads_by_grammar;
-
-/// In each run no tag is forged, or there is a first forged one, and the hash key is one of those that are counted.
-pub fn genuine_or_forged()
-    ensures { GenuineOrForged }
-{}
 
 /// What a strict end delivers was sent by the other end, and in that order, or a tag is forged.
 pub fn origin_or_forged()
@@ -20,12 +15,20 @@ pub fn origin_or_forged()
     promises();
 }
 
-/// Of the hash keys, at most one more has a forgery than the longest link frame has blocks; at most 579 in any run. If
-/// no IV is used twice, what was sealed allows every hash key.
-pub fn few_keys_forge_in_runs()
-    ensures few { FewKeysForgeInRuns }
-    ensures in_any_run { FewKeysForgeInAnyRun }
-    ensures of_all { EveryKeyIsPossibleInRuns }
+/// If no IV is used twice, what was sealed allows every hash key.
+pub fn every_key_is_possible()
+    ensures { EveryKeyIsPossibleInRuns }
+{
+    // The proof cites this law.
+    promises();
+}
+
+/// Of the hash keys, at most that many for each frame that is tried in a run have a forgery among these frames. If a
+/// tag is forged, the key's own hash key is one of them. No frame is left out whose tag an end looks at.
+pub fn few_keys_forge_in_whole_run()
+    ensures few { FewKeysForgeInWholeRun }
+    ensures own { OwnKeyForgesInRun }
+    ensures tries { TriesHaveAll }
 {
     // The proof cites these laws.
     promises();

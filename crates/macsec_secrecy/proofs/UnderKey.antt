@@ -1,23 +1,33 @@
--- Of some uses of the cipher, those under a key's bytes.
+-- What was sealed under a key's bytes is all of it.
 use Rattle.{
-  std.proofs.Common.{◌≡◌, ◌≢◌, ℕ, List, filter, true, All, AllPairs, sym, ◌∙◌, arith},
-  std.proofs.lemmas.List.{Elements.{All-weaker, filter_passes}, Kept.AllPairs-filter},
-  std.specs.Cmp.Lexicographic.same_text,
-  macsec_gcm.specs.Octets.same_octets,
+  std.proofs.{
+    Common.{◌⊎◌, inl, inr, List, ◌++◌, Contains},
+    lemmas.List.Elements.{Contains-append_cases, Contains-append_left, Contains-append_right},
+  },
   macsec_suite.specs.CipherUses.CipherUse,
-  macsec_link.specs.UniqueIvs.HasOtherIv,
+  macsec_hash_keys.proofs.UnderKey.under_has_all,
+  macsec_link.specs.Trace.trace_of,
+  macsec_reserve.specs.{Forgotten.sealed_forgetting_in_all, Histories.sealed_in_all},
+  macsec_secrecy.specs.Under.{SealedForgettingUnderHasAll, SealedUnderHasAll, SealedUnderHasAllRuns},
 }
 
-abbrev pub under : List ℕ → List CipherUse → List CipherUse
-under key uses = filter (λ u. same_octets u.key key) uses
+pub sealed_under_has_all : SealedUnderHasAll
+sealed_under_has_all key a b events u = under_has_all key (trace_of a b events).seals u
 
-pub under_key : (key : List ℕ) (uses : List CipherUse) → All (λ u. u.key ≡ key) (under key uses)
-under_key key uses =
-    All-weaker (λ u. same_octets u.key key ≡ true) (λ u. u.key ≡ key) (λ u e. same_text u.key key (sym e)) _
-    (filter_passes (λ u. same_octets u.key key) uses)
+in_both : (xs ys : List CipherUse) (u : CipherUse) → Contains xs u ⊎ Contains ys u → Contains (xs ++ ys) u
+in_both xs ys u h = elim h [
+  | inl here ↦ Contains-append_left xs ys u here
+  | inr there ↦ Contains-append_right xs ys u there
+]
 
-pub ivs_apart : (key : List ℕ) (uses : List CipherUse) → AllPairs HasOtherIv uses → AllPairs (λ s r. s.iv ≢ r.iv) (under key uses)
-ivs_apart key uses apart = λ i j default before within.
-    let under_it = under_key key uses in
-    let kept = AllPairs-filter HasOtherIv (λ u. same_octets u.key key) uses apart in
-    kept i j default before within (under_it i default (omega arith) ∙ sym (under_it j default within))
+pub sealed_under_has_all_runs : SealedUnderHasAllRuns
+sealed_under_has_all_runs key runs others u =
+    let xs = sealed_in_all runs in
+    let ys = sealed_in_all others in
+    let all = under_has_all key (xs ++ ys) u in (
+      λ there. (Contains-append_cases xs ys u (all.0 there).0, (all.0 there).1),
+      λ it. all.1 (in_both xs ys u it.0, it.1),
+    )
+
+pub sealed_forgetting_under_has_all : SealedForgettingUnderHasAll
+sealed_forgetting_under_has_all key runs u = under_has_all key (sealed_forgetting_in_all runs) u

@@ -20,6 +20,7 @@ use Rattle.{
     declared.suite.Suite.Suite,
   },
   macsec_commands.specs.declared.{config.EndConfig.EndConfig, event.{End.{End, TheVariants.{A, B}}, Event.Event}},
+  macsec_link.proofs.{SealedUses.{each_seal, ivs_apart}, Within.{data_octets, on_the_link}},
   macsec_link.specs.{
     Beginnings.AreSound,
     Promises.KeepsPromises,
@@ -30,7 +31,7 @@ use Rattle.{
     World.{WorldState, end_of, new_world},
   },
   macsec_secrecy.{
-    proofs.{Inputs.{inputs_of_uses_differ, number_of_inputs}, UnderKey.ivs_apart},
+    proofs.Inputs.{inputs_of_uses_differ, number_of_inputs},
     specs.{Inputs.IsUse, Runs.{NoInputTwice, NumberOfInputs, UsesNoIvTwice, sealed_under}},
   },
 }
@@ -39,16 +40,20 @@ use Rattle.macsec_secy.specs.Sound as endpoint
 abbrev pub Promises : Type 0
 Promises = (a b : EndConfig) (events : List Event) → AreSound a b events → KeepsPromises a b events
 
-pub promised_to_all : (a b : EndConfig) (events : List Event) (law : EndConfig → EndConfig → List Event → Type 0) → ((k : ℕ) → law a b (take k events)) → law a b events
+pub promised_to_all : (a b : EndConfig) (events : List Event) (law : EndConfig → EndConfig → List Event → Type 0)
+    → ((k : ℕ) → law a b (take k events)) → law a b events
 promised_to_all a b events law each = subst (law a b) (take_all _ events (omega arith)) (each (length events))
 
-sound_to_all : (a b : EndConfig) (events : List Event) → AreSound a b events → IsSound (world_after (new_world a b) events)
+sound_to_all : (a b : EndConfig) (events : List Event) → AreSound a b events
+    → IsSound (world_after (new_world a b) events)
 sound_to_all a b events sounds =
-    subst (λ es. IsSound (world_after (new_world a b) es)) (take_all (length events) events (omega arith)) (sounds (length events))
+    subst (λ es. IsSound (world_after (new_world a b) es)) (take_all (length events) events (omega arith))
+    (sounds (length events))
 
 -- ---- IVs
 
-pub iv_long : (suite : Suite) (sci : Sci) (ssci : ℕ) (salt : List ℕ) (pn : ℕ) → length sci.0 ≡ 8 → (is_xpn suite ≡ true → length salt ≡ 12) → length (iv_of suite sci ssci salt pn) ≡ 12
+pub iv_long : (suite : Suite) (sci : Sci) (ssci : ℕ) (salt : List ℕ) (pn : ℕ) → length sci.0 ≡ 8
+    → (is_xpn suite ≡ true → length salt ≡ 12) → length (iv_of suite sci ssci salt pn) ≡ 12
 iv_long suite sci ssci salt pn eight twelve =
     cond_both _ _ _ (λ iv. length iv ≡ 12) (λ e. length-sum_with_stream salt _ ∙ twelve e)
     (λ e. length-append sci.0 (to_be_bytes w32 pn) ∙ ap (λ n. n + 4) eight)
@@ -69,25 +74,19 @@ pub record IsCarried (bound : ℕ) (u : CipherUse) : Type 0 where
   pub octets : AreOctets u.ciphertext
   pub fits : length u.ciphertext ≤ bound
 
-pub all_left : (xs ys : List ℕ) → AreOctets (xs ++ ys) → AreOctets xs
-all_left xs ys all = λ k default lt.
-    subst (λ n. n < 256) (get_or_append_left xs ys default k lt) (all k default (omega (arith, length-append xs ys)))
-
-all_right : (xs ys : List ℕ) → AreOctets (xs ++ ys) → AreOctets ys
-all_right xs ys all = λ k default lt.
-    subst (λ n. n < 256) (get_or-append-add xs ys k default) (all (length xs + k) default (omega (arith, length-append xs ys)))
-
-pub data_octets : (p : MpduParts) → AreOctets (in_a_row p) → AreOctets p.secure_data
-data_octets p octets =
-    let before = p.da ++ p.sa ++ encoding p.tag in
-    all_right before _ (all_left _ p.icv (all_left _ _ octets))
-
 data_fits : (p : MpduParts) (n : ℕ) → length (in_a_row p) ≤ n → length p.secure_data ≤ n
 data_fits p n fits =
     let before = p.da ++ p.sa ++ encoding p.tag in
-    omega (arith, length-append (before ++ p.secure_data ++ p.icv) p.padding, length-append (before ++ p.secure_data) p.icv, length-append before p.secure_data, fits)
+    omega (
+      arith,
+      length-append (before ++ p.secure_data ++ p.icv) p.padding,
+      length-append (before ++ p.secure_data) p.icv,
+      length-append before p.secure_data,
+      fits,
+    )
 
-parts_carried : (n : ℕ) (key : InstalledKey) (iv : List ℕ) (p : MpduParts) → length iv ≡ 12 → AreOctets (in_a_row p) → length (in_a_row p) ≤ n → IsCarried n (cipher_use key iv p)
+parts_carried : (n : ℕ) (key : InstalledKey) (iv : List ℕ) (p : MpduParts) → length iv ≡ 12 → AreOctets (in_a_row p)
+    → length (in_a_row p) ≤ n → IsCarried n (cipher_use key iv p)
 parts_carried n key iv p long octets fits =
     let clear = clear_length key.offset p.tag.e p.secure_data in
     record {
@@ -96,12 +95,10 @@ parts_carried n key iv p long octets fits =
       fits = omega (arith, length-drop clear p.secure_data, data_fits p n fits);
     }
 
--- what holds of each link frame holds of one that is on the link
-pub on_the_link : (P : List ℕ → Type 0) (frames : List (List ℕ)) (n : ℕ) (frame : List ℕ) → All P frames → slice_get frames n ≡ Some frame → P frame
-on_the_link P frames n frame all is = subst P (get_or_from_slice_get frames n frame [] is) (all n [] (slice_get_within frames n frame is))
-
-use_carried : (a b : EndConfig) (events : List Event) (bound moment : ℕ) (x : Sent) → AreSound a b events → IsSound (world_after (new_world a b) events)
-    → All (λ frame. length frame ≤ bound) (world_after (new_world a b) events).frames → IsUseFor a b events moment x → IsCarried bound x.seal
+use_carried : (a b : EndConfig) (events : List Event) (bound moment : ℕ) (x : Sent) → AreSound a b events
+    → IsSound (world_after (new_world a b) events)
+    → All (λ frame. length frame ≤ bound) (world_after (new_world a b) events).frames → IsUseFor a b events moment x
+    → IsCarried bound x.seal
 use_carried a b events bound moment x sounds sound fits it =
     let frames = (world_after (new_world a b) events).frames in
     let s = state_at a b events moment x.at in
@@ -116,39 +113,31 @@ use_carried a b events bound moment x sounds sound fits it =
     (on_the_link AreOctets _ _ _ sound.octets it.on_link)
     (on_the_link (λ frame. length frame ≤ bound) _ _ _ fits it.on_link))
 
--- what holds of each use of the cipher that belongs to a client frame holds of all that was sealed
-pub each_seal : (a b : EndConfig) (events : List Event) (P : CipherUse → Type 0) → SealsEachFrame a b events
-    → ((moment : ℕ) (x : Sent) → IsUseFor a b events moment x → P x.seal) → All P (trace_of a b events).seals
-each_seal a b events P sealed each =
-    let sends = sealed.0 in
-    let are = sealed.1 in
-    let all : All (λ x. P x.seal) sends =
-    λ k default lt.
-    let at = get_or are.moments k 0 in
-    let count = are.count in
-    each at (get_or sends k default)
-    (are.uses k at (get_or sends k default) (slice_get-get_or _ k 0 (omega arith)) (slice_get-get_or sends k default lt)) in
-    subst (All P) are.seals (All-map P (λ x. x.seal) sends all)
-
 pub seals_carried : Promises → (a b : EndConfig) (events : List Event) → AreSound a b events → (bound : ℕ)
-    → All (λ frame. length frame ≤ bound) (world_after (new_world a b) events).frames → All (IsCarried bound) (trace_of a b events).seals
+    → All (λ frame. length frame ≤ bound) (world_after (new_world a b) events).frames
+    → All (IsCarried bound) (trace_of a b events).seals
 seals_carried promises a b events sounds bound fits =
     each_seal a b _ (IsCarried bound) (promised_to_all a b events SealsEachFrame (promises a b events sounds).seals)
     (λ moment x it. use_carried a b _ bound _ x sounds (sound_to_all a b events sounds) fits it)
 
 -- ---- under one key
 
-pub carried_under : Promises → (key : List ℕ) (a b : EndConfig) (events : List Event) → AreSound a b events → (bound : ℕ)
-    → All (λ frame. length frame ≤ bound) (world_after (new_world a b) events).frames → All (IsCarried bound) (sealed_under key a b events)
+pub carried_under : Promises → (key : List ℕ) (a b : EndConfig) (events : List Event) → AreSound a b events
+    → (bound : ℕ)
+    → All (λ frame. length frame ≤ bound) (world_after (new_world a b) events).frames
+    → All (IsCarried bound) (sealed_under key a b events)
 carried_under promises key a b events sounds bound fits =
     All-filter (λ u. same_octets u.key key) (IsCarried bound) _ (seals_carried promises a b events sounds bound fits)
 
-pub frames_fit : (a b : EndConfig) (events : List Event) → AreSound a b events → All (λ frame. length frame ≤ 9248) (world_after (new_world a b) events).frames
+pub frames_fit : (a b : EndConfig) (events : List Event) → AreSound a b events
+    → All (λ frame. length frame ≤ 9248) (world_after (new_world a b) events).frames
 frames_fit a b events sounds = (sound_to_all a b events sounds).frames
 
-pub ivs_apart_in_run : Promises → (key : List ℕ) (a b : EndConfig) (events : List Event) → UsesNoIvTwice a b events → AllPairs (λ s r. s.iv ≢ r.iv) (sealed_under key a b events)
+pub ivs_apart_in_run : Promises → (key : List ℕ) (a b : EndConfig) (events : List Event) → UsesNoIvTwice a b events
+    → AllPairs (λ s r. s.iv ≢ r.iv) (sealed_under key a b events)
 ivs_apart_in_run promises key a b events it =
-    ivs_apart key (trace_of a b events).seals (promised_to_all a b events RepeatsNoIv (promises a b events it.sound).unique_ivs it.scis it.keys it.sscis)
+    ivs_apart key (trace_of a b events).seals
+    (promised_to_all a b events RepeatsNoIv (promises a b events it.sound).unique_ivs it.scis it.keys it.sscis)
 
 is_use : (u : CipherUse) → IsCarried 9248 u → IsUse u
 is_use u it = record { iv = it.iv; text = (let f = it.fits in omega arith) }
@@ -156,9 +145,11 @@ is_use u it = record { iv = it.iv; text = (let f = it.fits in omega arith) }
 pub no_input_twice : Promises → NoInputTwice
 no_input_twice promises a b events it key =
     inputs_of_uses_differ (sealed_under key a b events) (ivs_apart_in_run promises key a b _ it)
-    (All-weaker (IsCarried 9248) IsUse is_use (sealed_under key a b events) (carried_under promises key a b events it.sound 9248 (frames_fit a b events it.sound)))
+    (All-weaker (IsCarried 9248) IsUse is_use (sealed_under key a b events)
+    (carried_under promises key a b events it.sound 9248 (frames_fit a b events it.sound)))
 
 pub number_of_inputs_in_runs : Promises → NumberOfInputs
 number_of_inputs_in_runs promises a b events sounds m key fits =
     number_of_inputs m (sealed_under key a b events)
-    (All-weaker (IsCarried (16 * m)) (λ u. length u.ciphertext ≤ 16 * m) (λ u it. it.fits) (sealed_under key a b events) (carried_under promises key a b events sounds _ fits))
+    (All-weaker (IsCarried (16 * m)) (λ u. length u.ciphertext ≤ 16 * m) (λ u it. it.fits) (sealed_under key a b events)
+    (carried_under promises key a b events sounds _ fits))

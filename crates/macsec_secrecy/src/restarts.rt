@@ -2,6 +2,7 @@
 
 ghost use Rattle.macsec_secrecy.specs.Restarts.{AreHistories, AreHistoriesOfCrashes, LinkSaysNothing, LinkSaysNothingForgetting};
 ghost use Rattle.macsec_secrecy.specs.Restarts.{NoInputTwice, NoInputTwiceForgetting};
+ghost use Rattle.macsec_secrecy.specs.Under.{SealedForgettingUnderHasAll, SealedUnderHasAllRuns};
 
 use macsec_reserve::laws::{repeats_no_iv_at_both, repeats_no_iv_forgetting};
 
@@ -28,3 +29,9 @@ pub fn link_says_nothing()
     repeats_no_iv_at_both();
     repeats_no_iv_forgetting();
 }
+
+/// What counts as sealed under a key is each use of the cipher that was sealed with its bytes in any run, and no other.
+pub fn sealed_under_has_all()
+    ensures of_two { SealedUnderHasAllRuns }
+    ensures forgetting { SealedForgettingUnderHasAll }
+{}

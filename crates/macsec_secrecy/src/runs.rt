@@ -1,6 +1,7 @@
 //! Each law is about definitions only: the contract of a function that does nothing.
 
 ghost use Rattle.macsec_secrecy.specs.Runs.{FramesAreAlike, LinkFramesShow, LinkSaysNothing, NoInputTwice, NumberOfInputs};
+ghost use Rattle.macsec_secrecy.specs.Under.{SealedUnderHasAll};
 
 use macsec_link::laws::promises;
 
@@ -27,3 +28,8 @@ pub fn link_says_nothing()
     // The proof cites this law.
     promises();
 }
+
+/// What counts as sealed under a key is each use of the cipher that an end has sealed with its bytes, and no other.
+pub fn sealed_under_has_all()
+    ensures { SealedUnderHasAll }
+{}

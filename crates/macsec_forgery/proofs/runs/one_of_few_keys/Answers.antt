@@ -1,4 +1,4 @@
-use Rattle.macsec_forgery.proofs.Counted.{one_of_few_keys}
+use Rattle.macsec_forgery.proofs.InRuns.{one_of_few_keys}
 use Rattle.macsec_forgery.proofs.runs.one_of_few_keys.Goals as goal
 
 pub returns : goal.returns
