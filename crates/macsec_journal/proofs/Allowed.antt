@@ -3,8 +3,8 @@ use Rattle.{
   std.proofs.{
     Common.{◌≡◌, ℕ, ◌≤◌, Bool, true, false, if◌then◌else◌, ◌&&◌, List, [], ◌∷◌, ◌++◌, map, drop, length, max, Option},
     Common.{None, Some, refl},
-    Common.{ap, subst, ◌∙◌, arith, append-nil},
-    lemmas.{List.drop_all, Slice.Eq.bytes_eq-Decides},
+    Common.{ap, subst, sym, ◌∙◌, arith, append-nil, All},
+    lemmas.{List.drop_all, List.Elements.{All-head, All-tail}, Slice.Eq.bytes_eq-Decides},
   },
   macsec_gcm.specs.Octets.same_octets,
   macsec_suite.specs.KeyRows.InstalledKey,
@@ -26,7 +26,7 @@ use Rattle.{
   },
   macsec_ahead.specs.Ahead.{Ahead, Standing, ahead_by, before_this_run, begins_again, entry_for, for_each_row, not_yet},
   macsec_ahead.specs.Ahead.{passes, standing},
-  macsec_journal.specs.Laws.{library_after, library_step},
+  macsec_journal.specs.World.{library_after, library_step},
 }
 
 -- ---- an endpoint that forgets keys
@@ -179,3 +179,45 @@ library_reported (endpoint_input input ∷ inputs) a name =
     let later = library_reported inputs (library_step a (endpoint_input input)) name in
     let now = library_within a input name in
     record { sends = omega (arith, later.sends, now.sends); accepts = omega (arith, later.accepts, now.accepts) }
+
+-- ---- one input more
+
+library-append : (inputs : List KeepingInput) (input : KeepingInput) (a : Ahead) →
+    library_after a (inputs ++ input ∷ []) ≡ library_step (library_after a inputs) input
+library-append [] input a = refl
+library-append (first ∷ inputs) input a = library-append inputs input (library_step a first)
+
+-- what may be accepted then is what could be accepted before, and what the input reports
+pub accepts_more : (inputs : List KeepingInput) (input : KeepingInput) (a : Ahead) (name : List ℕ) →
+    highest (library_after a (inputs ++ input ∷ [])).taken name ≤ max (highest (library_after a inputs).taken name)
+    (highest (reported_in (input ∷ [])) name)
+accepts_more inputs input a name =
+    subst (λ (after : Ahead). highest after.taken name ≤ max (highest (library_after a inputs).taken name)
+    (highest (reported_in (input ∷ [])) name)) (sym (library-append inputs input a))
+    (library_reported (input ∷ []) (library_after a inputs) name).accepts
+
+-- ---- a receive SA that was deleted
+
+raised_has_not : (r e : Reservation) (name : List ℕ) → same_octets e.name name ≡ false →
+    same_octets (raised_by r e).name name ≡ false
+raised_has_not r e name other = by_own (same_octets e.name r.name)
+  where
+    by_own : (b : Bool) → same_octets (if b then record e { last = max e.last r.last } else e).name name ≡ false
+    by_own true = other
+    by_own false = other
+
+one_more_other : (r : Reservation) (rest : List Reservation) (name : List ℕ) → same_octets r.name name ≡ false → highest
+    rest name ≡ 0 → highest (r ∷ rest) name ≡ 0
+one_more_other r rest name other none = ap (λ (b : Bool). if b then max r.last (highest rest name) else highest rest
+    name) other ∙ none
+
+pub none_left : (k : Keeping) (taken : List Reservation) (r : Reservation) (rows : List RxRow) (name : List ℕ) → All
+    (λ (row : RxRow). same_octets (row_name k.salt k.secy row) name ≡ false) rows →
+    highest (map (raised_by r) (map (entry_for k taken) rows)) name ≡ 0
+none_left k taken r [] name others = refl
+none_left k taken r (row ∷ rows) name others =
+    one_more_other (raised_by r (entry_for k taken row)) (map (raised_by r) (map (entry_for k taken) rows)) name
+    (raised_has_not r (entry_for k taken row) name
+    (All-head (λ (x : RxRow). same_octets (row_name k.salt k.secy x) name ≡ false) row rows others))
+    (none_left k taken r rows name
+    (All-tail (λ (x : RxRow). same_octets (row_name k.salt k.secy x) name ≡ false) row rows others))

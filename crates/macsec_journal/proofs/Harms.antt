@@ -1,14 +1,16 @@
 -- What the disk can do.
 use Rattle.std.proofs.{
-  Common.{◌≡◌, ℕ, ◌%◌, Bool, false, ◌||◌, if◌then◌else◌, List, [], ◌∷◌, ◌++◌, length, nat_le, refl, ap, sym, subst},
-  Common.{◌∙◌, arith, append_assoc, All},
-  lemmas.{Bool.lt-leb, List.Elements.{All-nil, All-weaker}},
+  Common.{◌≡◌, ℕ, ◌%◌, ◌≤◌, Bool, true, false, ◌||◌, if◌then◌else◌, List, [], ◌∷◌, ◌++◌, length, nat_le, refl, ap, sym},
+  Common.{◌∙◌, arith, append_assoc, All, inl, inr, subst, Option, None, Some},
+  lemmas.{Bool.lt-leb, List.Elements.{All-cons, All-nil, All-weaker}},
 }
+use Rattle.macsec_reserve.specs.Journal.{header}
 use Rattle.macsec_journal.specs.{
   Damage.IsDamaged,
-  Disk.{Piece, Stands, end_of, is_apart, sector_ceiling, sector_floor},
+  Disk.{Piece, Stands, end_of, folder_left, is_apart, sector_ceiling, sector_floor},
   Harms.{CanHarm, ShareSector, at_call},
-  Machine.appended,
+  Machine.{appended, whole},
+  World.{Process, World, ends, happens_by},
   declared.step.Step.TheVariants.Appending,
 }
 
@@ -35,9 +37,9 @@ more_follows octets more p it = record {
   at = it.at;
 }
 
-sector_damaged : (before was now behind : List ℕ) → length before % 4096 ≡ 0 → length was ≡ 4096 → length now ≡ 4096 →
-    IsDamaged (before ++ was ++ behind) (before ++ now ++ behind)
-sector_damaged before was now behind sector was_long now_long = record {
+sector_damaged : (before was now behind : List ℕ) → length before % 4096 ≡ 0 → length was ≤ 4096 → length now % 64 ≡
+    length was % 64 → IsDamaged (before ++ was ++ behind) (before ++ now ++ behind)
+sector_damaged before was now behind sector within records = record {
   before = before;
   was = was;
   now = now;
@@ -45,9 +47,13 @@ sector_damaged before was now behind sector was_long now_long = record {
   is = refl;
   becomes = refl;
   sector = sector;
-  within = omega (arith, was_long);
-  records = omega (arith, was_long, now_long);
+  within = within;
+  records = records;
 }
+
+crash_leaves : (now : Option Process) (w : World) (n : ℕ) → (happens_by w now (ends n)).folder ≡ folder_left n w.folder
+crash_leaves None w n = refl
+crash_leaves (Some p) w n = refl
 
 pub can_harm : CanHarm
 can_harm = record {
@@ -61,5 +67,28 @@ can_harm = record {
   leads_back = λ j f. refl;
   leads_back_later = λ j f. refl;
   renames = λ j f. (1, omega arith, refl);
+  tears_new = λ j f p. dropped (whole j) p;
+  forgets_new = λ j f. any_left;
+  ends_new = λ j f n. any_left;
+  crashes = λ w n within. (within, crash_leaves w.now w n);
+  is_earlier = λ salt more. All-cons (Stands (header salt ++ more)) (record { at = 0; octets = header salt }) []
+      (record { before = []; behind = more; is = refl; at = refl }) (any_left (header salt ++ more));
   damages = sector_damaged;
+  finds = λ w limit config left damaged is harm header count entries readable small fit. (
+    inr (record {
+      whole = left;
+      left = is;
+      damaged = harm;
+      no_chance = record { header = λ so. header; count = inr count; entries = λ so. entries };
+      is = readable;
+    }),
+    small,
+    fit,
+  );
+  shows = λ octets damaged header count entries.
+      record {
+        header = λ so. let contrary : true ≡ false = sym so ∙ header in absurd cc;
+        count = inl count;
+        entries = λ so. absurd (entries so);
+      };
 }

@@ -18,8 +18,8 @@ use Rattle.macsec_journal.proofs.{
 use Rattle.macsec_journal.specs.{
   Disk.{IsLeft, Piece, Stands, apart_from, is_apart},
   Format.{file_of, fits, read_in, twice},
-  History.{CanHappenSo, WithFailure, WithoutFailure, both_written, calls_before, lost_and_ordered_again, one_run},
-  History.{ordered_again, then_on},
+  History.{CanHappenSo, WithFailure, WithoutFailure, both_written, calls_before, five_runs, lost_and_ordered_again},
+  History.{one_run, opened_and_let_go, ordered_again, then_on},
   History.three_runs,
   Machine.{begun, for_endpoint, is_full, with_order, without},
   World.{Begun, Event, Happen, Process, World, after_all, answers, beginning, begins, counted, created, ends, lets_go},
@@ -91,6 +91,37 @@ fails h =
       leads = again.leads;
     })
 
+-- ---- a name that is let go before a run begins
+
+begins_so : (h : WithFailure) (w : World) (rest : List Event) (P : World → Type 0) → IsLeft w.folder.named h.octets →
+    Leads (record w { now = Some (opened_by h.limit h.config h.octets w.gone) }) rest P →
+    Leads (record w { now = None }) (begins h.limit h.config h.octets ∷ rest) P
+begins_so h w rest P left so = record { can = ((inl left, h.small, h.read), so.can); leads = so.leads }
+
+-- the worlds in which the second process begins, and the third one
+abbrev killed : WithFailure → World
+killed h = after_all (ordered_in (created h.form h.salt) h) (opens h.config ∷ ends 0 ∷ [])
+
+abbrev killed_again : WithFailure → List ℕ → World
+killed_again h name =
+    after_all (killed h) (begins h.limit h.config h.octets ∷ lets_go name ∷ opens h.config ∷ ends 0 ∷ [])
+
+let_go_so : (h : WithFailure) (name : List ℕ) → Leads (created h.form h.salt) (opened_and_let_go h name)
+    (Ended [] (name ∷ []) (five_runs h name))
+let_go_so h name =
+    let P : World → Type 0 = Ended [] (name ∷ []) (five_runs h name) in
+    let third = begins_so h (killed_again h name) (ends 0 ∷ []) P h.left
+    (record { can = (omega arith, tt); leads = (refl, refl, refl) }) in
+    let second = begins_so h (killed h) (lets_go name ∷ opens h.config ∷ ends 0 ∷ begins h.limit h.config h.octets ∷
+    ends 0 ∷ []) P h.left
+    (record { can = (refl, (tt, (omega arith, third.can))); leads = third.leads }) in
+    let rest : List Event = opens h.config ∷ ends 0 ∷ begins h.limit h.config h.octets ∷ lets_go name ∷ opens h.config ∷
+    ends 0 ∷ begins h.limit h.config h.octets ∷ ends 0 ∷ [] in
+    let w : World = created h.form h.salt in
+    begins_so h w (orders h.rs true ∷ rest) P h.left
+    (order_leads w (opened_by h.limit h.config h.octets w.gone) h.rs true rest P refl h.are h.more
+    (record { can = (tt, (omega arith, second.can)); leads = second.leads }))
+
 -- ---- no failure
 
 -- a world in which a process has begun, by the salt and the reservations that it read
@@ -110,6 +141,7 @@ begun_in h own read = record (created counted h.salt) {
     };
     asked = read;
     lost = [];
+    lost_in_use = [];
     begun = beginning h.config (for_endpoint (begun 65536 (file_of h.salt []))) [];
   });
 }
@@ -158,12 +190,12 @@ appends_so h =
     (All-cons (Stands octets) more [] second (All-nil (Stands octets))) in
     let w : World = replaced_in h in
     let p : Process = the_process h w.now in
-    let so = order_leads w p (h.second ∷ []) false (calls_before (reports h.second ∷ takes h.input ∷ lets_go h.name ∷
-    ends 0 ∷ []) 3) (OneRun h) refl
+    let so = order_leads w p (h.second ∷ []) false (calls_before (reports h.second ∷ reports h.first ∷ takes h.input ∷
+    lets_go h.name ∷ ends 0 ∷ []) 3) (OneRun h) refl
     (alone h.second h.is_second)
     (ap (λ (b : Bool). not (fits 65536 (1 + length (if not (b || false) then h.second ∷ [] else [])))) h.differ)
     (record {
-      can = (tt, (tt, (tt, ((1, omega arith, refl), (tt, (refl, (omega arith, tt)))))));
+      can = (tt, (tt, (tt, ((1, omega arith, refl), ((0, omega arith, refl), (tt, (refl, (omega arith, tt))))))));
       leads =
           ((refl, refl, refl), left);
     }) in
@@ -206,5 +238,8 @@ can_happen_so = record {
         gone = so.leads.0.1;
         past = so.leads.0.2;
       };
+  lets_go = λ h name.
+      let so = let_go_so h name in
+      record { can = so.can; told = so.leads.0; gone = so.leads.1; past = so.leads.2 };
   leaves = λ h. (appends h).leads.1;
 }

@@ -106,3 +106,14 @@ all_have table (r ∷ rs) entries have more =
 pub names_fit : (table rs : List Reservation) → All (HasName table) rs → length (reduced rs) ≤ length table
 names_fit table rs have = apart_fit (reduced rs) table (reduces rs).once
     (all_have table rs [] (All-nil (HasName table)) have)
+
+-- ---- a name that is let go
+
+pub left_out : (table : List Reservation) (name : List ℕ) → has_entry (without name table) name ≡ false
+left_out [] name = refl
+left_out (r ∷ rs) name = by_own (same_octets r.name name) refl (left_out rs name)
+  where
+    by_own : (b : Bool) → same_octets r.name name ≡ b → has_entry (without name rs) name ≡ false →
+        has_entry (if not b then r ∷ without name rs else without name rs) name ≡ false
+    by_own true is later = later
+    by_own false is later = ap (λ (b : Bool). b || has_entry (without name rs) name) is ∙ later

@@ -1,7 +1,7 @@
 -- Orders are carried out.
 use Rattle.std.proofs.{
-  Common.{◌≡◌, Bool, false, true, ◌||◌, if◌then◌else◌, List, refl, sym, subst},
-  lemmas.Bool.or_parts,
+  Common.{◌≡◌, ◌+◌, ◌/◌, ◌^◌, arith, Bool, false, true, ◌||◌, if◌then◌else◌, List, lt-ltb, nat_lt, refl, sym, subst},
+  lemmas.Bool.{and_from, or_parts},
 }
 use Rattle.macsec_reserve.specs.{Entries.with_all, declared.reservation.Reservation.Reservation}
 use Rattle.macsec_journal.specs.{
@@ -32,4 +32,8 @@ carries_out = record {
         trusts = (or_parts j.doubt (anew || ends_behind_limit rs j)
             is).0;
       });
+  fits = λ limit count short few.
+      and_from (nat_lt (count + 1) (limit / 64)) (nat_lt count (2 ^ 64))
+      (lt-ltb (count + 1) (limit / 64) (omega (arith, short)))
+      (lt-ltb count (2 ^ 64) few);
 }

@@ -81,6 +81,10 @@ counted_by (count ∷ more) octets = entries_in count.last octets
 abbrev pub counted_octets : List ℕ → List ℕ
 counted_octets octets = counted_by (reserved_in (slot_of_count octets)) octets
 
+-- where these entries end
+abbrev pub counted_end : List ℕ → ℕ
+counted_end octets = front_length + length (counted_octets octets)
+
 -- the octets have so many entries, with this digest
 abbrev pub agrees : List Reservation → List ℕ → Bool
 agrees [] octets = false

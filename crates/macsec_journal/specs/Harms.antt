@@ -1,11 +1,19 @@
 -- What this disk can do. Disks, kernels and file systems do these, so a model that leaves one out proves too much.
-use Rattle.std.specs.Prelude.{◌≡◌, ◌<◌, ◌≤◌, ◌/◌, ◌%◌, ℕ, List, [], ◌∷◌, ◌++◌, length, true, false, Contains}
+use Rattle.std.specs.Prelude.{◌≡◌, ◌≢◌, ◌<◌, ◌≤◌, ◌/◌, ◌%◌, ℕ, List, [], ◌∷◌, ◌++◌, length, take, true, false, Contains}
+use Rattle.std.specs.List.{All}
+use Rattle.macsec_commands.specs.declared.config.EndConfig.{EndConfig}
+use Rattle.macsec_reserve.specs.Entries.{reduced}
+use Rattle.macsec_reserve.specs.Journal.{header, reserved_in, salt_of}
 use Rattle.macsec_journal.specs.declared.step.Step.{Step}
-use Rattle.macsec_journal.specs.declared.step.Step.TheVariants.{Appending, Syncing, Renaming, SyncingFolder}
-use Rattle.macsec_journal.specs.Damage.{IsDamaged}
+use Rattle.macsec_journal.specs.declared.step.Step.TheVariants.{Appending, Syncing, Filling, SyncingNew, Renaming}
+use Rattle.macsec_journal.specs.declared.step.Step.TheVariants.{SyncingFolder}
+use Rattle.macsec_journal.specs.Damage.{IsDamaged, IsNoChance}
 use Rattle.macsec_journal.specs.Disk.{File, Folder, IsLeft, Piece, candidates, empty_file, end_of, folder_left}
 use Rattle.macsec_journal.specs.Disk.{given_up}
-use Rattle.macsec_journal.specs.Machine.{Journal, appended, call_after}
+use Rattle.macsec_journal.specs.Format.{counted_octets, entries_digest, fits, has_header, is_readable, read_in}
+use Rattle.macsec_journal.specs.Format.{slot_of_count}
+use Rattle.macsec_journal.specs.Machine.{Journal, appended, call_after, whole}
+use Rattle.macsec_journal.specs.World.{CanHappen, Event, World, begins, created, earlier, ends, happens}
 
 -- a file that has this piece on the disk, and nothing else
 abbrev pub with_piece : Piece → Folder → Folder
@@ -13,6 +21,10 @@ with_piece p f = record f { named = record { firm = p ∷ []; fresh = [] } }
 
 abbrev pub with_empty_file : Folder → Folder
 with_empty_file f = record f { named = empty_file }
+
+-- the same for the new file beside it
+abbrev pub with_new : List Piece → Folder → Folder
+with_new ps f = record f { new = record { firm = ps; fresh = [] } }
 
 -- an octet of one piece is in the same sector as an octet of the other piece. A sector has 4,096 octets
 pub record ShareSector (p q : Piece) : Type 0 where
@@ -29,6 +41,10 @@ at_call s j = record j { step = s }
 -- a file that can be left with any octets
 abbrev pub IsLost : File → Type 0
 IsLost f = (octets : List ℕ) → IsLeft f octets
+
+-- the crash after which the name leads to this candidate
+abbrev pub crash_to : ℕ → Event
+crash_to n = ends n
 
 pub record CanHarm : Type 0 where
   -- a write that fails can damage each piece of which it touches a sector, and so can one that succeeds, until it is
@@ -62,6 +78,31 @@ pub record CanHarm : Type 0 where
       (call_after true (at_call Renaming j) f)))).named ≡ given_up f.named
   -- a rename that returned an error was done
   pub renames : (j : Journal) (f : Folder) → Contains (candidates (call_after false (at_call Renaming j) f)) f.new
-  -- all octets of one sector are others when a process reads them
-  pub damages : (before was now behind : List ℕ) → length before % 4096 ≡ 0 → length was ≡ 4096 → length now ≡ 4096 →
-      IsDamaged (before ++ was ++ behind) (before ++ now ++ behind)
+  -- so is the new file, by a write or a synchronization that fails, or by the end of its process: a later
+  -- synchronization does not save it
+  pub tears_new : (j : Journal) (f : Folder) (p : Piece) → ShareSector (whole j) p → IsLost
+      (call_after false (at_call Filling j) (with_new (p ∷ []) f)).new
+  pub forgets_new : (j : Journal) (f : Folder) →
+      IsLost (call_after true (at_call SyncingNew j) (call_after false (at_call SyncingNew j)
+      (call_after true (at_call Filling j) (with_new [] f)))).new
+  pub ends_new : (j : Journal) (f : Folder) (n : ℕ) →
+      IsLost (call_after true (at_call SyncingNew j) (folder_left n (call_after true (at_call Filling j)
+      (with_new [] f)))).new
+  -- a crash leads the name to any of its files, with a process and without one
+  pub crashes : (w : World) (n : ℕ) → n < length (candidates w.folder) → CanHappen w (crash_to n) ×
+      ((happens w (crash_to n)).folder ≡ folder_left n w.folder)
+  -- a journal of the earlier form is in its place, and any octets follow its header
+  pub is_earlier : (salt more : List ℕ) → IsLeft (created earlier salt).folder.named (header salt ++ more)
+  -- all octets of a sector, which may be the last one of the file and not full, are others when a process reads them,
+  -- or records of it are missing or there twice
+  pub damages : (before was now behind : List ℕ) → length before % 4096 ≡ 0 → length was ≤ 4096 →
+      length now % 64 ≡ length was % 64 → IsDamaged (before ++ was ++ behind) (before ++ now ++ behind)
+  -- a process begins with them, if they have the same header, count and entries
+  pub finds : (w : World) (limit : ℕ) (config : EndConfig) (left damaged : List ℕ) → IsLeft w.folder.named left →
+      IsDamaged left damaged → take 64 damaged ≡ take 64 left → slot_of_count damaged ≡ slot_of_count left →
+      counted_octets damaged ≡ counted_octets left → is_readable damaged ≡ true → All (λ x. x < 256) damaged →
+      fits limit (length (reduced (read_in damaged))) ≡ true → CanHappen w (begins limit config damaged)
+  -- a damaged header that is none, a damaged count that is no record, and entries with another digest are no chance
+  pub shows : (octets damaged : List ℕ) → has_header damaged ≡ false → reserved_in (slot_of_count damaged) ≡ [] →
+      entries_digest (salt_of octets) (counted_octets damaged) ≢ entries_digest (salt_of octets) (counted_octets octets)
+      → IsNoChance octets damaged

@@ -1,5 +1,5 @@
--- Two histories that can happen, and what is left of them. So a world keeps what happens in it, and the laws are not
--- about nothing.
+-- Histories that can happen, and what is left of them. So a world keeps what happens in it, and the laws are not about
+-- nothing.
 use Rattle.std.specs.Prelude.{◌≡◌, ◌<◌, ℕ, zero, suc, List, [], ◌∷◌, ◌++◌, length, replicate, true, false}
 use Rattle.std.specs.List.{All}
 use Rattle.macsec_gcm.specs.Octets.{same_octets}
@@ -11,7 +11,7 @@ use Rattle.macsec_reserve.specs.Entries.{reduced, with_all}
 use Rattle.macsec_reserve.specs.Keeping.{endpoint_input, now_durable}
 use Rattle.macsec_journal.specs.Disk.{IsLeft}
 use Rattle.macsec_journal.specs.Format.{file_of, fits, read_in, twice}
-use Rattle.macsec_journal.specs.Machine.{begun, for_endpoint, is_full, replacing, without}
+use Rattle.macsec_journal.specs.Machine.{begun, for_endpoint, is_full, letting_go, replacing, without}
 use Rattle.macsec_journal.specs.World.{Begun, Event, Form, Happen, World, after_all, answers, beginning, begins}
 use Rattle.macsec_journal.specs.World.{counted, created, ends, lets_go, opens, orders, reports, takes}
 
@@ -77,13 +77,13 @@ pub record WithoutFailure : Type 0 where
   pub is_second : IsReservation second
   pub differ : same_octets first.name second.name ≡ false
 
--- it orders the first record: the file is replaced. It orders the second record, which is appended, and reports it to
+-- it orders the first record: the file is replaced. It orders the second record, which is appended, and reports both to
 -- its endpoint. The endpoint gets an input. The process lets the name go, and is killed
 abbrev pub then_on : WithoutFailure → List Event
 then_on h =
     orders (h.first ∷ []) false
-    ∷ calls_before (orders (h.second ∷ []) false ∷ calls_before (reports h.second ∷ takes h.input ∷ lets_go h.name ∷
-    ends 0 ∷ []) 3) 8
+    ∷ calls_before (orders (h.second ∷ []) false ∷ calls_before (reports h.second ∷ reports h.first ∷ takes h.input ∷
+    lets_go h.name ∷ ends 0 ∷ []) 3) 8
 
 abbrev pub appended_and_let_go : WithoutFailure → List Event
 appended_and_let_go h = begins 65536 h.config (file_of h.salt []) ∷ then_on h
@@ -94,7 +94,7 @@ one_run h =
       run = record {
         journal = for_endpoint (begun 65536 (file_of h.salt []));
         config = h.config;
-        inputs = now_durable h.second ∷ endpoint_input h.input ∷ [];
+        inputs = now_durable h.second ∷ now_durable h.first ∷ endpoint_input h.input ∷ [];
       };
       gone = [];
     }
@@ -103,12 +103,32 @@ one_run h =
 abbrev pub both_written : WithoutFailure → List ℕ
 both_written h = file_of h.salt (h.first ∷ []) ++ replicate 3904 0 ++ twice (h.second ∷ [])
 
--- both can happen. After the second one the file can have the octets that were written, and nothing else
+-- ---- a name that is let go before a run begins
+
+-- the process opens a further endpoint in the middle of an order, and is killed. The next one lets a name go and opens
+-- a further endpoint. The third one begins after that
+abbrev pub opened_and_let_go : WithFailure → List ℕ → List Event
+opened_and_let_go h name =
+    begins h.limit h.config h.octets ∷ orders h.rs true ∷ opens h.config ∷ ends 0 ∷ begins h.limit h.config h.octets ∷
+    lets_go name ∷ opens h.config ∷ ends 0 ∷ begins h.limit h.config h.octets ∷ ends 0 ∷ []
+
+-- the runs that began after the name was let go have it
+abbrev pub five_runs : WithFailure → List ℕ → List Begun
+five_runs h name =
+    let first = begun h.limit h.octets in
+    beginning h.config (for_endpoint first) [] ∷ beginning h.config (for_endpoint (replacing h.rs first)) [] ∷
+    beginning h.config (for_endpoint first) [] ∷
+    beginning h.config (for_endpoint (letting_go name first)) (name ∷ []) ∷
+    beginning h.config (for_endpoint first) (name ∷ []) ∷ []
+
+-- all can happen. After the second one the file can have the octets that were written, and nothing else
 pub record CanHappenSo : Type 0 where
   pub fails : (h : WithFailure) → EndsWith (created h.form h.salt) (lost_and_ordered_again h)
       (with_all (reduced (read_in h.octets)) h.rs) [] (three_runs h)
   pub appends : (h : WithoutFailure) →
       EndsWith (created counted h.salt) (appended_and_let_go h) (without h.name (h.first ∷ h.second ∷ [])) (h.name ∷ [])
       (one_run h)
+  pub lets_go : (h : WithFailure) (name : List ℕ) →
+      EndsWith (created h.form h.salt) (opened_and_let_go h name) [] (name ∷ []) (five_runs h name)
   pub leaves : (h : WithoutFailure) → IsLeft (after_all (created counted h.salt) (appended_and_let_go h)).folder.named
       (both_written h)

@@ -16,3 +16,4 @@ mod KeptOrder
 mod ForgettingEnds
 mod Forgetting
 mod RunsWith
+mod OnDisk

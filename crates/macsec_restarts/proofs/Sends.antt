@@ -265,7 +265,7 @@ leased_now k keeps _ _ (is_new frame row fits sent go) =
       within = leb-true row.next (highest k.granted name) tests.1;
     }
 
-abbrev most_of : Keeping → Inputs → List ℕ → ℕ
+abbrev pub most_of : Keeping → Inputs → List ℕ → ℕ
 most_of k inputs name = max (highest k.granted name) (highest (reported_in inputs) name)
 
 most_step : (k : Keeping) (input : KeepingInput) (inputs : Inputs) (name : List ℕ) →

@@ -14,3 +14,4 @@ pub mod Used
 pub mod Kept
 pub mod ForgettingEnds
 pub mod StrictLists
+pub mod OnDisk

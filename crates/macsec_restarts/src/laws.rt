@@ -9,6 +9,7 @@ ghost use Rattle.macsec_secy.specs.Step.{Input};
 ghost use Rattle.macsec_reserve.specs.declared.reservation.Reservation.{Reservation};
 ghost use Rattle.macsec_reserve.specs.Keeping.{Keeping, KeepingInput};
 ghost use Rattle.macsec_reserve.specs.Histories.{Run};
+ghost use Rattle.macsec_journal.specs.World.{Event, Form};
 ghost use Rattle.macsec_restarts.specs.Acceptance.{AcceptsInTime};
 ghost use Rattle.macsec_rx.specs.declared.within.RxPn.{RxPn};
 ghost use Rattle.macsec_ahead.specs.Ahead.{Ahead};
@@ -19,6 +20,7 @@ ghost use Rattle.macsec_restarts.specs.AheadSteps.{AsksWhereDropped, IsAsBefore,
 ghost use Rattle.macsec_restarts.specs.Delivered.{DeliversEachListed, DeliversFromSas};
 ghost use Rattle.macsec_restarts.specs.ForgettingOrder.{ComesInOrderOnceForgetting};
 ghost use Rattle.macsec_restarts.specs.Happenings.{Happening};
+ghost use Rattle.macsec_restarts.specs.OnDisk.{RisesOnDisk};
 ghost use Rattle.macsec_restarts.specs.Order.{ComesInOrderOnce};
 ghost use Rattle.macsec_restarts.specs.Origin.{AlwaysComesFromOther, ComesFromOther};
 ghost use Rattle.macsec_restarts.specs.Sent.{ListsEachUse, NumbersRise, SealsEachFrame};
@@ -27,6 +29,7 @@ ghost use Rattle.macsec_restarts.specs.Kept.{ComesInOrderIfKept, ComesInOrderIfR
 ghost use Rattle.macsec_restarts.specs.StrictLists.{DeliversEachListedForgetting, DeliversFromSasForgetting, DeliversFromSasWith};
 ghost use Rattle.macsec_restarts.specs.Used.{AcceptsAboveIfKept, ComesFromOtherAtAll, ComesFromOtherForgetting, IsWeaker, IsWeakerToAccept, NoIvAtBothForgetting, NumbersRiseForgetting, RisesIfUsedIsKept, NoIvIfUsedIsKept, NoIvIfUsedIsKeptForgetting};
 
+use macsec_journal::laws::keeps_history;
 use macsec_reserve::laws::{delivers_above, forgets_alike, repeats_no_iv_at_both, saves_accepted};
 use macsec_secy::laws::{accepts_sent, delivers_in_time, keys_stay, protects_frames, rx_rows_stay};
 use macsec_suite::laws::equal_ivs;
@@ -348,3 +351,14 @@ pub fn lists_each_delivery_forgetting()
     ensures strict { (a : Ahead) (input : KeepingInput) → DeliversFromSasForgetting a input }
     ensures strict_ahead { (a : Ahead) (input : KeepingInput) → DeliversFromSasWith a input }
 {}
+
+/// Over a journal on a disk that fails (`macsec_journal`), a later run sends under a key, and accepts from a receive SA,
+/// only higher packet numbers than an earlier run did, if the name of the key or of the SA was not let go between them.
+/// No other name matters. The sender is the `Keeper`, which forgets no key; the receiver forgets retired keys, and both
+/// runs reserve ahead of receiving.
+pub fn rises_on_disk()
+    ensures { (form : Form) (salt : List ℕ) (events : List Event) → RisesOnDisk form salt events }
+{
+    // The law that the proof cites; the call does nothing.
+    keeps_history();
+}

@@ -30,6 +30,9 @@
 //! - `comes_in_order_if_kept`: order and once of endpoints that forget keys, where each run has the option or not.
 //! - `never_delivers_again_with`: what was saved is not delivered again.
 //!
+//! Proved over the journal of `macsec_journal`, on a disk that fails: `rises_on_disk`, what a later run sends and accepts
+//! has higher packet numbers, whatever other names were let go.
+//!
 //! Proved of each step of endpoints that forget keys: `lists_each_delivery_forgetting`, `begins_above_its_end_forgetting`.
 //!
 //! `proofs/Examples/` has runs that meet all premises, with the lists of what was sent and delivered. For each premise of

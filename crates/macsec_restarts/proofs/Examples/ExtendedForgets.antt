@@ -39,7 +39,7 @@ use Rattle.macsec_rx.specs.Rows.{IsRxRow}
 use Rattle.macsec_secy.proofs.StaysSound.{after_effect}
 
 abbrev a_of : Keeping → Ahead
-a_of k = record { k = k; ahead = false; taken = []; ended = no_ends }
+a_of k = record { k = k; ahead = false; taken = []; ended = no_ends; renews = false }
 
 record DoesWith (a : Ahead) (inputs : Inputs) (xs : List SentIn) (ds : List Delivery)
     (last : Ahead) : Type 0 where

@@ -51,7 +51,7 @@ k_at again granted s = kept (salt false) (reads (before_b again)) granted s
 
 abbrev a_at : Bool → List Reservation → List Reservation → List EndedSa → State → Ahead
 a_at again granted taken ended s =
-    record { k = k_at again granted s; ahead = true; taken = taken; ended = record no_ends { entries = ended } }
+    record { k = k_at again granted s; ahead = true; taken = taken; ended = record no_ends { entries = ended }; renews = false }
 
 free : (again : Bool) → highest (reads (before_b again)) name < receiver.lowest_of again
 free false = is_free [] name 1 none_is (omega arith)
