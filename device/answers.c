@@ -48,6 +48,8 @@ static const char *const device_names[COUNT_OF_COUNTS] = {
     "LinkFloods",
     "LinkNoReservation",
     "LinkEarlierRun",
+    "RequestsDelayed",
+    "LinkOver",
 };
 /* end */
 
@@ -255,16 +257,19 @@ static void metric_name(const char *name, char metric[METRIC]) {
     metric[length] = '\0';
 }
 
-static void add_type(struct text *t, const char *prefix, const char *metric) {
+/* What a counter counts is in the manual page, under its own name. */
+static void add_head(struct text *t, const char *prefix, const char *metric, const char *name, const char *of) {
+    text_add(t, "# HELP macsec_%s%s_total %s of the %s\n", prefix, metric, name, of);
     text_add(t, "# TYPE macsec_%s%s_total counter\n", prefix, metric);
 }
 
-static void add_plain_metrics(struct text *t, const char *device, const char *prefix, const char *const *names,
+static void add_plain_metrics(struct text *t, const char *device, bool of_device, const char *const *names,
                               const uint64_t *values, int count) {
+    const char *prefix = of_device ? "device_" : "";
     for (int i = 0; i < count; i++) {
         char metric[METRIC];
         metric_name(names[i], metric);
-        add_type(t, prefix, metric);
+        add_head(t, prefix, metric, names[i], of_device ? "device: macsecctl(8)" : "endpoint: macsec(5)");
         text_add(t, "macsec_%s%s_total{device=\"%s\"} %" PRIu64 "\n", prefix, metric, device, values[i]);
     }
 }
@@ -274,7 +279,8 @@ static void add_rx_metrics(struct text *t, const struct device *d, int counter, 
     uint64_t values[RX];
     uint8_t sci[8];
     metric_name(rx_names[counter], metric);
-    add_type(t, of_sas ? "sa_" : "", metric);
+    add_head(t, of_sas ? "sa_" : "", metric, rx_names[counter],
+             of_sas ? "receive association: macsec(5)" : "receive channel: macsec(5)");
     for (size_t place = 0; macsec_get_rx_sc(d->endpoint, place, sci) == MACSEC_OK; place++) {
         sci_text(sci, name);
         if (!of_sas && totals_rx(d, sci, -1, values) == MACSEC_OK)
@@ -287,36 +293,53 @@ static void add_rx_metrics(struct text *t, const struct device *d, int counter, 
     }
 }
 
-static void add_gauge(struct text *t, const char *device, const char *name, size_t value) {
-    text_add(t, "# TYPE macsec_%s gauge\nmacsec_%s{device=\"%s\"} %zu\n", name, name, device, value);
+static void add_gauge_head(struct text *t, const char *name, const char *help) {
+    text_add(t, "# HELP macsec_%s %s\n# TYPE macsec_%s gauge\n", name, help, name);
+}
+
+/* Of each association that sends: its next packet number, or how many are left. */
+static void add_numbers(struct text *t, const struct device *d, const char *name, bool left) {
+    for (uint8_t an = 0; an < MACSEC_AN_COUNT; an++) {
+        macsec_tx_sa sa;
+        if (macsec_get_tx_sa(d->endpoint, an, &sa) == MACSEC_OK && (left || sa.next_high == 0))
+            text_add(t, "macsec_%s{device=\"%s\",an=\"%u\",key=\"%u\",on=\"%d\"} %" PRIu64 "\n", name, d->name, an,
+                     sa.key, sa.on, left ? show_left(d, &sa) : sa.next);
+    }
 }
 
 static void add_gauges(struct text *t, const struct device *d) {
-    uint32_t left = 0;
-    (void)macsec_keys_left(d->endpoint, &left);
-    add_gauge(t, d->name, "link_up", d->link.up);
-    add_gauge(t, d->name, "port_on", !d->port.off);
-    add_gauge(t, d->name, "keys_left", left);
-    add_gauge(t, d->name, "journal_names", numbers_names(d->numbers));
-    add_gauge(t, d->name, "journal_names_max", numbers_names_max());
-    text_add(t, "# TYPE macsec_next_packet_number gauge\n");
-    for (uint8_t an = 0; an < MACSEC_AN_COUNT; an++) {
-        macsec_tx_sa sa;
-        if (macsec_get_tx_sa(d->endpoint, an, &sa) == MACSEC_OK && sa.next_high == 0)
-            text_add(t, "macsec_next_packet_number{device=\"%s\",an=\"%u\",key=\"%u\",on=\"%d\"} %" PRIu64 "\n",
-                     d->name, an, sa.key, sa.on, sa.next);
+    static const char next[] = "next_packet_number", left[] = "packet_numbers_left";
+    uint32_t keys = 0;
+    (void)macsec_keys_left(d->endpoint, &keys);
+    const struct {
+        const char *name, *help;
+        size_t value;
+    } gauges[] = {
+        { "link_up", "1 while LINK has carrier", d->link.up },
+        { "port_on", "1 while the controlled port is on", !d->port.off },
+        { "keys_left", "keys that the endpoint can still take", keys },
+        { "journal_names", "names in the journal", numbers_names(d->numbers) },
+        { "journal_names_max", "names that the journal can have", numbers_names_max() },
+    };
+    for (size_t i = 0; i < sizeof gauges / sizeof *gauges; i++) {
+        add_gauge_head(t, gauges[i].name, gauges[i].help);
+        text_add(t, "macsec_%s{device=\"%s\"} %zu\n", gauges[i].name, d->name, gauges[i].value);
     }
+    add_gauge_head(t, next, "the packet number of the next frame of a transmit association");
+    add_numbers(t, d, next, false);
+    add_gauge_head(t, left, "packet numbers that a transmit association has left");
+    add_numbers(t, d, left, true);
 }
 
 void answer_metrics(struct text *t, const struct device *d) {
     uint64_t own[OWN], tx[TX];
     totals_own(d, own, tx);
-    add_plain_metrics(t, d->name, "", own_names, own, OWN);
-    add_plain_metrics(t, d->name, "", tx_names, tx, TX);
+    add_plain_metrics(t, d->name, false, own_names, own, OWN);
+    add_plain_metrics(t, d->name, false, tx_names, tx, TX);
     for (int i = 0; i < RX; i++)
         add_rx_metrics(t, d, i, false);
     for (int i = 0; i < RX; i++)
         add_rx_metrics(t, d, i, true);
-    add_plain_metrics(t, d->name, "device_", device_names, counts_of(d), COUNT_OF_COUNTS);
+    add_plain_metrics(t, d->name, true, device_names, counts_of(d), COUNT_OF_COUNTS);
     add_gauges(t, d);
 }

@@ -370,11 +370,11 @@ static void check_journal(struct check *c) {
         say(c, FAULT, "the journal %s %s", path, wrong);
     else if (access(path, R_OK) != 0)
         say(c, HINT, "the journal %s can't be looked at: %s", path, strerror(errno));
+    else if ((wrong = journals_misnamed(path, c->config.journal)) != NULL)
+        say(c, FAULT, "the journal %s %s", path, wrong);
     else if (journals_check_keys(&c->config, c->name) != 0)
         c->found[FAULT]++; /* it has said why */
 }
-
-/* ---- The whole ---- */
 
 /* TAP has the NAME of the configuration. That of one at a path may be none. */
 static void name_tap(struct config *config, const char *name) {
@@ -396,8 +396,7 @@ static int finish(struct check *c) {
         return message_of_memory();
     printf("%s: %u fault%s%s, %u hint%s\n", c->config.path, faults, faults == 1 ? "" : "s",
            faults == 0 ? "" : ", so macsecd does not start", hints, hints == 1 ? "" : "s");
-    if (messages_flush_output() != 0)
-        return ENDS_FAILED;
+    RETURN_IF_FAILED(messages_flush_output());
     return faults == 0 ? 0 : ENDS_WRONG;
 }
 

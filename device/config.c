@@ -46,10 +46,8 @@ static int read_text(struct config *c, int file, size_t size) {
         return message_wrong("%s has more than 1,048,576 octets", c->path);
     c->room = size + 1;
     c->text = calloc(c->room, 1);
-    if (c->text == NULL) {
-        message("%s: out of memory", c->path);
-        return ENDS_FAILED;
-    }
+    if (c->text == NULL)
+        return message_of_memory();
     for (ssize_t count = 1; count > 0 && c->length < size; c->length += (size_t)count) {
         count = TEMP_FAILURE_RETRY(read(file, c->text + c->length, size - c->length));
         if (count < 0)
@@ -103,6 +101,11 @@ static bool take_name(char *to, const struct words *w) {
     return true;
 }
 
+static bool take_journal(struct config *c, const struct words *w) {
+    return words_copy(w, 2, c->journal, sizeof c->journal) &&
+           strspn(c->journal, "0123456789abcdef") == sizeof c->journal - 1;
+}
+
 static bool take_group(struct config *c, const struct words *w) {
     char name[WORD];
     const struct group *group = words_copy(w, 2, name, sizeof name) ? getgrnam(name) : NULL;
@@ -144,6 +147,7 @@ static bool take_switch(struct config *c, const struct words *w) {
         { "isolate alone", &c->alone },
         { "landlock optional", &c->unconfined },
         { "port off", &c->begins_off },
+        { "segments off", &c->single },
         { "allow protect off", &c->limits.unprotected },
         { "allow validate check", &c->limits.check },
         { "allow validate disabled", &c->limits.disabled },
@@ -172,10 +176,13 @@ const char *config_take(struct config *c, const struct words *w) {
     if (words_is(w, 1, "allow"))
         return limits_take(&c->limits, w);
     if (w->count != 3)
-        return "`device link NAME`, `tap NAME`, `user NAME`, `group NAME`, `port off`, `workers N`, `receive ahead`, "
-               "`persist`, `transient`, `isolate`, `shared`, `landlock optional` or `allow ..` is expected";
+        return "`device link NAME`, `tap NAME`, `journal HEX`, `user NAME`, `group NAME`, `port off`, `segments off`, "
+               "`workers N`, `receive ahead`, `persist`, `transient`, `isolate`, `shared`, `landlock optional` or "
+               "`allow ..` is expected";
     if (words_is(w, 1, "link") || words_is(w, 1, "tap"))
         return take_name(words_is(w, 1, "link") ? c->link : c->tap, w) ? NULL : "no network device can have this name";
+    if (words_is(w, 1, "journal"))
+        return take_journal(c, w) ? NULL : "the name of a journal has 16 digits, of 0 to 9 and a to f";
     if (words_is(w, 1, "group"))
         return take_group(c, w) ? NULL : "there is no such group";
     if (words_is(w, 1, "user"))
@@ -184,8 +191,8 @@ const char *config_take(struct config *c, const struct words *w) {
         return take_workers(c, w) ? NULL : "the number of workers is not 0 to 8";
     if (words_is(w, 1, "receive"))
         return words_is(w, 2, "ahead") ? NULL : wrong_receive(w);
-    return "the word after `device` is not link, tap, user, group, port, workers, receive, persist, transient, "
-           "isolate, shared, landlock or allow";
+    return "the word after `device` is not link, tap, journal, user, group, port, segments, workers, receive, persist, "
+           "transient, isolate, shared, landlock or allow";
 }
 
 const char *config_take_mark(struct config *c) {

@@ -64,11 +64,6 @@ static int drop_capabilities(void) {
     return 0;
 }
 
-/* 1 for sanitizers and valgrind, which open files and make other calls. */
-#ifndef MACSECD_UNFILTERED
-#define MACSECD_UNFILTERED 0
-#endif
-
 /* From now on files can be opened and removed in the journal's folder alone. Other instances of macsecd have the folder
  * of the control socket too. */
 static int restrict_files(int state, bool unconfined) {
@@ -90,53 +85,54 @@ static int restrict_files(int state, bool unconfined) {
     return message_of_errno("files can't be restricted");
 }
 
-/* The calls of the thread that has the endpoint: for frames, control, reports, signals, the clock, the journal's thread
- * and standard error, and from SYS_brk on for memory and the end. It opens no file and writes to none. */
+/* The calls of the thread that has the endpoint: for frames, control, reports, signals, the clock, the other threads
+ * and standard error, and from SYS_brk on for memory and the end; and those of `limited`. It opens no file. By no
+ * socket it reaches a program that has not connected to it. */
 static const unsigned of_frames[] = {
-    SYS_read,       SYS_write,      SYS_recvmmsg,      SYS_sendmmsg, SYS_recvfrom,        SYS_sendto,
-    SYS_getsockopt, SYS_setsockopt, SYS_accept4,       SYS_close,    SYS_epoll_wait,      SYS_epoll_pwait,
-    SYS_epoll_ctl,  SYS_poll,       SYS_clock_gettime, SYS_futex,    SYS_restart_syscall, SYS_brk,
-    SYS_munmap,     SYS_mremap,     SYS_madvise,       SYS_exit,     SYS_exit_group,
+    SYS_read,  SYS_recvmmsg,        SYS_recvfrom,    SYS_getsockopt, SYS_setsockopt, SYS_accept4,
+    SYS_close, SYS_epoll_wait,      SYS_epoll_pwait, SYS_epoll_ctl,  SYS_poll,       SYS_clock_gettime,
+    SYS_futex, SYS_restart_syscall, SYS_brk,         SYS_munmap,     SYS_mremap,     SYS_madvise,
+    SYS_exit,  SYS_exit_group,
 };
 
 /* The calls of the thread of the journal, which writes it again from SYS_openat on and ends from SYS_rt_sigprocmask on.
- * It allocates no memory and uses no socket. It writes to an eventfd that an order was carried out. */
+ * It allocates no memory and uses no socket. */
 static const unsigned of_journal[] = {
-    SYS_write,           SYS_pwrite64, SYS_fdatasync, SYS_newfstatat,     SYS_clock_gettime, SYS_futex,
-    SYS_restart_syscall, SYS_openat,   SYS_fsync,     SYS_flock,          SYS_fstat,         SYS_renameat,
-    SYS_renameat2,       SYS_unlinkat, SYS_close,     SYS_rt_sigprocmask, SYS_madvise,       SYS_exit,
+    SYS_pwrite64, SYS_fdatasync, SYS_newfstatat,     SYS_clock_gettime, SYS_futex,    SYS_restart_syscall,
+    SYS_openat,   SYS_fsync,     SYS_flock,          SYS_fstat,         SYS_renameat, SYS_renameat2,
+    SYS_unlinkat, SYS_close,     SYS_rt_sigprocmask, SYS_madvise,       SYS_exit,
 };
 
-/* The calls of a worker. It writes to the eventfd by which it says that a frame is there. The last three end it. */
-static const unsigned of_workers[] = {
-    SYS_write, SYS_futex, SYS_restart_syscall, SYS_rt_sigprocmask, SYS_madvise, SYS_exit,
+/* The calls of a worker and of the thread of the service manager. The last three end them. */
+static const unsigned of_others[] = { SYS_futex, SYS_restart_syscall, SYS_rt_sigprocmask, SYS_madvise, SYS_exit };
+
+/* What an argument must be or may not be: a number, or a file of confine_calls; or it may not have a bit. */
+enum how { ANYTHING, IS, IS_OWN, IS_MANAGER, IS_NOT_MANAGER, HAS_NOT };
+enum { TESTS = 3 };
+struct test {
+    enum how how;
+    unsigned half; /* of an argument: twice its index, and one more for the upper 32 bits */
+    unsigned value;
 };
 
-enum { BEFORE = 3, AFTER = 9, CALLS_MAX = sizeof of_frames / sizeof *of_frames };
-
-#define LOAD(member) BPF_STMT(BPF_LD | BPF_W | BPF_ABS, (unsigned)offsetof(struct seccomp_data, member))
-#define JUMP_IF(test, value, yes, no) BPF_JUMP(BPF_JMP | (test) | BPF_K, (value), (yes), (no))
-
-/* Makes the program: the calls of a list are allowed, and for frames mmap without execution, and ioctl for TAP's
- * carrier and for reading an address. Any other ends the process. */
-static unsigned short make_filter(struct sock_filter *program, const unsigned *calls, unsigned count) {
-    struct sock_filter *next = program;
-    *next++ = (struct sock_filter)LOAD(arch);
-    *next++ = (struct sock_filter)JUMP_IF(BPF_JEQ, AUDIT_ARCH_X86_64, 0, (unsigned char)(count + 8));
-    *next++ = (struct sock_filter)LOAD(nr);
-    for (unsigned i = 0; i < count; i++)
-        *next++ = (struct sock_filter)JUMP_IF(BPF_JEQ, calls[i], (unsigned char)(count - i - 1 + 8), 0);
-    *next++ = (struct sock_filter)JUMP_IF(BPF_JEQ, calls == of_frames ? SYS_mmap : UINT32_MAX, 1, 0);
-    *next++ = (struct sock_filter)JUMP_IF(BPF_JEQ, calls == of_frames ? SYS_ioctl : UINT32_MAX, 2, 5);
-    *next++ = (struct sock_filter)LOAD(args[2]);
-    *next++ = (struct sock_filter)JUMP_IF(BPF_JSET, PROT_EXEC, 3, 4);
-    *next++ = (struct sock_filter)LOAD(args[1]);
-    *next++ = (struct sock_filter)JUMP_IF(BPF_JEQ, TUNSETCARRIER, 2, 0);
-    *next++ = (struct sock_filter)JUMP_IF(BPF_JEQ, SIOCGIFHWADDR, 1, 0);
-    *next++ = (struct sock_filter)BPF_STMT(BPF_RET | BPF_K, SECCOMP_RET_KILL_PROCESS);
-    *next++ = (struct sock_filter)BPF_STMT(BPF_RET | BPF_K, SECCOMP_RET_ALLOW);
-    return (unsigned short)(next - program);
-}
+/* Calls of which the arguments are limited. sendto has no address, which is its argument of index 4: so it sends where
+ * a socket is connected or bound. */
+static const struct limited {
+    enum thread thread;
+    unsigned call;
+    struct test tests[TESTS];
+} limited[] = {
+    { ENDPOINT_THREAD, SYS_write, { { IS_NOT_MANAGER, 0, 0 } } },
+    { ENDPOINT_THREAD, SYS_sendmmsg, { { IS_OWN, 0, 0 } } },
+    { ENDPOINT_THREAD, SYS_sendto, { { IS_NOT_MANAGER, 0, 0 }, { IS, 8, 0 }, { IS, 9, 0 } } },
+    { ENDPOINT_THREAD, SYS_ioctl, { { IS, 2, TUNSETCARRIER } } },
+    { ENDPOINT_THREAD, SYS_ioctl, { { IS, 2, SIOCGIFHWADDR } } },
+    { ENDPOINT_THREAD, SYS_mmap, { { HAS_NOT, 4, PROT_EXEC } } },
+    { JOURNAL_THREAD, SYS_write, { { IS_OWN, 0, 0 } } },
+    { WORKER_THREAD, SYS_write, { { IS_OWN, 0, 0 } } },
+    { SERVICE_THREAD, SYS_read, { { IS_OWN, 0, 0 } } },
+    { SERVICE_THREAD, SYS_sendto, { { IS_MANAGER, 0, 0 }, { IS, 8, 0 }, { IS, 9, 0 } } },
+};
 
 static const struct {
     const unsigned *calls;
@@ -144,14 +140,68 @@ static const struct {
 } lists[] = {
     [ENDPOINT_THREAD] = { of_frames, sizeof of_frames / sizeof *of_frames },
     [JOURNAL_THREAD] = { of_journal, sizeof of_journal / sizeof *of_journal },
-    [WORKER_THREAD] = { of_workers, sizeof of_workers / sizeof *of_workers },
+    [WORKER_THREAD] = { of_others, sizeof of_others / sizeof *of_others },
+    [SERVICE_THREAD] = { of_others, sizeof of_others / sizeof *of_others },
 };
 
-_Static_assert(sizeof of_journal <= sizeof of_frames && sizeof of_workers <= sizeof of_frames, "a list is too long");
+/* The most instructions of a limited call, and of a program. */
+enum { LIMITED = sizeof limited / sizeof *limited, OF_ONE = 3 + 2 * TESTS };
+enum { PROGRAM = 4 + LIMITED * OF_ONE + 2 * sizeof of_frames / sizeof *of_frames + 1 };
+_Static_assert(sizeof of_journal <= sizeof of_frames && sizeof of_others <= sizeof of_frames, "a list is too long");
 
-int confine_calls(enum thread thread) {
-    struct sock_filter program[BEFORE + CALLS_MAX + AFTER];
-    struct sock_fprog filter = { make_filter(program, lists[thread].calls, lists[thread].count), program };
+#define LOAD(member) BPF_STMT(BPF_LD | BPF_W | BPF_ABS, (unsigned)offsetof(struct seccomp_data, member))
+#define JUMP_IF(test, value, yes, no) BPF_JUMP(BPF_JMP | (test) | BPF_K, (value), (yes), (no))
+#define RETURN(what) BPF_STMT(BPF_RET | BPF_K, (what))
+
+/* Adds a test. Unless it passes, so many instructions after it are skipped. */
+static struct sock_filter *add_test(struct sock_filter *next, const struct test *it, unsigned value, unsigned skip) {
+    bool wanted = it->how != IS_NOT_MANAGER && it->how != HAS_NOT;
+    unsigned char otherwise = (unsigned char)skip;
+    *next++ = (struct sock_filter)LOAD(args[0]);
+    next[-1].k += 4 * it->half;
+    *next++ = (struct sock_filter)JUMP_IF(it->how == HAS_NOT ? BPF_JSET : BPF_JEQ, value, wanted ? 0 : otherwise,
+                                          wanted ? otherwise : 0);
+    return next;
+}
+
+/* Adds instructions that allow a call, if its arguments pass all tests. */
+static struct sock_filter *add_limited(struct sock_filter *next, const struct limited *it, int own, int manager) {
+    unsigned tests = 0;
+    while (tests < TESTS && it->tests[tests].how != ANYTHING)
+        tests++;
+    *next++ = (struct sock_filter)LOAD(nr);
+    *next++ = (struct sock_filter)JUMP_IF(BPF_JEQ, it->call, 0, (unsigned char)(2 * tests + 1));
+    for (const struct test *test = it->tests; tests > 0; test++, tests--) {
+        bool of_manager = test->how == IS_MANAGER || test->how == IS_NOT_MANAGER;
+        unsigned value = test->how == IS_OWN ? (unsigned)own : of_manager ? (unsigned)manager : test->value;
+        next = add_test(next, test, value, 2 * tests - 1);
+    }
+    *next++ = (struct sock_filter)RETURN(SECCOMP_RET_ALLOW);
+    return next;
+}
+
+/* Makes the program, which allows the calls of a thread. Any other ends the process. */
+static unsigned short make_filter(struct sock_filter program[PROGRAM], enum thread thread, int own, int manager) {
+    struct sock_filter *next = program;
+    *next++ = (struct sock_filter)LOAD(arch);
+    *next++ = (struct sock_filter)JUMP_IF(BPF_JEQ, AUDIT_ARCH_X86_64, 1, 0);
+    *next++ = (struct sock_filter)BPF_STMT(BPF_JMP | BPF_JA, 0);
+    for (const struct limited *it = limited; it < limited + LIMITED; it++)
+        if (it->thread == thread)
+            next = add_limited(next, it, own, manager);
+    *next++ = (struct sock_filter)LOAD(nr);
+    for (unsigned i = 0; i < lists[thread].count; i++) {
+        *next++ = (struct sock_filter)JUMP_IF(BPF_JEQ, lists[thread].calls[i], 0, 1);
+        *next++ = (struct sock_filter)RETURN(SECCOMP_RET_ALLOW);
+    }
+    program[2].k = (unsigned)(next - program) - 3;
+    *next++ = (struct sock_filter)RETURN(SECCOMP_RET_KILL_PROCESS);
+    return (unsigned short)(next - program);
+}
+
+int confine_calls(enum thread thread, int own, int manager) {
+    struct sock_filter program[PROGRAM];
+    struct sock_fprog filter = { make_filter(program, thread, own, manager), program };
     if (MACSECD_UNFILTERED && thread == ENDPOINT_THREAD)
         message("this build restricts neither its files nor its system calls");
     if (MACSECD_UNFILTERED)

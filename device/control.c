@@ -33,10 +33,11 @@ static void close_client(struct device *d, int index) {
     port_client_gone(d, index);
 }
 
-static bool is_root(int client) {
+/* Whose process has connected; if that is unknown, nobody's. */
+static uid_t user_of(int client) {
     struct ucred who;
     socklen_t length = sizeof who;
-    return getsockopt(client, SOL_SOCKET, SO_PEERCRED, &who, &length) == 0 && who.uid == 0;
+    return getsockopt(client, SOL_SOCKET, SO_PEERCRED, &who, &length) == 0 ? who.uid : (uid_t)-1;
 }
 
 /* Connections end in the order of this number: others' before root's, and then the one that is idle longest. */
@@ -63,20 +64,22 @@ static int make_place(struct device *d, bool for_root) {
 int control_accept(struct device *d) {
     struct control *k = &d->control;
     int octets = sizeof k->answer, at, client = accept4(k->listener, NULL, NULL, SOCK_NONBLOCK | SOCK_CLOEXEC);
-    bool root = client >= 0 && is_root(client), was_held_up = k->held_up;
+    uid_t user = client < 0 ? (uid_t)-1 : user_of(client);
+    bool was_held_up = k->held_up;
     k->held_up = client < 0 && errno != EAGAIN && errno != ECONNABORTED && errno != EINTR;
     if (k->held_up && !was_held_up)
         message_of_errno("a connection to the control socket can't be accepted yet");
     if (client < 0)
         return -1; /* it is held up, or has gone again */
-    at = make_place(d, root);
+    at = make_place(d, user == 0);
     if (at < 0) {
         (void)close(client); /* there are as many as there can be */
         return -1;
     }
     (void)setsockopt(client, SOL_SOCKET, SO_SNDBUF, &octets, sizeof octets); /* else a long answer closes it */
     k->clients[at] = client;
-    k->is_root[at] = root;
+    k->user[at] = user;
+    k->is_root[at] = user == 0;
     k->used[at] = ++k->uses;
     return at;
 }
@@ -86,6 +89,18 @@ bool control_send(struct device *d, int index, const char *octets, size_t length
     if (sent < 0)
         close_client(d, index); /* it does not read its answers, or has gone */
     return sent >= 0;
+}
+
+bool control_may_read(struct device *d, int index, bool has_ended) {
+    int64_t milliseconds;
+    if (budget_lets(d, index, &milliseconds))
+        return true;
+    d->counts.requests_delayed++;
+    if (has_ended)
+        close_client(d, index); /* else a client that waits for no answer could make as many as it likes */
+    else
+        waits_rest(d, index, milliseconds);
+    return false;
 }
 
 bool control_answer(struct device *d, int index) {
@@ -102,7 +117,9 @@ bool control_answer(struct device *d, int index) {
     k->request[length] = '\0';
     d->counts.requests++;
     k->used[index] = ++k->uses;
+    budget_begin(&d->budget);
     waits = requests_answer(d, &t, index, k->request, (size_t)length);
+    budget_end(d, index, requests_loads(k->request, (size_t)length));
     explicit_bzero(k->request, (size_t)length); /* it may be a key */
     return (waits && waits_keep(d, index, k->answer, t.length)) || control_send(d, index, k->answer, t.length);
 }

@@ -69,9 +69,9 @@ enum { HANDOVER_WAITS = 50 };
 /* Makes a second endpoint in the free handle: a copy with the keys that are not retired, the channels and the
  * associations, which go on with the reservations. Returns NULL, after a message, if it can't be made. */
 macsec_endpoint *handover_begin(struct device *d);
-/* Reserves for the second endpoint, and lets it take over from the first. Returns false, after a message, if no record
- * can be written: then it is freed. If `anyhow`, it takes over even so, and drops frames until it has a reservation. */
-bool handover_take(struct device *d, macsec_endpoint *e, bool anyhow);
+/* Reserves for the second endpoint, and lets it take over from the first. If no record can be written, it drops frames
+ * until it has a reservation. */
+void handover_take(struct device *d, macsec_endpoint *e);
 
 /* ---- answers.c: the text of answers, each for a request ---- */
 
@@ -90,12 +90,16 @@ void answer_metrics(struct text *t, const struct device *d);
 
 /* The state of the device for people: show.c. */
 void answer_show(struct text *t, const struct device *d);
+/* How many packet numbers a transmit association has left. */
+uint64_t show_left(const struct device *d, const macsec_tx_sa *sa);
 
 /* ---- requests.c: requests and their answers ---- */
 
 /* The most octets of a request, which is `load` with its lines. */
 enum { REQUEST_MAX = 128 * 1024 };
 
+/* Is it `load`, with the lines of it? */
+bool requests_loads(const char *request, size_t length);
 /* Answers a request of a client, which ends with a zero and may have others. Returns true if the answer is to wait for
  * the journal. */
 bool requests_answer(struct device *d, struct text *t, int client, char *request, size_t length);
@@ -106,6 +110,7 @@ bool requests_answer(struct device *d, struct text *t, int client, char *request
 enum { CLIENTS = 16, KEPT_ANSWER = 64 };
 
 struct waiting {
+    bool rests;    /* does it wait for nothing but the time? */
     size_t length; /* of the answer; 0: there is none */
     char answer[KEPT_ANSWER];
     uint64_t ticket;
@@ -120,18 +125,41 @@ struct waits {
 /* Keeps the answer of a client until the records of its request are on the disk. Returns false if they are, or if the
  * answer is too long to be kept: it is to be sent at once. */
 bool waits_keep(struct device *d, int client, const char *answer, size_t length);
-/* Does the client wait for an answer? Its next requests are read after that. */
+/* Lets a client wait for so long, without an answer. */
+void waits_rest(struct device *d, int client, int64_t milliseconds);
+/* Does the client wait? Its next requests are read after that. */
 bool waits_for(const struct device *d, int client);
-/* Sends a client's answer if its records are on the disk, or if it has waited too long. Returns true if so. */
+/* Sends a client's answer if its records are on the disk, or if it has waited too long; or ends its rest. Returns true
+ * if so, and the client is there. */
 bool waits_send(struct device *d, int client);
 /* How many milliseconds the loop may wait; -1: for ever. */
 int waits_left(const struct device *d);
 void waits_client_gone(struct device *d, int client);
 
+/* ---- budget.c: what requests may cost the frames ---- */
+
+struct account {
+    uid_t user;
+    int64_t paid; /* when the user owes nothing, in microseconds */
+};
+
+struct budget {
+    struct account accounts[CLIENTS];
+    int64_t began, used; /* when the request did, and the time of a processor until then */
+};
+
+/* To be called before a request of a client is carried out, and after it: `waited` if it may have waited for the
+ * journal. */
+void budget_begin(struct budget *b);
+void budget_end(struct device *d, int client, bool waited);
+/* May the client make a request? If not, it may after so many milliseconds. */
+bool budget_lets(struct device *d, int client, int64_t *milliseconds);
+
 /* ---- control.c: the control socket ---- */
 
 struct control {
     int listener, clients[CLIENTS]; /* -1: there is none */
+    uid_t user[CLIENTS];
     bool is_root[CLIENTS];
     uint64_t used[CLIENTS]; /* which use of the socket was a client's last one */
     uint64_t uses;
@@ -145,6 +173,8 @@ int control_open(struct control *k, const char *name, const struct config *c);
 /* Accepts a connection, for which an idle one may end. Returns its index, or -1. If the system has no descriptor for
  * it, the connection is held up. */
 int control_accept(struct device *d);
+/* May a request of the client be read? If not, the client rests; but a connection that has ended is closed. */
+bool control_may_read(struct device *d, int index, bool has_ended);
 /* Answers a request of a client. Returns false if the connection has ended; it is closed then. */
 bool control_answer(struct device *d, int index);
 /* Sends an answer to a client. Returns false if the connection has ended; it is closed then. */

@@ -22,8 +22,10 @@ struct device {
     struct held_frames held_frames;
     struct tap tap;
     struct rtnetlink rtnetlink;
+    struct over over;
     struct control control;
     struct waits waits;
+    struct budget budget;
     struct port port;
     struct service service;
     struct numbers *numbers;

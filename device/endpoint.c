@@ -20,11 +20,12 @@ static void note(struct device *d, const macsec_command *c, bool passes) {
         break;
     case BEGINS_SA:
         if (c->kind == MACSEC_COMMAND_TX_SA)
-            numbers_reserve(d->numbers, d->endpoint);
+            numbers_begin_to_send(d->numbers, d->endpoint, c->an);
         else
-            numbers_accept(d->numbers, d->endpoint);
+            numbers_begin_to_receive(d->numbers, d->endpoint, c->sci, c->an);
         break;
     case ENDS_SA:
+        numbers_end_receiving(d->numbers, d->endpoint);
         totals_end(&d->totals, c->sci, c->kind == MACSEC_COMMAND_RX_DEL ? c->an : -1);
         break;
     }
@@ -45,7 +46,7 @@ void endpoint_close(struct device *d) {
     port_set(d, false);
     floods_end(d);
     workers_forget(d->workers);
-    numbers_note_accepted(d->numbers, d->endpoint, NULL);
+    numbers_note_all(d->numbers, d->endpoint);
     numbers_forget(d->numbers);
     macsec_free(d->endpoint);
     keys_wipe(d->keys);
@@ -56,7 +57,7 @@ void endpoint_close(struct device *d) {
 static uint32_t create(struct device *d, const macsec_config *end) {
     macsec_endpoint *e = &d->handles[d->endpoint == &d->handles[0]];
     uint32_t status;
-    numbers_note_accepted(d->numbers, d->endpoint, NULL); /* its associations may come again at the new one */
+    numbers_note_all(d->numbers, d->endpoint); /* its associations may come again at the new one */
     status = numbers_configure(d->numbers, e, end, NULL, 0);
     if (status != MACSEC_OK)
         return status;
@@ -120,13 +121,6 @@ static void note_lines(struct device *d, const char *lines, size_t left) {
     }
 }
 
-/* Has the endpoint taken all the keys that it can take, and is the number of this key retired? */
-static bool is_at_end(const struct device *d, const macsec_command *c) {
-    uint32_t left;
-    return c->kind == MACSEC_COMMAND_KEY && !keys_has(d->keys, c->key) &&
-           macsec_keys_left(d->endpoint, &left) == MACSEC_OK && left == 0;
-}
-
 /* Carries out a command at the endpoint, or tries it at a copy. `status` is the library's for its line. */
 static struct result carry_out(struct device *d, macsec_endpoint *e, uint32_t status, const macsec_command *c) {
     struct result r = { NULL, status, 0, c->kind };
@@ -134,6 +128,8 @@ static struct result carry_out(struct device *d, macsec_endpoint *e, uint32_t st
         r.status = endpoint_is_open(d) ? status : MACSEC_E_EMPTY;
     else if (!limits_allow(&d->config.limits, c))
         r.fault = "NotAllowed";
+    else if (lines_lack_name(d->numbers, e, c))
+        r.fault = "JournalFull";
     else
         r.status = lines_carry_out(d->numbers, e, c, &r.raised);
     if (r.fault == NULL && r.status == MACSEC_OK && e == d->endpoint)
@@ -141,47 +137,24 @@ static struct result carry_out(struct device *d, macsec_endpoint *e, uint32_t st
     return r;
 }
 
-static struct result command_of_next(struct device *d, const macsec_command *c) {
-    macsec_endpoint *e = handover_begin(d);
-    struct result r;
-    if (e == NULL)
-        return result_of(MACSEC_E_MEMORY);
-    r = carry_out(d, e, MACSEC_OK, c);
-    if (r.status != MACSEC_OK) {
-        macsec_free(e);
-    } else if (!handover_take(d, e, false)) {
-        r.fault = "Journal";
-    } else {
-        message("the endpoint had taken %u keys: a second one goes on", MACSEC_KEY_COUNT);
-        note(d, c, d->port.owner >= 0);
-    }
-    return r;
-}
-
-/* Carries out a command at the endpoint, or at a second one if the first can take no more keys. */
-static struct result command(struct device *d, uint32_t status, const macsec_command *c) {
-    struct result r = carry_out(d, d->endpoint, status, c);
-    return r.status == MACSEC_E_KEY_NUMBER_USED && is_at_end(d, c) ? command_of_next(d, c) : r;
-}
-
 struct result endpoint_command(struct device *d, const char *line, size_t length) {
     macsec_command c;
     uint32_t status = macsec_parse_line((const uint8_t *)line, length, &c);
-    struct result r = command(d, status, &c);
+    struct result r = carry_out(d, d->endpoint, status, &c);
     macsec_clear_command(&c);
     return r;
 }
 
 /* ---- All lines or none ---- */
 
-/* Carries out each line at the endpoint or at a copy, or alone if `e` is NULL, and adds the answers. Returns false if
- * one was refused: then the answer is for this line alone. */
+/* Carries out each line at the endpoint or at a copy, and adds the answers. Returns false if one was refused: then the
+ * answer is for this line alone. */
 static bool load_lines(struct device *d, macsec_endpoint *e, struct text *t, const char *lines, size_t left) {
     struct commands it = { .text = lines, .left = left };
     bool fails = false;
     t->length = 0;
     while (!fails && commands_next(&it)) {
-        struct result r = e == NULL ? command(d, it.status, &it.command) : carry_out(d, e, it.status, &it.command);
+        struct result r = carry_out(d, e, it.status, &it.command);
         fails = r.fault != NULL || r.status != MACSEC_OK;
         if (commands_skips(&it) && !fails)
             continue;
@@ -207,8 +180,8 @@ static unsigned lines_to_do(const char *lines, size_t left) {
 }
 
 /* Carries out lines that a copy has taken, at the endpoint itself: so no packet number is skipped. The endpoint can
- * refuse one all the same, since it knows the retired keys and the copy does not. Then the copy takes over, with all
- * lines, and its answers are those. The others are written after them meanwhile. */
+ * refuse one all the same, since it knows the octets of retired keys and the copy does not. Then the copy takes over,
+ * with all lines, and its answers are those. The others are written after them meanwhile. */
 static void do_lines(struct device *d, macsec_endpoint *copy, struct text *t, const char *lines, size_t length) {
     struct text done = { t->octets + t->length, 0, t->room - t->length, false };
     if (load_lines(d, d->endpoint, &done, lines, length)) {
@@ -217,7 +190,7 @@ static void do_lines(struct device *d, macsec_endpoint *copy, struct text *t, co
         memmove(t->octets, done.octets, done.length);
         t->length = done.length;
     } else {
-        (void)handover_take(d, copy, true);
+        handover_take(d, copy);
         note_lines(d, lines, length);
         message("a second endpoint goes on after `load`");
     }
@@ -228,7 +201,7 @@ void endpoint_load(struct device *d, struct text *t, const char *lines, size_t l
     if (!endpoint_is_open(d)) {
         answer_result(t, result_of(MACSEC_E_EMPTY));
     } else if (lines_to_do(lines, length) < 2) {
-        (void)load_lines(d, NULL, t, lines, length); /* the answer says what became of it */
+        (void)load_lines(d, d->endpoint, t, lines, length); /* the answer says what became of it */
     } else if ((copy = handover_begin(d)) == NULL) {
         answer_result(t, result_of(MACSEC_E_MEMORY));
     } else if (load_lines(d, copy, t, lines, length)) {

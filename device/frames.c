@@ -51,29 +51,46 @@ enum outcome frames_from_client(struct device *d) {
     return left;
 }
 
-/* What follows from the answer of the endpoint: a frame is delivered while the controlled port is on. It is noted
- * afterwards, since the client waits. */
-static enum outcome received(struct device *d, const macsec_received *got) {
-    enum outcome outcome = DONE;
-    if (got->delivered && d->port.off)
-        d->counts.port_in++;
-    else if (got->delivered)
-        outcome = tap_write(&d->tap, got->frame, got->length, &d->counts);
+enum outcome frames_deliver(struct device *d, const uint8_t *octets, size_t length) {
+    if (!d->port.off)
+        return tap_write(&d->tap, octets, length, &d->counts);
+    d->counts.port_in++;
+    return DONE;
+}
+
+/* Keeps a frame, or what the endpoint has accepted of it. */
+static bool keep(struct device *d, const macsec_received *got, const uint8_t *octets, size_t length) {
+    struct held_frame it = { .accepted = got->delivered, .length = (uint16_t)length };
+    memcpy(it.sci, got->sci, sizeof it.sci);
+    return held_frames_keep(d, &it, octets);
+}
+
+/* Delivers an accepted frame, or keeps it while frames of its channel wait. If there is no space it overtakes none. */
+static enum outcome deliver_in_order(struct device *d, const macsec_received *got) {
+    if (!got->has_sa || !held_frames_wait(d, got->sci))
+        return frames_deliver(d, got->frame, got->length);
+    d->counts.tap_refused += !keep(d, got, got->frame, got->length);
+    return DONE;
+}
+
+/* What follows from the answer of the endpoint. An accepted frame is noted afterwards, since the client waits. */
+static enum outcome received(struct device *d, const macsec_received *got, const struct frame *frame) {
+    enum outcome outcome = got->delivered ? deliver_in_order(d, got) : DONE;
     d->counts.link_in++;
     count_fault(got->status, &d->counts.link_too_short, &d->counts.link_too_long);
     d->counts.no_endpoint += got->status == MACSEC_E_EMPTY;
     d->counts.link_no_reservation += got->verdict == MACSEC_VERDICT_NO_RESERVATION;
     d->counts.link_earlier_run += got->verdict == MACSEC_VERDICT_EARLIER_RUN;
-    history_received(&d->history, got);
+    history_received(&d->history, got, frame);
     floods_note(d, got->verdict);
-    numbers_received(d->numbers, d->endpoint, got, held_frames_count(d));
+    numbers_received(d->numbers, d->endpoint, got, d->held_frames.again);
     return outcome;
 }
 
 enum outcome frames_judged(struct device *d, const macsec_received *got, const struct frame *frame) {
-    if (got->verdict != MACSEC_VERDICT_NO_RESERVATION || !held_frames_keep(d, frame->octets, frame->length))
-        return received(d, got);
-    numbers_received(d->numbers, d->endpoint, got, held_frames_count(d));
+    if (got->verdict != MACSEC_VERDICT_NO_RESERVATION || !keep(d, got, frame->octets, frame->length))
+        return received(d, got, frame);
+    numbers_received(d->numbers, d->endpoint, got, d->held_frames.again);
     return DONE;
 }
 
@@ -108,5 +125,6 @@ enum outcome frames_from_link(struct device *d) {
                 return GONE;
     }
     floods_stop(d);
-    return parallel_deliver(d);
+    outcome = parallel_deliver(d);
+    return tap_flush(&d->tap, &d->counts) == GONE ? GONE : outcome;
 }

@@ -19,16 +19,17 @@ struct counts {
     uint64_t link_in, link_lost, link_too_short, link_too_long, no_endpoint, link_out, link_refused;
     uint64_t tap_in, tap_too_short, tap_too_long, tap_out, tap_refused;
     uint64_t port_out, port_in, no_reservation, journal_failed, requests, link_floods;
-    uint64_t link_no_reservation, link_earlier_run;
+    uint64_t link_no_reservation, link_earlier_run, requests_delayed;
+    uint64_t link_over;
 };
 
 enum { COUNT_OF_COUNTS = sizeof(struct counts) / sizeof(uint64_t) };
 
 /* ---- link.c: LINK, the network device below ---- */
 
-/* The octets of a VLAN tag, of the longest frame that the system makes of segments, and one by which a longer frame is
- * seen. */
-enum { LINK_BUFFER = 4 + 65550 + 1 };
+/* The longest frame that the system makes of segments: IP has 65,535 octets, after VLAN tags. A tag, such a frame, and
+ * one octet by which a longer frame is seen. */
+enum { WHOLE = 65560, LINK_BUFFER = 4 + WHOLE + 1 };
 
 /* A received frame, with space before it for a VLAN tag. The system gives a page of it once a frame is there. */
 struct received {
@@ -65,7 +66,7 @@ struct frame {
     size_t length;
 };
 
-/* A frame of LINK as the system has it, which may leave work to a network card. */
+/* A frame of LINK or TAP as the system has it, which may leave work to a network card. */
 struct unfinished {
     uint8_t *octets;
     size_t length;
@@ -98,31 +99,59 @@ void link_make_promiscuous(struct link *l);
 /* The most octets of a frame of the endpoint, for an MTU of LINK. */
 uint32_t link_max_frame(uint32_t mtu);
 
-/* ---- segments.c: frames of LINK that the system has not completed ---- */
+/* ---- segments.c: frames of several segments ---- */
 
 /* The octets of the longest header that is divided from its data. */
 enum { HEAD = 256 };
 
-/* A frame of LINK that is divided into segments. */
+/* A frame of LINK or TAP that is divided into segments. */
 struct segments {
     struct unfinished of;
     size_t ip, transport, header; /* where the headers begin, and what each segment gets; 0: there is one segment */
     size_t at;                    /* where the data of the next segment begin */
     bool is_ipv4;
+    uint32_t pseudo; /* the sum of the addresses and the protocol */
     uint8_t head[HEAD];
 };
 
+/* What the system says about a frame. One that is longer than WHOLE is left alone. */
+struct unfinished segments_unfinished(const struct virtio_net_hdr *about, uint8_t *octets, size_t length);
 /* Completes a frame. If it can't be divided it stays one, which may be too long. */
 void segments_begin(struct segments *s, const struct unfinished *u);
 /* Takes the next segment, which is there until the next call. Returns false if there is none. */
 bool segments_next(struct segments *s, struct frame *frame);
+
+/* A frame after what the system says about it, and one octet by which a longer frame is seen. */
+struct described {
+    struct virtio_net_hdr about;
+    uint8_t octets[WHOLE + 1];
+};
+
+/* Frames for TAP that wait, joined to one that the system takes. */
+struct joined {
+    struct segments as; /* how it is divided */
+    unsigned count;     /* of the frames */
+    bool closed;        /* can no frame follow? */
+    struct described whole;
+};
+
+/* Begins with a copy of a frame, while none waits. If `joins`, frames can follow it; datagrams only if the system takes
+ * those. */
+void segments_keep(struct joined *j, const uint8_t *octets, size_t length, bool joins, bool datagrams);
+/* Adds a frame, if dividing what waits would give it again. Else it returns false. */
+bool segments_join(struct joined *j, const uint8_t *octets, size_t length);
+/* Completes what waits: a description with the frame after it. Returns the octets of both. None waits then. */
+size_t segments_finish(struct joined *j);
 
 /* ---- tap.c: TAP, the network device of the client ---- */
 
 struct tap {
     int file; /* of /dev/net/tun, opened in the host's network namespace */
     char name[IF_NAMESIZE];
-    uint8_t buffer[MACSEC_FRAME_MAX + 1];
+    bool joins, datagrams; /* does it take and give several segments of TCP in one frame, and of UDP? */
+    struct described buffer;
+    struct segments rest; /* of the frame in the buffer */
+    struct joined joined;
 };
 
 /* The MTU of TAP: 32 octets below LINK's, and so small that no frame is longer than the configuration's largest. */
@@ -135,8 +164,11 @@ int tap_own(const struct config *c, uid_t user);
 int tap_open(struct tap *t, const struct config *c, const struct link *l);
 /* Reads a frame. It is there until the next call. */
 enum outcome tap_read(struct tap *t, struct frame *frame);
-/* Delivers a frame, and counts whether TAP took it. */
+/* Has tap_read another segment of what it has read, so that it makes no call? */
+bool tap_has_rest(const struct tap *t);
+/* Delivers a frame, and counts whether TAP took it. A frame that others can be joined to waits until tap_flush. */
 enum outcome tap_write(struct tap *t, const uint8_t *octets, size_t length, struct counts *c);
+enum outcome tap_flush(struct tap *t, struct counts *c);
 /* Reads TAP's address. Returns false if it can't be read, as after TAP was moved to a third namespace. */
 bool tap_address(const struct tap *t, uint8_t address[6]);
 void tap_set_carrier(struct tap *t, bool on);
@@ -167,11 +199,36 @@ struct rtnetlink {
 int rtnetlink_open(struct device *d);
 /* Gives TAP LINK's carrier. */
 int rtnetlink_begin(struct device *d);
+/* Reads a message of this socket into the buffer. Returns its length; 0 if none was there, or if it is not the
+ * system's; or -1. */
+ssize_t rtnetlink_message(struct rtnetlink *f, int socket);
 /* Reads what the system reports. Returns false, after a message, if LINK is gone. */
 bool rtnetlink_read(struct device *d);
 /* To be called each second: asks for LINK's state, looks at TAP's address, and sets its carrier. Returns false, after a
  * message, if the system can't be asked. */
 bool rtnetlink_tick(struct device *d);
+
+/* ---- over.c: devices over LINK, by which frames pass without MACsec ---- */
+
+struct over {
+    int socket; /* rtnetlink of the host's namespace; -1: frames may pass so, as the configuration says */
+    int process, last;
+    int32_t number;        /* of LINK's namespace in the host's */
+    bool asked, due;       /* is there a look under way, and is another one due after it? */
+    unsigned found, known; /* devices, in this look and in the one before */
+};
+
+struct ifinfomsg;
+struct ifaddrmsg;
+
+/* To be called in the host's namespace. */
+int over_open(struct over *o, bool is_isolated);
+/* Asks for the devices of the host. over_read takes the answers, and says which one is over LINK. */
+void over_look(struct device *d);
+void over_read(struct device *d);
+/* Says that a device of LINK's namespace is over LINK, if it is; or that LINK has got an address. */
+void over_note(struct device *d, const struct ifinfomsg *about, int left);
+void over_note_address(struct device *d, const struct ifaddrmsg *about);
 
 /* ---- history.c: when frames last went each way ---- */
 
@@ -181,16 +238,21 @@ struct heard {
     uint64_t time;
 };
 
+/* The EtherType, and a SecTAG with an SCI. */
+enum { TAG_ROOM = 16 };
+
 struct history {
     uint64_t seconds; /* since macsecd started, by the loop's clock: no frame asks the system for the time */
     uint64_t sent, dropped;
     bool from_link;                              /* did LINK bring the last frame that was dropped? Else TAP did. */
     uint32_t why;                                /* its verdict, or its fate */
+    uint8_t tag[TAG_ROOM];                       /* of one of LINK: its octets from the EtherType on, then zeros */
     struct heard heard[MACSEC_RX_CHANNEL_COUNT]; /* when a channel's last frame was delivered */
 };
 
 void history_sent(struct history *h, const macsec_sent *sent);
-void history_received(struct history *h, const macsec_received *got);
+/* The frame is NULL if it is not there any more. */
+void history_received(struct history *h, const macsec_received *got, const struct frame *frame);
 /* Sets how long ago this time was. Returns false if it never was. */
 bool history_age(const struct history *h, uint64_t time, uint64_t *seconds);
 /* Sets how long ago a frame of this channel was delivered. Returns false if none was. */
@@ -216,28 +278,35 @@ enum outcome frames_present(struct device *d, const struct frame *frame);
 /* Parts of frames_send and of frames_present: what follows from the answer of the endpoint about a frame. */
 void frames_sent(struct device *d, const macsec_sent *sent);
 enum outcome frames_judged(struct device *d, const macsec_received *got, const struct frame *frame);
+/* Delivers what the endpoint has accepted, while the controlled port is on. */
+enum outcome frames_deliver(struct device *d, const uint8_t *octets, size_t length);
 
-/* ---- held_frames.c: frames of LINK that wait for a reservation ---- */
+/* ---- held_frames.c: frames of LINK that wait for a reservation, and accepted ones that wait for these ---- */
 
 /* The most of them, and of their octets. */
 enum { HELD_FRAMES = 1024, HELD_OCTETS = 1 << 20 };
 struct held_frames {
     unsigned count, ticks; /* how many; and of the clock, since the first of them came or another one passed */
-    unsigned left;         /* that are to be given to the endpoint once more */
+    bool again;            /* is one of them being given to the endpoint once more? */
     uint64_t grants;       /* how many reservations had been reported when it was kept */
     size_t used;
-    uint16_t lengths[HELD_FRAMES];
+    struct held_frame {
+        uint8_t sci[8]; /* its channel */
+        bool accepted;  /* is it what the endpoint has accepted, and not a frame that is to be judged again? */
+        uint16_t length;
+    } frames[HELD_FRAMES];
     uint8_t octets[HELD_OCTETS];
 };
 
-/* Keeps a copy of a frame. Returns false if there is no space. */
-bool held_frames_keep(struct device *d, const uint8_t *octets, size_t length);
+/* Keeps a copy of what this has. Returns false if there is no space. */
+bool held_frames_keep(struct device *d, const struct held_frame *about, const uint8_t *octets);
+/* Do frames of this channel wait? After a change of keys they can be of the association before. */
+bool held_frames_wait(const struct device *d, const uint8_t sci[8]);
 /* Gives the frames that are kept to the endpoint if a reservation was reported. To be called before a later frame is
  * given to it, and when a reservation may have been reported. Returns GONE if TAP is. */
 enum outcome held_frames_give(struct device *d);
-unsigned held_frames_count(const struct device *d);
-/* To be called each second: drops the kept frames that have waited too long. */
-void held_frames_tick(struct device *d);
+/* To be called each second: drops the kept frames that have waited too long. Returns GONE if TAP is. */
+enum outcome held_frames_tick(struct device *d);
 
 /* ---- floods.c: frames of LINK that are dropped ---- */
 

@@ -1,6 +1,5 @@
-/* A second endpoint. It is needed when the first one has taken all the keys that an endpoint can take, or when lines
- * that are carried out all or none give the number of a retired key again. Then a copy of the first takes over between
- * two frames, so that none is lost.
+/* A second endpoint, which tries lines that are carried out all or none. If such lines install the octets of a retired
+ * key again, which the first endpoint refuses, the second one takes over between two frames, so that none is lost.
  *
  * The copy is made with the journal, as after a restart, with one difference. For each key that the first endpoint
  * sends under, it reads the number up to which the first has sent, and not the reserved one; for each receive
@@ -216,7 +215,7 @@ macsec_endpoint *handover_begin(struct device *d) {
     macsec_record records[MACSEC_AN_COUNT];
     size_t count = sent_records(d, records);
     uint32_t status;
-    numbers_note_accepted(d->numbers, d->endpoint, NULL); /* also of the associations that are not in the copy */
+    numbers_note_all(d->numbers, d->endpoint); /* also of the associations that are not in the copy */
     status = numbers_configure(d->numbers, e, &d->end, records, count);
     if (status == MACSEC_OK)
         status = copy(d, e);
@@ -227,15 +226,10 @@ macsec_endpoint *handover_begin(struct device *d) {
     return NULL;
 }
 
-bool handover_take(struct device *d, macsec_endpoint *e, bool anyhow) {
-    if (!numbers_reserve_soon(d->numbers, e, HANDOVER_WAITS) && !anyhow) {
-        message("the second endpoint does not take over: its packet numbers can't be reserved");
-        macsec_free(e);
-        return false;
-    }
+void handover_take(struct device *d, macsec_endpoint *e) {
+    (void)numbers_reserve_soon(d->numbers, e, HANDOVER_WAITS); /* a failure is reported */
     workers_forget(d->workers);
     totals_carry(d);
     macsec_free(d->endpoint);
     d->endpoint = e;
-    return true;
 }

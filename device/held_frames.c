@@ -1,12 +1,15 @@
 /* Frames of LINK that wait for a reservation: they are given to the endpoint again when one is on the disk, in their
- * order and before later frames. So a burst, or a peer that starts again, loses no frame. */
+ * order and before later frames of their channel. So a burst, or a peer that starts again, loses no frame. A later
+ * frame of another association, which has a reservation, is accepted at once and delivered after them. */
 #include "device.h"
 
-/* Frames wait until the clock has ticked so often since one of them passed. */
-enum { TICKS = 2 };
+/* Frames wait until the clock has ticked so often since one of them passed: the first ones of an association can need
+ * three records, with the one that is under way, and a disk can take more than a second for each. */
+enum { TICKS = 6 };
 
-bool held_frames_keep(struct device *d, const uint8_t *octets, size_t length) {
+bool held_frames_keep(struct device *d, const struct held_frame *about, const uint8_t *octets) {
     struct held_frames *h = &d->held_frames;
+    size_t length = about->length;
     if (h->count == HELD_FRAMES || length > HELD_OCTETS - h->used)
         return false;
     if (h->count == 0) {
@@ -14,9 +17,17 @@ bool held_frames_keep(struct device *d, const uint8_t *octets, size_t length) {
         h->ticks = 0;
     }
     memmove(h->octets + h->used, octets, length); /* it may be one of them */
-    h->lengths[h->count++] = (uint16_t)length;
+    h->frames[h->count++] = *about;
     h->used += length;
     return true;
+}
+
+bool held_frames_wait(const struct device *d, const uint8_t sci[8]) {
+    const struct held_frames *h = &d->held_frames;
+    for (unsigned i = 0; i < h->count; i++)
+        if (memcmp(h->frames[i].sci, sci, sizeof h->frames[i].sci) == 0)
+            return true;
+    return false;
 }
 
 /* Has a reservation been reported since the first of them was kept? */
@@ -24,8 +35,19 @@ static bool is_granted(const struct device *d) {
     return d->held_frames.count > 0 && d->held_frames.grants != numbers_grants(d->numbers);
 }
 
-/* Gives all frames to the endpoint. Frames that still lack a reservation are kept again. If a reservation is reported
- * meanwhile, the frames after them are kept too: else these would overtake them. */
+static enum outcome give(struct device *d, const struct held_frame *it, const uint8_t *octets) {
+    const struct frame frame = { octets, it->length };
+    enum outcome outcome;
+    if (it->accepted)
+        return frames_deliver(d, octets, it->length);
+    d->held_frames.again = true;
+    outcome = frames_present(d, &frame);
+    d->held_frames.again = false;
+    return outcome;
+}
+
+/* Gives all frames to the endpoint, or to the client. Frames that still lack a reservation are kept again. If a
+ * reservation is reported meanwhile, the frames after them are kept too: else these would overtake them. */
 static enum outcome give_all(struct device *d) {
     struct held_frames *h = &d->held_frames;
     unsigned count = h->count, ticks = h->ticks;
@@ -34,12 +56,12 @@ static enum outcome give_all(struct device *d) {
     h->count = 0;
     h->used = 0;
     for (unsigned i = 0; i < count; i++) {
-        struct frame frame = { h->octets + at, h->lengths[i] };
-        at += frame.length;
-        h->left = count - 1 - i;
-        if (is_granted(d))
-            (void)held_frames_keep(d, frame.octets, frame.length); /* there is space */
-        else if (frames_present(d, &frame) == GONE)
+        struct held_frame it = h->frames[i];
+        const uint8_t *octets = h->octets + at;
+        at += it.length;
+        if (is_granted(d) || (it.accepted && held_frames_wait(d, it.sci)))
+            (void)held_frames_keep(d, &it, octets); /* there is space */
+        else if (give(d, &it, octets) == GONE)
             outcome = GONE;
     }
     if (h->count == count)
@@ -55,19 +77,22 @@ enum outcome held_frames_give(struct device *d) {
     return outcome;
 }
 
-unsigned held_frames_count(const struct device *d) {
-    return d->held_frames.count + d->held_frames.left;
-}
-
-void held_frames_tick(struct device *d) {
+enum outcome held_frames_tick(struct device *d) {
     macsec_received dropped = MACSEC_RECEIVED_INIT;
     struct held_frames *h = &d->held_frames;
+    enum outcome outcome = DONE;
+    const uint8_t *octets = h->octets;
     if (h->count == 0 || h->grants != numbers_grants(d->numbers) || ++h->ticks < TICKS)
-        return;
-    d->counts.link_in += h->count;
-    d->counts.link_no_reservation += h->count;
+        return DONE;
+    for (const struct held_frame *it = h->frames; it < h->frames + h->count; octets += it++->length) {
+        if (it->accepted && frames_deliver(d, octets, it->length) == GONE)
+            outcome = GONE;
+        d->counts.link_in += !it->accepted;
+        d->counts.link_no_reservation += !it->accepted;
+    }
     dropped.verdict = MACSEC_VERDICT_NO_RESERVATION;
-    history_received(&d->history, &dropped);
+    history_received(&d->history, &dropped, NULL);
     h->count = 0;
     h->used = 0;
+    return outcome;
 }

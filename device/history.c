@@ -1,6 +1,9 @@
 /* When frames last went each way, and why the last one was dropped: for people who look at a running device. */
 #include "frames.h"
 
+/* Where a frame has its EtherType. */
+enum { TYPE_AT = 12 };
+
 /* The time by which a frame is noted. */
 static uint64_t now(const struct history *h) {
     return h->seconds + 1;
@@ -32,11 +35,20 @@ static struct heard *place_of(struct history *h, const uint8_t sci[8]) {
     return oldest;
 }
 
-void history_received(struct history *h, const macsec_received *got) {
-    if (!got->delivered)
+static void keep_tag(struct history *h, const struct frame *frame) {
+    size_t length = frame != NULL && frame->length > TYPE_AT ? frame->length - TYPE_AT : 0;
+    memset(h->tag, 0, sizeof h->tag);
+    if (length > 0)
+        memcpy(h->tag, frame->octets + TYPE_AT, length < sizeof h->tag ? length : sizeof h->tag);
+}
+
+void history_received(struct history *h, const macsec_received *got, const struct frame *frame) {
+    if (!got->delivered) {
         drop(h, true, got->verdict);
-    else if (got->has_sa)
+        keep_tag(h, frame);
+    } else if (got->has_sa) {
         place_of(h, got->sci)->time = now(h);
+    }
 }
 
 bool history_age(const struct history *h, uint64_t time, uint64_t *seconds) {

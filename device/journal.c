@@ -17,9 +17,7 @@
 #define OPEN_ATTEMPTS 8
 
 static int failed(struct journal_fault *fault, const char *step, int error) {
-    fault->step = step;
-    fault->error = error;
-    fault->status = MACSEC_OK;
+    *fault = (struct journal_fault){ step, error, MACSEC_OK };
     return -1;
 }
 
@@ -152,8 +150,15 @@ static bool append(struct journal *journal) {
     return is_whole(journal) && write_all(journal->file, journal->records, journal->call.length, journal->call.at);
 }
 
+/* Did a call make octets durable? A bad disk can say ENODATA, which means here that the file was cut. */
+static bool is_synced(int result) {
+    if (result != 0 && errno == ENODATA)
+        errno = EIO;
+    return result == 0;
+}
+
 static bool sync_file(struct journal *journal) {
-    return fdatasync(journal->file) == 0;
+    return is_synced(fdatasync(journal->file));
 }
 
 static bool look_after(struct journal *journal) {
@@ -196,7 +201,7 @@ static bool fill_new(struct journal *journal) {
 }
 
 static bool sync_new(struct journal *journal) {
-    return fsync(journal->new_file) == 0;
+    return is_synced(fsync(journal->new_file));
 }
 
 static bool rename_new(struct journal *journal) {
@@ -208,7 +213,7 @@ static bool rename_new(struct journal *journal) {
 }
 
 static bool sync_folder(struct journal *journal) {
-    return fsync(journal->folder) == 0;
+    return is_synced(fsync(journal->folder));
 }
 
 /* Makes the call that is next. Returns 0, or -1 if it does not succeed. */
@@ -236,6 +241,15 @@ static int make_call(struct journal *journal, struct journal_fault *fault) {
 
 /* ---- Creating ---- */
 
+/* The folder can be as new as the journal, and then its name is made durable too. Who may not open the folder above has
+ * not made it. */
+static int sync_above(const struct journal *journal, struct journal_fault *fault) {
+    int above = openat(journal->folder, "..", O_RDONLY | O_DIRECTORY | O_CLOEXEC);
+    int error = above < 0 ? errno : is_synced(fsync(above)) ? 0 : errno;
+    close_file(&above);
+    return error == 0 || error == EACCES ? 0 : failed(fault, "sync folder above", error);
+}
+
 int journal_create(const char *path, struct journal_fault *fault) {
     uint8_t salt[24];
     macsec_record records[2];
@@ -249,6 +263,8 @@ int journal_create(const char *path, struct journal_fault *fault) {
     journal.call = (macsec_journal_call){ .length = sizeof records, .step = MACSEC_STEP_CREATING };
     for (; result == 0 && journal.call.step <= MACSEC_STEP_SYNCING_FOLDER; journal.call.step++)
         result = make_call(&journal, fault);
+    if (result == 0)
+        result = sync_above(&journal, fault);
     /* The file is still locked, so nobody uses it. Where this fails too, it stays. */
     if (result != 0 && (journal.file >= 0 || journal.new_file >= 0))
         (void)unlinkat(journal.folder, journal.file >= 0 ? journal.name : journal.new_name, 0);
@@ -297,10 +313,7 @@ static int begin(struct journal *journal, uint32_t limit, struct journal_fault *
 
 int journal_open(struct journal *journal, const char *path, uint32_t limit, struct journal_fault *fault) {
     int result = 1;
-    memset(journal, 0, sizeof *journal);
-    journal->lock = (pthread_mutex_t)PTHREAD_MUTEX_INITIALIZER;
-    journal->file = journal->new_file = -1;
-    journal->length = -1;
+    *journal = (struct journal){ .lock = PTHREAD_MUTEX_INITIALIZER, .length = -1, .file = -1, .new_file = -1 };
     if (open_folder(journal, path, fault) != 0)
         return -1;
     for (int attempt = 0; result == 1 && attempt < OPEN_ATTEMPTS; attempt++) {

@@ -21,9 +21,8 @@
  *            wait a second before the next call.
  * DAMAGE     If one sector is damaged, no record is lost, or journal_open refuses the file (MACSEC_E_JOURNAL_DAMAGED).
  *            Then nobody knows which packet numbers were used: install new keys at both ends, and create another
- *            journal. A crash makes no such damage.
- * NOT SHOWN  Damage of both copies of a record, records that are missing at the end, an older copy of the file, the
- *            journal of another host, and a disk that loses what it reported as written are not noticed.
+ *            journal. A crash makes no such damage. A journal of version 1.0.0 is not tested so, before it is replaced.
+ *            docs/JOURNAL.md says what is not noticed, and what a disk must promise.
  * CUT        If another program has changed the length of the file, journal_write fails (ENODATA). Then, and when
  *            journal_is_cut says so, replace the file (`anew`).
  * LENGTH     Names of old keys stay, unless macsec_journal_let_go takes them out. If one record for each name does not

@@ -47,18 +47,12 @@ static void carry_out(struct journal_writer *s) {
 
 /* ---- The thread ---- */
 
-/* The counter of an eventfd can't be full here. */
-static void tell(const struct journal_writer *s) {
-    const uint64_t one = 1;
-    (void)TEMP_FAILURE_RETRY(write(s->events, &one, sizeof one));
-}
-
 /* Waits for an order, or looks at the file. */
 static void wait_for_order(struct journal_writer *s) {
     struct timespec end;
     (void)clock_gettime(CLOCK_MONOTONIC, &end);
     end.tv_sec += LOOKS;
-    if (pthread_cond_timedwait(&s->changed, &s->lock, &end) != ETIMEDOUT || !s->looks)
+    if (pthread_cond_clockwait(&s->changed, &s->lock, CLOCK_MONOTONIC, &end) != ETIMEDOUT || !s->looks)
         return;
     (void)pthread_mutex_unlock(&s->lock);
     s->looks = !journal_is_cut(s->journal);
@@ -66,12 +60,12 @@ static void wait_for_order(struct journal_writer *s) {
     if (s->looks)
         return;
     s->cut = true;
-    tell(s);
+    (void)eventfd_write(s->events, 1); /* its counter can't be full */
 }
 
 static void *work(void *argument) {
     struct journal_writer *s = argument;
-    int confined = confine_calls(JOURNAL_THREAD);
+    int confined = confine_calls(JOURNAL_THREAD, s->events, -1);
     (void)pthread_mutex_lock(&s->lock);
     s->confined = confined;
     s->begun = true;
@@ -86,7 +80,7 @@ static void *work(void *argument) {
         (void)pthread_mutex_lock(&s->lock);
         s->state = CARRIED_OUT;
         (void)pthread_cond_broadcast(&s->changed);
-        tell(s);
+        (void)eventfd_write(s->events, 1);
     }
     (void)pthread_mutex_unlock(&s->lock);
     return NULL;
@@ -94,28 +88,15 @@ static void *work(void *argument) {
 
 /* ---- Opening ---- */
 
-static int failed(int error) {
-    errno = error;
-    return message_of_errno("the thread of the journal");
-}
-
 int journal_writer_open(struct journal_writer **s, struct journal *journal) {
-    struct journal_writer *it = calloc(1, sizeof *it);
-    pthread_condattr_t attributes;
-    int error;
-    *s = it;
+    struct journal_writer *it = *s = calloc(1, sizeof *it);
     if (it == NULL)
-        return failed(ENOMEM);
+        return message_of_memory();
     it->journal = journal;
+    it->lock = (pthread_mutex_t)PTHREAD_MUTEX_INITIALIZER;
+    it->changed = (pthread_cond_t)PTHREAD_COND_INITIALIZER;
     it->events = eventfd(0, EFD_NONBLOCK | EFD_CLOEXEC);
-    if (it->events < 0)
-        return failed(errno);
-    if ((error = pthread_condattr_init(&attributes)) == 0 &&
-        (error = pthread_condattr_setclock(&attributes, CLOCK_MONOTONIC)) == 0 &&
-        (error = pthread_cond_init(&it->changed, &attributes)) == 0)
-        error = pthread_mutex_init(&it->lock, NULL);
-    (void)pthread_condattr_destroy(&attributes);
-    return error == 0 ? 0 : failed(error);
+    return it->events >= 0 ? 0 : message_of_errno("the thread of the journal");
 }
 
 int journal_writer_start(struct journal_writer *s) {
@@ -125,8 +106,9 @@ int journal_writer_start(struct journal_writer *s) {
         error = pthread_attr_setstacksize(&attributes, STACK);
     if (error == 0)
         error = pthread_create(&s->thread, &attributes, work, s);
+    errno = error;
     if (error != 0)
-        return failed(error);
+        return message_of_errno("the thread of the journal");
     (void)pthread_attr_destroy(&attributes);
     s->runs = true;
     (void)pthread_mutex_lock(&s->lock);
@@ -163,20 +145,19 @@ void journal_writer_order(struct journal_writer *s, size_t count, bool anew) {
 
 bool journal_writer_is_done(struct journal_writer *s, struct saved *saved) {
     uint64_t count;
-    bool done, cut;
+    bool done;
     if (read(s->events, &count, sizeof count) < 0 && errno != EAGAIN && errno != EINTR)
         message_of_errno("the thread of the journal");
     (void)pthread_mutex_lock(&s->lock);
     done = s->state == CARRIED_OUT;
-    cut = s->cut;
-    s->cut = false;
     if (done) {
         *saved = s->saved;
         s->state = IDLE;
         s->busy = false;
     }
+    saved->cut = s->cut;
+    s->cut = false;
     (void)pthread_mutex_unlock(&s->lock);
-    saved->cut = cut;
     return done;
 }
 
@@ -192,7 +173,7 @@ void journal_writer_wait(struct journal_writer *s, int milliseconds) {
     }
     (void)pthread_mutex_lock(&s->lock);
     while (s->state == ORDERED && error == 0)
-        error = pthread_cond_timedwait(&s->changed, &s->lock, &end);
+        error = pthread_cond_clockwait(&s->changed, &s->lock, CLOCK_MONOTONIC, &end);
     (void)pthread_mutex_unlock(&s->lock);
 }
 

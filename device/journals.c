@@ -85,10 +85,7 @@ static int compare(const struct config *c, const char *path, const uint8_t *octe
         return message_wrong("key %u has packet numbers in %s too: both would use the same ones. Install new keys at "
                              "one of the two",
                              it.command.key, path);
-    if (status != MACSEC_E_MEMORY)
-        return 0;
-    message("%s: out of memory", path);
-    return ENDS_FAILED;
+    return status == MACSEC_E_MEMORY ? message_of_memory() : 0;
 }
 
 /* ---- The other journals ---- */
@@ -100,6 +97,36 @@ static uint8_t *read_file(const char *path, size_t *length) {
     if (file >= 0)
         (void)close(file); /* it was only read */
     return octets;
+}
+
+/* The first octets of the salt of a journal, as text. It is empty if the file can't be read. */
+static const char *salt_of(const char *path) {
+    static char salt[SCI_TEXT];
+    size_t length = 0;
+    uint8_t *octets = read_file(path, &length);
+    salt[0] = '\0';
+    for (size_t i = 0; octets != NULL && length >= MACSEC_RECORD_LENGTH && i < SCI_TEXT / 2; i++)
+        snprintf(salt + 2 * i, sizeof salt - 2 * i, "%02x", octets[SALT_AT + i]);
+    free(octets);
+    return salt;
+}
+
+const char *journals_misnamed(const char *path, const char *named) {
+    static char text[256];
+    const char *salt = salt_of(path);
+    if (named[0] == '\0' || strcmp(salt, named) == 0)
+        return NULL;
+    snprintf(text, sizeof text,
+             "is %s, and not %s: put the journal of this host there, or install new keys at both ends and write "
+             "`device journal %s`",
+             salt, named, salt);
+    return text;
+}
+
+void journals_print(const char *name) {
+    char path[PATH_MAX];
+    if (journals_path(path, sizeof path, name) && salt_of(path)[0] != '\0')
+        printf("device journal %s\n", salt_of(path));
 }
 
 /* Does the library begin with the octets of a file? Returns its status. */
@@ -160,25 +187,13 @@ const char *journals_fault(const char *path) {
     return fault;
 }
 
-/* Compares with the octets of a journal. An endpoint reads each valid record of a damaged one too, after a header. */
-static int compare_octets(const struct config *c, const char *path, uint8_t *octets, size_t length) {
-    uint32_t status = test_octets(octets, length);
-    macsec_record header;
-    int result;
-    if (status == MACSEC_E_NOT_JOURNAL)
-        return 0;
-    (void)macsec_journal_header(octets + SALT_AT, &header); /* it always succeeds */
-    memcpy(octets, header.octets, sizeof header.octets);
-    result = compare(c, path, octets, length);
-    if (result == 0 && status == MACSEC_E_JOURNAL_DAMAGED)
-        message("%s is damaged, so not all its keys are compared", path);
-    return result;
-}
-
-/* Compares with one journal. It can be written meanwhile. */
+/* Compares with one journal, which can be written meanwhile. An endpoint reads each valid record of a damaged one too,
+ * after a header. */
 static int compare_file(const struct config *c, const char *folder, const char *name) {
     char path[PATH_MAX];
     uint8_t *octets;
+    macsec_record header;
+    uint32_t status = MACSEC_E_NOT_JOURNAL;
     size_t length;
     int result = 0;
     if (snprintf(path, sizeof path, "%s/%s", folder, name) >= (int)sizeof path)
@@ -187,7 +202,14 @@ static int compare_file(const struct config *c, const char *folder, const char *
     if (octets == NULL)
         message("%s can't be read, so keys are not compared with it", path);
     else
-        result = compare_octets(c, path, octets, length);
+        status = test_octets(octets, length);
+    if (status != MACSEC_E_NOT_JOURNAL) {
+        (void)macsec_journal_header(octets + SALT_AT, &header); /* it always succeeds */
+        memcpy(octets, header.octets, sizeof header.octets);
+        result = compare(c, path, octets, length);
+    }
+    if (result == 0 && status == MACSEC_E_JOURNAL_DAMAGED)
+        message("%s is damaged, so not all its keys are compared", path);
     free(octets);
     return result;
 }

@@ -80,12 +80,20 @@ enum effect lines_effect(uint32_t kind) {
     return NO_EFFECT;
 }
 
+bool lines_lack_name(const struct numbers *n, const macsec_endpoint *e, const macsec_command *c) {
+    return lines_effect(c->kind) == BEGINS_SA && numbers_is_full(n) && !numbers_has_name(n, e, c);
+}
+
 uint32_t lines_carry_out(struct numbers *n, macsec_endpoint *e, const macsec_command *c, uint64_t *raised) {
     enum effect effect = lines_effect(c->kind);
     uint32_t status;
     *raised = 0;
     if (effect == ENDS_SA)
         numbers_note_accepted(n, e, c->sci);
+    if (c->kind == MACSEC_COMMAND_TX_DEL)
+        numbers_note_sent(n, e);
     status = macsec_carry_out(e, c);
+    if (status == MACSEC_E_KEY_NUMBER_USED)
+        status = macsec_renew_key(e, &c->sak); /* the number may be that of a retired key */
     return status == MACSEC_E_PN_FLOOR && effect == BEGINS_SA ? begin_above(e, c, raised) : status;
 }

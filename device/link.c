@@ -10,9 +10,6 @@ enum { TAG = 4, TAG_AT = 12 };
 /* The octets that the socket can hold until macsecd reads them: some 2,000 frames of the usual length. */
 enum { BUFFER = 4 << 20 };
 
-/* The longest frame that the system makes of segments, and VIRTIO_NET_HDR_GSO_UDP_L4, which older headers lack. */
-enum { WHOLE = LINK_BUFFER - TAG - 1, UDP_SEGMENTS = 5 };
-
 static int set(const struct link *l, int option, const void *value, socklen_t length, const char *what) {
     return setsockopt(l->socket, SOL_PACKET, option, value, length) == 0 ? 0 : message_of_errno("LINK: %s", what);
 }
@@ -105,25 +102,9 @@ static bool vlan_tag(struct msghdr *header, uint8_t tag[TAG]) {
     return false;
 }
 
-/* What the system left to a network card that is not there. A frame that is longer than the buffer is left alone. */
-static struct unfinished unfinished(struct received *r, size_t length) {
-    const struct virtio_net_hdr *v = &r->about;
-    uint8_t kind = v->gso_type & (uint8_t)~VIRTIO_NET_HDR_GSO_ECN;
-    struct unfinished u = { .octets = r->octets + TAG, .length = length };
-    if (length > WHOLE)
-        return u;
-    u.lacks_sum = (v->flags & VIRTIO_NET_HDR_F_NEEDS_CSUM) != 0;
-    u.sum_start = v->csum_start;
-    u.sum_at = (uint16_t)(v->csum_start + v->csum_offset);
-    u.is_udp = kind == UDP_SEGMENTS;
-    if (u.is_udp || kind == VIRTIO_NET_HDR_GSO_TCPV4 || kind == VIRTIO_NET_HDR_GSO_TCPV6)
-        u.segment = v->gso_size;
-    return u;
-}
-
 static struct unfinished frame_of(struct received *r, size_t length, struct msghdr *header) {
     uint8_t tag[TAG];
-    struct unfinished frame = unfinished(r, length);
+    struct unfinished frame = segments_unfinished(&r->about, r->octets + TAG, length);
     if (length < TAG_AT || !vlan_tag(header, tag))
         return frame;
     memmove(r->octets, r->octets + TAG, TAG_AT);

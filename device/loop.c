@@ -7,7 +7,7 @@
 #include <sys/timerfd.h>
 
 /* What an event is about. Clients are numbered from CLIENT on. */
-enum { TAP, LINK, SIGNALS, CLOCK, RTNETLINK, LISTENER, JOURNAL, WORKERS, CLIENT };
+enum { TAP, LINK, SIGNALS, CLOCK, RTNETLINK, LISTENER, JOURNAL, WORKERS, OVER, CLIENT };
 
 enum { EVENTS = CLIENT + CLIENTS };
 
@@ -39,7 +39,7 @@ static int open_clock(struct device *d) {
 }
 
 int loop_open(struct device *d) {
-    const int *const files[WORKERS] = { &d->tap.file, &d->link.socket,      &d->signals,
+    const int *const files[JOURNAL] = { &d->tap.file, &d->link.socket,      &d->signals,
                                         &d->clock,    &d->rtnetlink.socket, &d->control.listener };
     RETURN_IF_FAILED(open_clock(d));
     d->events = epoll_create1(EPOLL_CLOEXEC);
@@ -48,6 +48,8 @@ int loop_open(struct device *d) {
     for (uint32_t i = 0; i < JOURNAL; i++)
         RETURN_IF_FAILED(watch(d, EPOLL_CTL_ADD, *files[i], EPOLLIN, i));
     RETURN_IF_FAILED(watch(d, EPOLL_CTL_ADD, numbers_file(d->numbers), EPOLLIN, JOURNAL));
+    if (d->over.socket >= 0)
+        RETURN_IF_FAILED(watch(d, EPOLL_CTL_ADD, d->over.socket, EPOLLIN, OVER));
     return d->workers == NULL ? 0 : watch(d, EPOLL_CTL_ADD, workers_file(d->workers), EPOLLIN, WORKERS);
 }
 
@@ -108,7 +110,7 @@ static int on_clock(struct device *d) {
         return 0;
     d->history.seconds += times;
     numbers_tick(d->numbers, d->endpoint);
-    held_frames_tick(d);
+    RETURN_IF_FAILED(end_of(d, held_frames_tick(d)));
     floods_say(d);
     link_count_lost(&d->link, &d->counts);
     floods_end(d);
@@ -121,12 +123,14 @@ static int watch_client(struct device *d, int index, int operation, uint32_t eve
     return watch(d, operation, d->control.clients[index], events, CLIENT + (uint32_t)index);
 }
 
-/* While a client's answer waits, its next request is not read. A connection that has ended needs no answer. */
+/* While a client waits, its next request is not read. A connection that has ended needs no answer. */
 static int on_client(struct device *d, int index, uint32_t events) {
-    if (d->control.clients[index] < 0 || (waits_for(d, index) && (events & (EPOLLERR | EPOLLHUP)) == 0))
+    bool has_ended = (events & (EPOLLERR | EPOLLHUP)) != 0;
+    if (d->control.clients[index] < 0 || (waits_for(d, index) && !has_ended))
         return 0;
     waits_client_gone(d, index);
-    (void)control_answer(d, index);
+    if (control_may_read(d, index, has_ended))
+        (void)control_answer(d, index);
     return waits_for(d, index) ? watch_client(d, index, EPOLL_CTL_MOD, 0) : 0;
 }
 
@@ -160,6 +164,9 @@ static int on_event(struct device *d, const struct epoll_event *event) {
         return on_clock(d);
     case RTNETLINK:
         return rtnetlink_read(d) ? 0 : ENDS_FAILED;
+    case OVER:
+        over_read(d);
+        return 0;
     case LISTENER:
         return on_listener(d);
     case JOURNAL:
@@ -173,9 +180,14 @@ static int on_event(struct device *d, const struct epoll_event *event) {
     }
 }
 
+/* Is a part of what was read from TAP left, and does LINK take it? TAP has no event for it. */
+static bool has_rest(const struct device *d) {
+    return tap_has_rest(&d->tap) && link_waiting(&d->link) == 0;
+}
+
 /* Waits for events. While frames are in rings, it does jobs if there are none, and finished frames end the wait. */
 static int wait_for_events(struct device *d, struct epoll_event events[EVENTS]) {
-    int count, left = waits_left(d);
+    int count, left = has_rest(d) ? 0 : waits_left(d);
     if (workers_under_way(d->workers, SENDING) + workers_under_way(d->workers, RECEIVING) == 0)
         return epoll_wait(d->events, events, EVENTS, left);
     count = epoll_wait(d->events, events, EVENTS, 0);
@@ -195,6 +207,9 @@ static int turn(struct device *d, bool *blocked) {
         RETURN_IF_FAILED(on_event(d, &events[i]));
     RETURN_IF_FAILED(end_of(d, held_frames_give(d)));
     RETURN_IF_FAILED(end_of(d, parallel_go_on(d)));
+    RETURN_IF_FAILED(end_of(d, tap_flush(&d->tap, &d->counts)));
+    if (has_rest(d))
+        RETURN_IF_FAILED(end_of(d, frames_from_client(d)));
     RETURN_IF_FAILED(send_answers(d));
     return watch_ports(d, blocked);
 }

@@ -73,6 +73,7 @@ static void explain(void) {
         { "Owned", "another connection owns the device, such as that of wpa_supplicant" },
         { "NotAllowed", "the configuration does not allow it: `device allow` in macsecd(8)" },
         { "Empty", "there is no endpoint: `open` makes one" },
+        { "JournalFull", "the journal has no name left for the association: JOURNAL in macsecd(8)" },
     };
     const char *fault = strstr(answer, "fault ");
     size_t length = fault == NULL ? 0 : strcspn(fault + 6, "\n");

@@ -28,9 +28,10 @@ static int start(struct device *d) {
     memory_lock();
     RETURN_IF_FAILED(service_open(&d->service));
     RETURN_IF_FAILED(config_read(&d->config, d->name));
+    RETURN_IF_FAILED(over_open(&d->over, !c->shared && !c->alone));
     RETURN_IF_FAILED(namespace_enter(&d->tap, c, d->name));
     RETURN_IF_FAILED(journals_check_disk(d->name, false));
-    RETURN_IF_FAILED(numbers_open(&d->numbers, d->name, &d->counts));
+    RETURN_IF_FAILED(numbers_open(&d->numbers, d->name, c->journal, &d->counts));
     RETURN_IF_FAILED(journals_lock(d->name));
     RETURN_IF_FAILED(journals_check_keys(c, d->name));
     RETURN_IF_FAILED(link_open(&d->link, c->link));
@@ -43,9 +44,10 @@ static int start(struct device *d) {
     RETURN_IF_FAILED(confine_rights(numbers_folder(d->numbers), c->unconfined));
     RETURN_IF_FAILED(configure(d));
     RETURN_IF_FAILED(numbers_start(d->numbers, d->endpoint)); /* the threads have no other rights either */
+    RETURN_IF_FAILED(service_start(&d->service));
     RETURN_IF_FAILED(workers_start(d->workers));
     RETURN_IF_FAILED(rtnetlink_begin(d));
-    return confine_calls(ENDPOINT_THREAD);
+    return confine_calls(ENDPOINT_THREAD, d->link.socket, d->service.socket);
 }
 
 /* Says which frames pass beside MACsec, which no line of the configuration can close. */
@@ -71,6 +73,7 @@ static int serve(struct device *d) {
     workers_close(d->workers);
     d->workers = NULL;
     numbers_close(d->numbers, d->endpoint);
+    service_close(&d->service);
     return result;
 }
 
@@ -119,8 +122,11 @@ static int own_tap(const char *name) {
 }
 
 static int create_journal(const char *name) {
-    RETURN_IF_FAILED(journals_check_disk(name, true));
-    return numbers_create(name);
+    int result = journals_check_disk(name, true);
+    if (result == 0)
+        result = numbers_create(name);
+    journals_print(name);
+    return result != 0 ? result : messages_flush_output();
 }
 
 int main(int count, char **words) {

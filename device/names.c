@@ -35,20 +35,18 @@ struct name *names_find(const struct names *n, const uint8_t *name) {
     return index == 0 ? NULL : &n->at[index - 1];
 }
 
-/* Adds a name after the others. */
 static void add(struct names *n, const struct name *name) {
     n->at[n->count] = *name;
     n->slots[slot_of(n, name->made.octets)] = (uint32_t)++n->count;
 }
 
-/* The name of a record, which is added if it is new. Returns NULL if there is no room for it. */
-static struct name *name_of(struct names *n, const macsec_record *record) {
-    if (n->slots[slot_of(n, record->octets)] == 0 && n->count < n->room)
+/* The name of a record, which is added if it is new and there are fewer than `most`. Else it is NULL. */
+static struct name *name_of(struct names *n, const macsec_record *record, size_t most) {
+    if (n->slots[slot_of(n, record->octets)] == 0 && n->count < most)
         add(n, &(struct name){ .made = *record, .key = NO_KEY });
     return names_find(n, record->octets);
 }
 
-/* Removes the names that leave. */
 static void remove_leaving(struct names *n) {
     size_t count = n->count;
     memset(n->slots, 0, 2 * n->room * sizeof *n->slots);
@@ -77,15 +75,16 @@ static bool is_old(const struct names *n, const struct name *name) {
     return is_given_up(name) && name->note / 2 + KEPT_NAMES <= n->given_up;
 }
 
-bool names_read(struct names *n, macsec_journal *journal, size_t room) {
+bool names_read(struct names *n, macsec_journal *journal, size_t room, size_t most) {
     macsec_record record;
     n->room = room;
+    n->most = most < room ? most : room;
     n->at = malloc(room * sizeof *n->at);
     n->slots = calloc(2 * room, sizeof *n->slots);
     if (n->at == NULL || n->slots == NULL)
         return false;
     for (size_t i = 0; macsec_journal_record(journal, i, &record) == MACSEC_OK; i++)
-        (void)name_of(n, &record); /* there is room for all */
+        (void)name_of(n, &record, room); /* there is room for all */
     for (size_t i = 0; i < n->count; i++) {
         struct name *note = names_find(n, note_of(&n->at[i]));
         if (note == NULL)
@@ -106,15 +105,21 @@ static void note_change(struct names *n, struct name *name) {
     name->changed = true;
 }
 
+bool names_reach(const struct name *name, uint64_t number) {
+    return name->is_durable && number_of(&name->durable) >= number;
+}
+
 bool names_cover(const struct name *name, const macsec_record *record) {
-    return name->is_durable && number_of(&name->durable) >= number_of(record);
+    return names_reach(name, number_of(record));
 }
 
 struct name *names_note(struct names *n, const macsec_record *record, uint32_t key) {
     bool existed = n->slots[slot_of(n, record->octets)] != 0;
-    struct name *name = name_of(n, record);
+    struct name *name = name_of(n, record, n->most);
     if (name == NULL)
         return NULL;
+    name->is_unused = name->is_unused || !existed;
+    name->leaves = false;
     if (name->key != key) {
         name->key = key;
         name->came_again = name->came_again || existed;
@@ -130,21 +135,88 @@ struct name *names_note(struct names *n, const macsec_record *record, uint32_t k
     return name;
 }
 
-void names_accept(struct names *n, const macsec_record *record) {
+void names_accept(struct names *n, const macsec_record *record, bool has_used) {
     struct name *name = names_find(n, record->octets);
     if (name == NULL)
         return;
     memcpy(name->accepted, record->octets + NAME, sizeof name->accepted);
     name->has_accepted = true;
+    name->is_unused = name->is_unused && !has_used;
 }
+
+/* ---- Names of which no packet number was used ---- */
+
+/* The name of a key that sends, or NULL. */
+static struct name *sent_name(const struct names *n, uint32_t key) {
+    for (size_t i = 0; i < n->count; i++)
+        if (n->at[i].key == key && !n->at[i].is_received)
+            return &n->at[i];
+    return NULL;
+}
+
+void names_begin_sending(struct names *n, const macsec_tx_sa *sa) {
+    struct name *name = sent_name(n, sa->key);
+    if (name != NULL)
+        name->began = sa->next;
+}
+
+void names_sent(struct names *n, const macsec_tx_sa *sa) {
+    struct name *name = sent_name(n, sa->key);
+    if (name != NULL && (sa->next_high != 0 || sa->next != name->began))
+        name->is_unused = false;
+}
+
+void names_note_received(struct name *name, const uint8_t sci[8], uint8_t an) {
+    memcpy(name->sci, sci, sizeof name->sci);
+    name->an = an;
+    name->is_received = true;
+}
+
+static bool is_of(const struct name *name, const uint8_t sci[8], uint8_t an) {
+    return name->is_received && name->an == an && memcmp(name->sci, sci, sizeof name->sci) == 0;
+}
+
+bool names_has(const struct names *n, uint32_t key, const uint8_t *sci, uint8_t an) {
+    if (sci == NULL)
+        return sent_name(n, key) != NULL;
+    for (size_t i = 0; i < n->count; i++)
+        if (n->at[i].key == key && is_of(&n->at[i], sci, an))
+            return true;
+    return false;
+}
+
+/* The name has no key any more. It leaves if no packet number of it was used or accepted. */
+static void detach(struct names *n, struct name *name) {
+    name->key = NO_KEY;
+    name->is_received = name->reserves = false;
+    name->leaves = name->is_unused;
+    if (name->leaves)
+        note_change(n, name);
+}
+
+bool names_end(struct names *n, const macsec_endpoint *e) {
+    bool ends = false;
+    for (size_t i = 0; i < n->count; i++) {
+        struct name *name = &n->at[i];
+        macsec_rx_sa sa;
+        if (!name->is_unused || !name->is_received ||
+            (macsec_get_rx_sa(e, name->sci, name->an, &sa) == MACSEC_OK && sa.key == name->key))
+            continue;
+        detach(n, name);
+        ends = true;
+    }
+    return ends;
+}
+
+/* ---- The end of keys ---- */
 
 void names_give_up(struct names *n, uint32_t key) {
     for (size_t i = 0; i < n->count; i++) {
         struct name *name = &n->at[i];
         if (name->key != key)
             continue;
-        name->key = NO_KEY;
-        if (name->came_again)
+        detach(n, name);
+        if (name->came_again || name->leaves)
             continue;
         name->note = 2 * ++n->given_up;
         name->notes = true;
@@ -154,8 +226,8 @@ void names_give_up(struct names *n, uint32_t key) {
 
 void names_detach(struct names *n, uint32_t key) {
     for (size_t i = 0; i < n->count; i++)
-        if (key == NO_KEY || n->at[i].key == key)
-            n->at[i].key = NO_KEY;
+        if (n->at[i].key != NO_KEY && (key == NO_KEY || n->at[i].key == key))
+            detach(n, &n->at[i]);
 }
 
 /* Takes the records of a name that has changed. Returns how many. */
@@ -175,7 +247,7 @@ size_t names_changes(struct names *n, macsec_journal *journal, macsec_record *ou
     n->changes = 0;
     for (size_t i = 0; i < n->count; i++) {
         struct name *name = &n->at[i];
-        if (is_old(n, name)) {
+        if (name->leaves || is_old(n, name)) {
             (void)macsec_journal_let_go(journal, name->made.octets); /* no order is under way */
             (void)macsec_journal_let_go(journal, note_of(name));
             name->leaves = leaves = true;
@@ -185,8 +257,10 @@ size_t names_changes(struct names *n, macsec_journal *journal, macsec_record *ou
             n->changes += name->changed;
         }
     }
-    if (leaves)
+    if (leaves) {
         remove_leaving(n);
+        n->is_shorter = true;
+    }
     return count;
 }
 

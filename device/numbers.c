@@ -20,6 +20,10 @@ enum { FORGETS = 64 };
 /* From this part of the journal on, its fill is reported: at so many percent. */
 enum { FILLED = 50 };
 
+/* So many more names than lines may add are for the associations that have none yet when the journal is full: an
+ * endpoint has fewer. */
+enum { SPARE = 512 };
+
 /* The fewest packet numbers of a reservation. A test has fewer. */
 #ifndef AMOUNT_MIN
 #define AMOUNT_MIN 65536
@@ -36,6 +40,7 @@ struct numbers {
     struct counts *counts;
     uint64_t grants;               /* how often a reservation of received packet numbers may have been reported */
     bool begun;                    /* may frames come now? */
+    bool lacks;                    /* is it reported that there is no name for an association? */
     macsec_record header;          /* of what an endpoint is made of */
     uint64_t orders, done;         /* how many orders were given, and were carried out */
     uint64_t amount;               /* of a reservation */
@@ -86,8 +91,9 @@ static int explain(const char *path, const char *name, const struct journal_faul
     return message_wrong("if the keys of %s.conf were never used: macsecd --create-journal %s", name, name);
 }
 
-int numbers_open(struct numbers **n, const char *name, struct counts *counts) {
+int numbers_open(struct numbers **n, const char *name, const char *named, struct counts *counts) {
     char path[PATH_MAX];
+    const char *wrong;
     struct journal_fault fault;
     size_t length;
     *n = &the_numbers;
@@ -98,7 +104,10 @@ int numbers_open(struct numbers **n, const char *name, struct counts *counts) {
         return ENDS_WRONG;
     if (journal_open(&the_numbers.journal, path, NUMBERS_FILE_LENGTH, &fault) != 0)
         return explain(path, name, &fault);
-    if (!names_read(&the_numbers.names, &the_numbers.journal.machine, the_numbers.journal.room))
+    if ((wrong = journals_misnamed(path, named)) != NULL)
+        return message_wrong("the journal %s %s", path, wrong);
+    if (!names_read(&the_numbers.names, &the_numbers.journal.machine, the_numbers.journal.room,
+                    numbers_names_max() + SPARE))
         return message_of_memory();
     (void)journal_whole(&the_numbers.journal, (uint8_t *)the_numbers.journal.records, &length);
     the_numbers.header = the_numbers.journal.records[0];
@@ -126,36 +135,98 @@ size_t numbers_names_max(void) {
     return NUMBERS_FILE_LENGTH / MACSEC_RECORD_LENGTH / 8 * 7;
 }
 
+bool numbers_is_full(const struct numbers *n) {
+    return numbers_names(n) >= numbers_names_max();
+}
+
+bool numbers_has_name(const struct numbers *n, const macsec_endpoint *e, const macsec_command *c) {
+    const uint8_t *sci = c->kind == MACSEC_COMMAND_RX_SA ? c->sci : NULL;
+    uint64_t floor = 0;
+    uint32_t status = sci == NULL ? macsec_reserve_tx_floor(e, c->key, &floor)
+                                  : macsec_reserve_rx_floor(e, sci, c->an, c->key, &floor);
+    return status != MACSEC_OK || floor != 0 || names_has(&n->names, c->key, sci, c->an);
+}
+
 /* ---- Orders ---- */
 
 /* Reports why records can't be written, when that changes. */
 static void note_failure(struct numbers *n, const struct journal_fault *fault) {
     n->counts->journal_failed++;
-    if (!n->failed)
+    if (!n->failed && n->grants == 0)
+        report("the journal can't be written, so frames are dropped until it can be", fault);
+    else if (!n->failed)
         report("the journal can't be written, so frames will be dropped when their packet numbers are used up", fault);
     n->failed = n->waits = n->anew = true;
 }
 
-static bool fails_for_room(struct numbers *n) {
-    const struct journal_fault fault = { "names", EFBIG, MACSEC_OK };
-    note_failure(n, &fault);
+/* No name is left for an association: its frames are dropped. The others go on. */
+static bool lacks_name(struct numbers *n) {
+    n->counts->journal_failed++;
+    if (!n->lacks)
+        message("the journal has no name left, so frames of an association are dropped. macsecd(8) says what to do");
+    n->lacks = true;
     return false;
 }
 
+/* The name of a receive association, or NULL. */
+static struct name *received_name(struct numbers *n, const macsec_endpoint *e, const uint8_t sci[8], uint8_t an) {
+    macsec_record record;
+    return macsec_reserve_to_save(e, sci, an, &record) == MACSEC_OK ? names_find(&n->names, record.octets) : NULL;
+}
+
+/* Notes a record for a receive association. Returns false if there is no name for it. */
+static bool note_accepting(struct numbers *n, const macsec_record *record, const uint8_t sci[8], uint8_t an,
+                           uint16_t key) {
+    struct name *name = names_note(&n->names, record, key);
+    if (name == NULL)
+        return lacks_name(n);
+    names_note_received(name, sci, an);
+    name->reserves = true;
+    return true;
+}
+
+/* Does this run reserve for a receive association? */
+static bool reserves_for(struct numbers *n, const macsec_endpoint *e, const uint8_t sci[8], uint8_t an) {
+    const struct name *name = received_name(n, e, sci, an);
+    return name != NULL && name->reserves;
+}
+
+/* Fills up the reservation of a receive association, if an eighth of it or more was used. */
+static void fill_up(struct numbers *n, const macsec_endpoint *e, const uint8_t sci[8], uint8_t an) {
+    uint64_t amount = receive_rates_amount(receive_rates_of(&n->rates, sci), n->slow), part = amount / 4;
+    macsec_record record;
+    macsec_rx_sa sa;
+    if (macsec_get_rx_sa(e, sci, an, &sa) == MACSEC_OK && sa.next_high == 0 &&
+        macsec_reserve_to_accept(e, sci, an, part, sa.next + amount - part, &record) == MACSEC_OK)
+        (void)note_accepting(n, &record, sci, an, sa.key);
+}
+
+/* Each order also fills up what fast channels have used: a disk that becomes slow with this order can take long to come
+ * to the next one. */
+static void accept_more(struct numbers *n, const macsec_endpoint *e) {
+    uint8_t sci[8];
+    for (size_t place = 0; n->begun && macsec_get_rx_sc(e, place, sci) == MACSEC_OK; place++)
+        for (uint8_t an = 0; an < MACSEC_AN_COUNT && receive_rates_is_fast(receive_rates_of(&n->rates, sci)); an++)
+            if (reserves_for(n, e, sci, an))
+                fill_up(n, e, sci, an);
+}
+
 /* Gives an order, if there is something to be written and none is under way. */
-static void order(struct numbers *n) {
+static void order(struct numbers *n, macsec_endpoint *e) {
     size_t count;
     if (n->waits || journal_writer_is_busy(n->writer) || (n->names.changes == 0 && !n->anew))
         return;
+    accept_more(n, e);
     count = names_changes(&n->names, &n->journal.machine, n->journal.records, n->journal.room);
-    if (count == 0 && !n->anew)
-        return;
     n->orders++;
+    if (count == 0 && !n->anew) {
+        n->done = n->orders; /* names have left, and nothing is to be written */
+        return;
+    }
     n->ticks = 0;
     journal_writer_order(n->writer, count, n->anew);
 }
 
-/* Notes how long the disk takes. */
 static void note_seconds(struct numbers *n, double seconds) {
     uint64_t by_rate = LASTS * n->highest, least = AMOUNT_MIN;
     n->slow = seconds > n->slow ? seconds : n->slow - n->slow / FORGETS;
@@ -192,13 +263,14 @@ static bool take_result(struct numbers *n, macsec_endpoint *e) {
     n->grants++;
     if (n->failed)
         message("the journal can be written again");
+    n->names.is_shorter = n->names.is_shorter && !n->anew;
     n->failed = n->anew = false;
     return true;
 }
 
 void numbers_go_on(struct numbers *n, macsec_endpoint *e) {
     do
-        order(n);
+        order(n, e);
     while (take_result(n, e) && !n->waits && (n->names.changes > 0 || n->anew));
     if (n->begun && n->names.changes == 0 && !n->anew && !journal_writer_is_busy(n->writer))
         journals_unlock(); /* a NAME that compares now sees the first records */
@@ -230,7 +302,7 @@ static void reserve_for(struct numbers *n, macsec_endpoint *e, uint8_t an) {
             return;
     }
     if (names_note(&n->names, &record, sa.key) == NULL)
-        (void)fails_for_room(n);
+        (void)lacks_name(n);
 }
 
 void numbers_reserve(struct numbers *n, macsec_endpoint *e) {
@@ -238,6 +310,13 @@ void numbers_reserve(struct numbers *n, macsec_endpoint *e) {
     for (uint8_t an = 0; an < MACSEC_AN_COUNT; an++)
         reserve_for(n, e, an);
     numbers_go_on(n, e);
+}
+
+void numbers_begin_to_send(struct numbers *n, macsec_endpoint *e, uint8_t an) {
+    macsec_tx_sa sa;
+    numbers_reserve(n, e);
+    if (macsec_get_tx_sa(e, an, &sa) == MACSEC_OK)
+        names_begin_sending(&n->names, &sa);
 }
 
 void numbers_used(struct numbers *n, macsec_endpoint *e, unsigned frames, bool lacked) {
@@ -255,11 +334,12 @@ static bool may_accept(const macsec_endpoint *e, const uint8_t sci[8], uint8_t a
     return macsec_reserve_to_accept(e, sci, an, 2, 0, &record) != MACSEC_OK;
 }
 
-/* Reserves for a receive association, after the packet number of a frame that was dropped or 0. What is durable already
- * is reported first, as for a transmit association: it may have been reported to an endpoint that did not take over, or
- * when this association was not there. Returns false if nothing more is wanted. */
+/* Reserves for a receive association, after the packet number of a frame or 0. What is durable already is reported
+ * first, as for a transmit association: it may have been reported to an endpoint that did not take over, or when this
+ * association was not there. Returns false if nothing more is wanted. */
 static bool accept_for(struct numbers *n, macsec_endpoint *e, const uint8_t sci[8], uint8_t an, uint64_t pn) {
-    uint64_t amount = receive_rates_amount(receive_rates_of(&n->rates, sci), n->slow);
+    struct receive_rate *rate = receive_rates_of(&n->rates, sci);
+    uint64_t amount = receive_rates_amount(rate, n->slow);
     macsec_rx_sa sa;
     macsec_record record;
     struct name *name;
@@ -267,38 +347,52 @@ static bool accept_for(struct numbers *n, macsec_endpoint *e, const uint8_t sci[
         macsec_reserve_to_accept(e, sci, an, amount, pn, &record) != MACSEC_OK)
         return false;
     name = names_find(&n->names, record.octets);
-    if (name != NULL && name->is_durable && (names_cover(name, &record) || !may_accept(e, sci, an))) {
+    if (name != NULL && name->is_durable &&
+        (names_cover(name, &record) || (names_reach(name, pn) && !may_accept(e, sci, an)))) {
         (void)macsec_reserve_granted(e, &name->durable); /* it is a record */
         n->grants++;
-        (void)names_note(&n->names, &name->durable, sa.key); /* its key is installed: it is not given up */
+        (void)note_accepting(n, &name->durable, sci, an, sa.key);
         if (macsec_reserve_to_accept(e, sci, an, amount, pn, &record) != MACSEC_OK)
             return false;
     }
-    return names_note(&n->names, &record, sa.key) != NULL || fails_for_room(n);
+    if (pn == 0 && receive_rates_is_new(rate))
+        return false;
+    return note_accepting(n, &record, sci, an, sa.key);
 }
 
-/* Reserves for all receive associations, as soon as frames may come. */
+/* Reserves for the receive associations for which this run has reserved before. */
 static void accept_all(struct numbers *n, macsec_endpoint *e) {
     uint8_t sci[8];
-    if (!n->begun)
-        return;
     for (size_t place = 0; macsec_get_rx_sc(e, place, sci) == MACSEC_OK; place++)
         for (uint8_t an = 0; an < MACSEC_AN_COUNT; an++)
-            (void)accept_for(n, e, sci, an, 0);
+            if (reserves_for(n, e, sci, an))
+                (void)accept_for(n, e, sci, an, 0);
 }
 
-void numbers_accept(struct numbers *n, macsec_endpoint *e) {
-    accept_all(n, e);
+/* An association gets a name with its first valid frame, so that neither clients nor starts use up names and packet
+ * numbers. It gets one at once while frames of its channel come: they will come under a new key too, perhaps more than
+ * can wait for the disk. A name that is there is noted: its key is installed, so it is not given up. */
+void numbers_begin_to_receive(struct numbers *n, macsec_endpoint *e, const uint8_t sci[8], uint8_t an) {
+    struct name *name = received_name(n, e, sci, an);
+    macsec_rx_sa sa;
+    if (macsec_get_rx_sa(e, sci, an, &sa) != MACSEC_OK)
+        return;
+    if (name != NULL && (name = names_note(&n->names, &name->made, sa.key)) != NULL)
+        names_note_received(name, sci, an);
+    if (receive_rates_goes_on(receive_rates_of(&n->rates, sci)))
+        (void)accept_for(n, e, sci, an, sa.next);
     numbers_go_on(n, e);
 }
 
-void numbers_received(struct numbers *n, macsec_endpoint *e, const macsec_received *got, unsigned waiting) {
+void numbers_received(struct numbers *n, macsec_endpoint *e, const macsec_received *got, bool again) {
     bool lacks = got->verdict == MACSEC_VERDICT_NO_RESERVATION, asks;
     struct receive_rate *rate;
     if (!got->has_sa || (!lacks && got->verdict != MACSEC_VERDICT_OK))
         return;
     rate = receive_rates_of(&n->rates, got->sci);
-    asks = lacks ? receive_rates_lacked(rate, n->orders + !journal_writer_is_busy(n->writer), waiting)
+    if (!again)
+        receive_rates_count(rate);
+    asks = lacks ? receive_rates_lacked(rate, n->orders + !journal_writer_is_busy(n->writer), again)
                  : receive_rates_accepted(rate);
     if (!asks)
         return;
@@ -312,7 +406,6 @@ void numbers_received(struct numbers *n, macsec_endpoint *e, const macsec_receiv
 
 void numbers_begin(struct numbers *n, macsec_endpoint *e) {
     n->begun = true;
-    accept_all(n, e);
     numbers_reserve(n, e); /* the first reservation has shown how long the disk takes */
 }
 
@@ -321,8 +414,8 @@ int numbers_start(struct numbers *n, macsec_endpoint *e) {
     return journal_writer_start(n->writer);
 }
 
-/* Has each enabled association a packet number reserved? */
-static bool has_reserved(const macsec_endpoint *e) {
+/* Has each enabled association a packet number reserved, if it has them before a frame lacks one? */
+static bool has_reserved(struct numbers *n, const macsec_endpoint *e) {
     macsec_tx_sa tx;
     macsec_rx_sa rx;
     macsec_record record;
@@ -333,7 +426,8 @@ static bool has_reserved(const macsec_endpoint *e) {
             all = macsec_reserve_wanted(e, an, 2, &record) != MACSEC_OK && all;
     for (size_t place = 0; macsec_get_rx_sc(e, place, sci) == MACSEC_OK; place++)
         for (uint8_t an = 0; an < MACSEC_AN_COUNT; an++)
-            if (macsec_get_rx_sa(e, sci, an, &rx) == MACSEC_OK && rx.on)
+            if (macsec_get_rx_sa(e, sci, an, &rx) == MACSEC_OK && rx.on && reserves_for(n, e, sci, an) &&
+                !receive_rates_is_new(receive_rates_of(&n->rates, sci)))
                 all = may_accept(e, sci, an) && all;
     return all;
 }
@@ -341,14 +435,22 @@ static bool has_reserved(const macsec_endpoint *e) {
 bool numbers_reserve_soon(struct numbers *n, macsec_endpoint *e, int milliseconds) {
     accept_all(n, e);
     numbers_reserve(n, e);
-    if (!has_reserved(e)) {
+    if (!has_reserved(n, e)) {
         journal_writer_wait(n->writer, milliseconds);
         numbers_go_on(n, e);
     }
-    return has_reserved(e) || !n->waits;
+    return has_reserved(n, e) || !n->waits;
 }
 
 /* ---- The end of an association or an endpoint ---- */
+
+/* Has a receive association accepted or delivered a frame? Its next packet number does not say it: without replay
+ * protection lower ones are accepted too. */
+static bool has_accepted(const macsec_endpoint *e, const uint8_t sci[8], uint8_t an) {
+    macsec_rx_counters c;
+    return macsec_get_rx_sa_counters(e, sci, an, &c) != MACSEC_OK ||
+           (c.in_pkts_ok | c.in_pkts_unchecked | c.in_pkts_delayed | c.in_pkts_invalid) != 0;
+}
 
 void numbers_note_accepted(struct numbers *n, const macsec_endpoint *e, const uint8_t *which) {
     uint8_t sci[8];
@@ -357,12 +459,36 @@ void numbers_note_accepted(struct numbers *n, const macsec_endpoint *e, const ui
         for (uint8_t an = 0; an < MACSEC_AN_COUNT; an++)
             if ((which == NULL || memcmp(which, sci, sizeof sci) == 0) &&
                 macsec_reserve_to_save(e, sci, an, &record) == MACSEC_OK)
-                names_accept(&n->names, &record);
+                names_accept(&n->names, &record, has_accepted(e, sci, an));
+}
+
+void numbers_note_sent(struct numbers *n, const macsec_endpoint *e) {
+    macsec_tx_sa sa;
+    for (uint8_t an = 0; an < MACSEC_AN_COUNT; an++)
+        if (macsec_get_tx_sa(e, an, &sa) == MACSEC_OK)
+            names_sent(&n->names, &sa);
+}
+
+void numbers_note_all(struct numbers *n, const macsec_endpoint *e) {
+    numbers_note_accepted(n, e, NULL);
+    numbers_note_sent(n, e);
+}
+
+/* The endpoint still has what was reserved for a deleted association, until it gets a record. If the association comes
+ * again, it may accept nothing by that: the name has left. */
+void numbers_end_receiving(struct numbers *n, macsec_endpoint *e) {
+    static const uint8_t none[NAME];
+    macsec_record record;
+    if (!names_end(&n->names, e))
+        return;
+    (void)macsec_journal_noted(none, 0, &record); /* it always succeeds */
+    (void)macsec_reserve_granted(e, &record);
+    numbers_go_on(n, e);
 }
 
 void numbers_forget(struct numbers *n) {
     names_detach(&n->names, NO_KEY);
-    receive_rates_clear(&n->rates);
+    memset(&n->rates, 0, sizeof n->rates);
 }
 
 /* ---- Keys that are given up ---- */
@@ -387,6 +513,7 @@ static void look_at_fill(struct numbers *n) {
         message("the journal is full to %d percent: it has %zu of at most %zu names. macsecd(8) says what to do",
                 FILLED, count, numbers_names_max());
     n->filled = filled;
+    n->lacks = n->lacks && numbers_is_full(n);
 }
 
 void numbers_tick(struct numbers *n, macsec_endpoint *e) {
@@ -402,12 +529,14 @@ void numbers_tick(struct numbers *n, macsec_endpoint *e) {
     look_at_fill(n);
 }
 
-/* Gives the last orders, and waits for them. */
+/* Gives the last orders, and waits for them. Names that have left are taken out of the file. */
 static void write_last(struct numbers *n, macsec_endpoint *e) {
+    n->begun = false; /* nothing more is reserved */
     for (int i = 0; i < 4; i++) {
         journal_writer_wait(n->writer, LAST);
         n->waits = false;
         numbers_go_on(n, e);
+        n->anew = n->anew || n->names.is_shorter;
         if (!journal_writer_is_busy(n->writer) && n->names.changes == 0 && !n->anew)
             return;
     }

@@ -24,8 +24,14 @@ struct name {
     macsec_record durable; /* the durable one */
     /* What a receive association has accepted, where more is reserved: of that record what follows the name. */
     uint8_t accepted[MACSEC_RECORD_LENGTH - NAME];
-    uint64_t note;     /* the number of the note about it; 0: it was never given up */
-    uint32_t key;      /* the key's number in the endpoint, or NO_KEY */
+    uint64_t note;  /* the number of the note about it; 0: it was never given up */
+    uint64_t began; /* of a transmit association: the packet number that it began at last */
+    uint32_t key;   /* the key's number in the endpoint, or NO_KEY */
+    uint8_t sci[8]; /* of its receive association, with the association number */
+    uint8_t an;
+    bool is_received;  /* is it of a receive association? Known while it has a key. */
+    bool reserves;     /* and does this run reserve for it? */
+    bool is_unused;    /* is it of this run, and has no association of it used or accepted a packet number? */
     bool is_durable;   /* is there a durable record? */
     bool has_accepted; /* is it known what was accepted? */
     bool came_again;   /* was the name in the journal before the key was installed? Then that may happen again */
@@ -36,27 +42,41 @@ struct name {
 
 struct names {
     struct name *at;
-    size_t count, room;
-    uint32_t *slots;   /* of the hash table: 0, or 1 more than the index of a name */
-    size_t changes;    /* how many names have something to be written */
-    uint64_t given_up; /* how many names were given up */
+    size_t count, room; /* how many there are, and can be read */
+    size_t most;        /* how many there can be when one is added */
+    uint32_t *slots;    /* of the hash table: 0, or 1 more than the index of a name */
+    size_t changes;     /* how many names have something to be written */
+    uint64_t given_up;  /* how many names were given up */
+    bool is_shorter;    /* have names left that can still be in the file? */
 };
 
-/* Takes the names of a journal that has room for so many. Returns false if memory runs out. */
-bool names_read(struct names *n, macsec_journal *journal, size_t room);
+/* Takes the names of a journal that has room for so many, to which names are added up to `most`. Returns false if
+ * memory runs out. */
+bool names_read(struct names *n, macsec_journal *journal, size_t room, size_t most);
 /* The name in a record, or NULL if it is new. It is valid until the next call that adds or removes names. */
 struct name *names_find(const struct names *n, const uint8_t *record);
-/* Does a durable record of this name reserve as much? */
+/* Does a durable record of this name reserve this packet number, or as much as this record? */
+bool names_reach(const struct name *name, uint64_t number);
 bool names_cover(const struct name *name, const macsec_record *record);
 /* Notes a record that the library has made for a key of this number. It is written later if it says something new.
  * Returns its name, or NULL if there is no room for it. */
 struct name *names_note(struct names *n, const macsec_record *record, uint32_t key);
-/* Notes what a receive association has accepted, where more is reserved. */
-void names_accept(struct names *n, const macsec_record *record);
+/* The name is of this receive association. */
+void names_note_received(struct name *name, const uint8_t sci[8], uint8_t an);
+/* Notes what a receive association has accepted, where more is reserved, and whether it has accepted a frame. */
+void names_accept(struct names *n, const macsec_record *record, bool has_used);
+/* Notes that a transmit association has begun, and whether it has sent since then. */
+void names_begin_sending(struct names *n, const macsec_tx_sa *sa);
+void names_sent(struct names *n, const macsec_tx_sa *sa);
+/* Has an association under this key a name? It is a receive association if `sci` is not NULL. */
+bool names_has(const struct names *n, uint32_t key, const uint8_t *sci, uint8_t an);
 /* Gives up the names of a key, which will not be installed again. A name that has come again before stays. */
 void names_give_up(struct names *n, uint32_t key);
 /* The number of this key, or of all keys if it is NO_KEY, will be given to another key: names forget it. */
 void names_detach(struct names *n, uint32_t key);
+/* Lets the unused names of receive associations go that are not in the endpoint any more. Returns whether there are
+ * any. */
+bool names_end(struct names *n, const macsec_endpoint *e);
 /* Takes the records that have changed, as many as there is room for, and lets names go. Returns how many. No order may
  * be under way. */
 size_t names_changes(struct names *n, macsec_journal *journal, macsec_record *out, size_t room);
@@ -72,9 +92,11 @@ void names_free(struct names *n);
 /* Of a receive channel. */
 struct receive_rate {
     uint8_t sci[8];
-    uint64_t frames, rate;     /* that were accepted since the last tick; and in a second */
+    uint64_t frames, rate;     /* that came since the last tick; and in a second */
     uint64_t burst;            /* how many to reserve at least, since frames lacked a reservation */
+    uint64_t lacked;           /* frames that did since it was asked for one */
     uint64_t asked;            /* the order before whose end it was asked for them, or 0 */
+    unsigned first;            /* how many frames came in this run, until it is no new channel */
     unsigned unseen, patience; /* frames since the last call of receive_rates_amount, and at most until the next one */
     bool is_used;
 };
@@ -85,16 +107,22 @@ struct receive_rates {
 
 /* The rate of a channel. It is there until the next call with another channel. */
 struct receive_rate *receive_rates_of(struct receive_rates *p, const uint8_t sci[8]);
+/* Have so few frames come in this run that nothing is reserved before a frame lacks it? Are frames coming? And so many
+ * that those of two seconds can't wait? */
+bool receive_rates_is_new(const struct receive_rate *p);
+bool receive_rates_goes_on(const struct receive_rate *p);
+bool receive_rates_is_fast(const struct receive_rate *p);
 /* How many packet numbers to reserve, if a synchronization of the disk takes so many seconds. */
 uint64_t receive_rates_amount(struct receive_rate *p, double slow);
+/* Counts a frame that is accepted or lacks a reservation: once, also if it is given to the endpoint again. */
+void receive_rates_count(struct receive_rate *p);
 /* Notes that a frame was accepted. Returns true if it is time to look whether a reservation is wanted. */
 bool receive_rates_accepted(struct receive_rate *p);
-/* Notes that a frame lacks a reservation while this order of the writer is under way or the next one, and how many
- * frames wait for a reservation. Returns true, once for an order, if one is to be asked for. */
-bool receive_rates_lacked(struct receive_rate *p, uint64_t order, unsigned waiting);
+/* Notes that a frame lacks a reservation while this order of the writer is under way or the next one, and whether it
+ * did before. Returns true if one is to be asked for: once for an order, and whenever twice as many frames lack it. */
+bool receive_rates_lacked(struct receive_rate *p, uint64_t order, bool again);
 /* To be called each second. */
 void receive_rates_tick(struct receive_rates *p);
-void receive_rates_clear(struct receive_rates *p);
 
 /* ---- journal_writer.c: the thread that writes the journal ---- */
 
@@ -127,10 +155,11 @@ bool journal_writer_close(struct journal_writer *s);
 /* ---- numbers.c: packet numbers that outlive a run ---- */
 
 struct numbers;
-/* Makes, and opens, the journal of this name. */
+/* Makes, and opens, the journal of this name. `named` is as for journals_misnamed. */
 int numbers_create(const char *name);
-int numbers_open(struct numbers **n, const char *name, struct counts *counts);
-/* Frames may come from now on: makes all reservations. This waits for the disk, and so do calls before it. */
+int numbers_open(struct numbers **n, const char *name, const char *named, struct counts *counts);
+/* Frames may come from now on: makes all reservations for sending. This waits for the disk, and so do calls before
+ * it. */
 void numbers_begin(struct numbers *n, macsec_endpoint *e);
 /* Does what numbers_begin does, and starts the thread that writes the journal. */
 int numbers_start(struct numbers *n, macsec_endpoint *e);
@@ -151,8 +180,11 @@ void numbers_note_key(struct numbers *n, uint16_t key, bool passes);
 void numbers_note_retired(struct numbers *n, uint16_t key, bool passes);
 /* Makes the reservations that transmit associations want. */
 void numbers_reserve(struct numbers *n, macsec_endpoint *e);
-/* Makes the reservations that receive associations want. */
-void numbers_accept(struct numbers *n, macsec_endpoint *e);
+/* To be called when an association has begun. */
+void numbers_begin_to_send(struct numbers *n, macsec_endpoint *e, uint8_t an);
+void numbers_begin_to_receive(struct numbers *n, macsec_endpoint *e, const uint8_t sci[8], uint8_t an);
+/* To be called when receive associations have ended. */
+void numbers_end_receiving(struct numbers *n, macsec_endpoint *e);
 /* Makes all reservations for an endpoint that is to take over. If an enabled association has nothing reserved, it waits
  * for the disk, at most so long. Returns false if the association still has nothing then, and the journal can't be
  * written. */
@@ -161,13 +193,17 @@ bool numbers_reserve_soon(struct numbers *n, macsec_endpoint *e, int millisecond
 void numbers_used(struct numbers *n, macsec_endpoint *e, unsigned frames, bool lacked);
 /* How often a reservation of received packet numbers may have been reported to the endpoint. */
 uint64_t numbers_grants(const struct numbers *n);
-/* Notes what became of a frame of LINK, and how many frames wait for a reservation; reserves in time. */
-void numbers_received(struct numbers *n, macsec_endpoint *e, const macsec_received *got, unsigned waiting);
+/* Notes what became of a frame of LINK, and whether it had waited for a reservation; reserves in time. */
+void numbers_received(struct numbers *n, macsec_endpoint *e, const macsec_received *got, bool again);
 /* To be called each second: fits the reservations to the rate. */
 void numbers_tick(struct numbers *n, macsec_endpoint *e);
-/* Notes what the receive associations of a channel have accepted, or all if `sci` is NULL. To be called before an
- * association or the endpoint ends. In another endpoint of this run the association begins above that. */
+/* Notes what the receive associations of a channel have accepted. To be called before one ends. In another endpoint of
+ * this run the association begins above that. */
 void numbers_note_accepted(struct numbers *n, const macsec_endpoint *e, const uint8_t *sci);
+/* Notes whether the transmit associations have sent. To be called before one ends. */
+void numbers_note_sent(struct numbers *n, const macsec_endpoint *e);
+/* Both, of all associations. To be called before the endpoint ends. */
+void numbers_note_all(struct numbers *n, const macsec_endpoint *e);
 /* To be called when an endpoint has ended: the numbers of its keys will be given to other keys. */
 void numbers_forget(struct numbers *n);
 /* A ticket for the records that are to be written. */
@@ -177,6 +213,9 @@ bool numbers_is_written(const struct numbers *n, uint64_t ticket);
 /* How many names are in the journal, and how many there can be. */
 size_t numbers_names(const struct numbers *n);
 size_t numbers_names_max(void);
+/* Are there as many? And has the association that this command begins a name, or no key? */
+bool numbers_is_full(const struct numbers *n);
+bool numbers_has_name(const struct numbers *n, const macsec_endpoint *e, const macsec_command *c);
 /* Writes the last records, and closes the journal. */
 void numbers_close(struct numbers *n, macsec_endpoint *e);
 
@@ -189,6 +228,8 @@ enum effect lines_effect(uint32_t kind);
 /* Carries out a command. If an association begins above the command's packet number, since lower ones may have been
  * used, `raised` is where; else it is 0. */
 uint32_t lines_carry_out(struct numbers *n, macsec_endpoint *e, const macsec_command *c, uint64_t *raised);
+/* Does the command begin an association that would need a name, while the journal has none left? */
+bool lines_lack_name(const struct numbers *n, const macsec_endpoint *e, const macsec_command *c);
 
 /* ---- journals.c: the journals of the host ---- */
 
@@ -206,5 +247,10 @@ void journals_unlock(void);
 /* Why macsecd does not start with the journal that is there; or NULL, also if it can't be read. Nothing is locked. The
  * text is valid until the next call. */
 const char *journals_fault(const char *path);
+/* Why this is another journal than the one of which `device journal` names the first octets of the salt, or NULL. It is
+ * NULL if `named` is empty. */
+const char *journals_misnamed(const char *path, const char *named);
+/* Prints the line `device journal ..` for the journal of this name, if there is one that can be read. */
+void journals_print(const char *name);
 
 #endif

@@ -173,6 +173,7 @@ enum outcome parallel_drain(struct device *d) {
         (void)workers_await(d->workers, RECEIVING, 0);
         gone = parallel_deliver(d) == GONE || gone;
     }
+    gone = tap_flush(&d->tap, &d->counts) == GONE || gone;
     for (unsigned i = 0; i < workers_under_way(d->workers, SENDING); i++)
         (void)workers_await(d->workers, SENDING, i);
     return send_finished(d) == GONE || gone ? GONE : DONE;

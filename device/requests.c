@@ -76,11 +76,16 @@ static bool has_made_records(const struct words *w, const struct result *r) {
            (lines_effect(r->kind) == BEGINS_SA || words_is(w, 0, "open") || words_is(w, 0, "close"));
 }
 
+static const char load[] = "load\n";
+
+bool requests_loads(const char *request, size_t length) {
+    return length >= sizeof load - 1 && memcmp(request, load, sizeof load - 1) == 0;
+}
+
 bool requests_answer(struct device *d, struct text *t, int client, char *request, size_t length) {
-    static const char load[] = "load\n";
     struct words w;
     struct result r = { "Owned", MACSEC_OK, 0, MACSEC_COMMAND_NONE };
-    bool loads = length >= sizeof load - 1 && memcmp(request, load, sizeof load - 1) == 0;
+    bool loads = requests_loads(request, length);
     bool reads;
     link_count_lost(&d->link, &d->counts);
     if (!loads && length > 0 && request[length - 1] == '\n')

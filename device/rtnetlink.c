@@ -10,13 +10,18 @@
 /* The most messages that are read in one call, so that a busy system does not keep macsecd from its frames. */
 enum { MESSAGES = 256 };
 
+/* The number by which an answer is known. A report has 0. */
+enum { ANSWER = 1 };
+
 /* Asks for the state of the device of this index. The answer is read as a report is. */
 static int ask(const struct rtnetlink *f, int index) {
     const struct {
         struct nlmsghdr header;
         struct ifinfomsg about;
-    } request = { { .nlmsg_len = sizeof request, .nlmsg_type = RTM_GETLINK, .nlmsg_flags = NLM_F_REQUEST },
-                  { .ifi_family = AF_UNSPEC, .ifi_index = index } };
+    } request = {
+        { .nlmsg_len = sizeof request, .nlmsg_type = RTM_GETLINK, .nlmsg_flags = NLM_F_REQUEST, .nlmsg_seq = ANSWER },
+        { .ifi_family = AF_UNSPEC, .ifi_index = index }
+    };
     ssize_t sent = TEMP_FAILURE_RETRY(send(f->socket, &request, sizeof request, 0));
     /* Without memory for it, the question is asked again in a second. */
     if (sent == (ssize_t)sizeof request || errno == ENOBUFS || errno == ENOMEM || errno == EAGAIN)
@@ -71,15 +76,23 @@ static void note_attributes(struct device *d, const struct ifinfomsg *about, int
 }
 
 /* Reads one report. Returns false if it says that LINK is gone. That also comes when LINK is moved to another
- * namespace. */
+ * namespace. What is made over LINK is a change of LINK. */
 static bool read_report(struct device *d, const struct nlmsghdr *header) {
     const struct ifinfomsg *about = NLMSG_DATA(header);
+    if (header->nlmsg_type == RTM_NEWADDR && header->nlmsg_len >= NLMSG_LENGTH(sizeof(struct ifaddrmsg)))
+        over_note_address(d, NLMSG_DATA(header));
     if (header->nlmsg_len < NLMSG_LENGTH(sizeof *about) ||
         (header->nlmsg_type != RTM_NEWLINK && header->nlmsg_type != RTM_DELLINK))
         return true;
     /* Reports of a bridge, about a device that leaves it, have another family. */
-    if (about->ifi_family != AF_UNSPEC || about->ifi_index != d->link.index)
+    if (about->ifi_family != AF_UNSPEC)
         return true;
+    if (header->nlmsg_type == RTM_NEWLINK)
+        over_note(d, about, (int)IFLA_PAYLOAD(header));
+    if (about->ifi_index != d->link.index)
+        return true;
+    if (header->nlmsg_seq != ANSWER)
+        over_look(d);
     if (header->nlmsg_type == RTM_DELLINK) {
         message("LINK %s was deleted or moved", d->link.name);
         return false;
@@ -108,18 +121,17 @@ static bool read_reports(struct device *d, int left) {
     return true;
 }
 
-/* Reads a message. Returns its length; 0 if none was there, or if it is not the system's; or -1. */
-static ssize_t read_message(struct rtnetlink *f) {
+ssize_t rtnetlink_message(struct rtnetlink *f, int socket) {
     struct sockaddr_nl from = { .nl_pid = UINT32_MAX }; /* nobody's, until the system names the sender */
     socklen_t room = sizeof from;
     ssize_t length = TEMP_FAILURE_RETRY(
-        recvfrom(f->socket, f->buffer, sizeof f->buffer, MSG_DONTWAIT, (struct sockaddr *)&from, &room));
+        recvfrom(socket, f->buffer, sizeof f->buffer, MSG_DONTWAIT, (struct sockaddr *)&from, &room));
     return length > 0 && from.nl_pid != 0 ? 0 : length;
 }
 
 bool rtnetlink_read(struct device *d) {
     for (int i = 0; i < MESSAGES; i++) {
-        ssize_t length = read_message(&d->rtnetlink);
+        ssize_t length = rtnetlink_message(&d->rtnetlink, d->rtnetlink.socket);
         if (length >= 0) {
             if (!read_reports(d, (int)length))
                 return false;
@@ -132,6 +144,7 @@ bool rtnetlink_read(struct device *d) {
             return true;
         } else { /* the queue is empty now */
             d->rtnetlink.lost = false;
+            over_look(d);
             if (ask(&d->rtnetlink, d->link.index) != 0)
                 return false;
         }
@@ -140,7 +153,8 @@ bool rtnetlink_read(struct device *d) {
 }
 
 int rtnetlink_open(struct device *d) {
-    struct sockaddr_nl address = { .nl_family = AF_NETLINK, .nl_groups = RTMGRP_LINK };
+    const unsigned groups = RTMGRP_LINK | RTMGRP_IPV4_IFADDR | RTMGRP_IPV6_IFADDR;
+    struct sockaddr_nl address = { .nl_family = AF_NETLINK, .nl_groups = groups };
     d->rtnetlink.socket = socket(AF_NETLINK, SOCK_RAW | SOCK_NONBLOCK | SOCK_CLOEXEC, NETLINK_ROUTE);
     if (d->rtnetlink.socket >= 0 && bind(d->rtnetlink.socket, (const struct sockaddr *)&address, sizeof address) == 0)
         return 0;
@@ -148,5 +162,6 @@ int rtnetlink_open(struct device *d) {
 }
 
 int rtnetlink_begin(struct device *d) {
+    over_look(d);
     return ask(&d->rtnetlink, d->link.index) == 0 && rtnetlink_read(d) ? 0 : ENDS_FAILED;
 }

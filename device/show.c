@@ -35,15 +35,16 @@ static bool is_extended(const struct device *d, uint16_t key) {
     /* end */
 }
 
-/* How many packet numbers a key has from this one on. */
-static void left_text(bool extended, uint64_t next, uint64_t high, char text[NUMBER]) {
-    uint64_t last = extended ? UINT64_MAX : UINT32_MAX;
-    if (high != 0 || next > last)
-        snprintf(text, NUMBER, "0");
-    else if (last - next > 999999999999)
+uint64_t show_left(const struct device *d, const macsec_tx_sa *sa) {
+    uint64_t last = is_extended(d, sa->key) ? UINT64_MAX : UINT32_MAX, next = sa->next;
+    return sa->next_high != 0 || next > last ? 0 : last - next + 1;
+}
+
+static void left_text(uint64_t left, char text[NUMBER]) {
+    if (left > 1000000000000)
         snprintf(text, NUMBER, "> 10^12");
     else
-        snprintf(text, NUMBER, "%" PRIu64, last - next + 1);
+        snprintf(text, NUMBER, "%" PRIu64, left);
 }
 
 static void add_link(struct text *t, const struct device *d) {
@@ -54,7 +55,20 @@ static void add_link(struct text *t, const struct device *d) {
     text_add(t, "  link %s: %s, MTU %u, %02x:%02x:%02x:%02x:%02x:%02x, %s%s\n", d->link.name,
              d->link.up ? "up" : "down", (unsigned)d->link.mtu, a[0], a[1], a[2], a[3], a[4], a[5],
              d->config.shared ? "in the host's network namespace" : "in ", path);
-    text_add(t, "  tap %s: port %s\n", d->tap.name, d->port.off ? "off" : "on");
+    text_add(t, "  tap %s: port %s, segments %s\n", d->tap.name, d->port.off ? "off" : "on",
+             d->tap.datagrams ? "TCP and UDP"
+             : d->tap.joins   ? "TCP"
+                              : "off");
+}
+
+/* The SCI and the association number of a dropped frame, as its SecTAG says. */
+static void add_tag(struct text *t, const uint8_t tag[TAG_ROOM]) {
+    enum { TYPE = 0x88e5, TCI_AT = 2, SC = 0x20, AN = 3, SCI_AT = 8 };
+    char sci[SCI_TEXT];
+    if ((tag[0] << 8 | tag[1]) != TYPE)
+        return;
+    sci_text(tag + SCI_AT, sci);
+    text_add(t, ", SCI %s, AN %d", (tag[TCI_AT] & SC) != 0 ? sci : "none", tag[TCI_AT] & AN);
 }
 
 static void add_last(struct text *t, const struct history *h) {
@@ -69,6 +83,8 @@ static void add_last(struct text *t, const struct history *h) {
     if (ever)
         text_add(t, ", from %s: %s", h->from_link ? "the link" : "the client",
                  h->from_link ? macsec_verdict_name(h->why) : macsec_fate_name(h->why));
+    if (ever && h->from_link)
+        add_tag(t, h->tag);
     text_add(t, "\n");
 }
 
@@ -94,7 +110,7 @@ static void add_transmit(struct text *t, const struct device *d) {
             text_add(t, "\nsends:\n  AN   key  state                        next PN         PNs left\n");
         any = true;
         number_text(sa.next, sa.next_high, next);
-        left_text(is_extended(d, sa.key), sa.next, sa.next_high, left);
+        left_text(show_left(d, &sa), left);
         snprintf(state, sizeof state, "%s, %s", sa.on ? "on" : "off", sa.conf ? "encrypts" : "integrity only");
         text_add(t, "  %2u  %4u  %-19s  %15s  %15s\n", an, sa.key, state, next, left);
     }
@@ -156,6 +172,8 @@ void answer_show(struct text *t, const struct device *d) {
     add_link(t, d);
     add_endpoint(t, d);
     text_add(t, "  journal: %zu of %zu names\n", numbers_names(d->numbers), numbers_names_max());
+    if (d->counts.link_over > 0)
+        text_add(t, "  over the link: %" PRIu64 " devices or addresses were found (LinkOver)\n", d->counts.link_over);
     text_add(t, "  receive ahead: dropped %" PRIu64 " without a reservation, %" PRIu64 " of an earlier run\n",
              d->counts.link_no_reservation, d->counts.link_earlier_run);
     add_last(t, &d->history);

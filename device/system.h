@@ -9,6 +9,8 @@
 #include "macsec.h"
 #include <errno.h>
 #include <fcntl.h>
+#include <pthread.h>
+#include <semaphore.h>
 #include <stdbool.h>
 #include <stddef.h>
 #include <stdint.h>
@@ -34,12 +36,17 @@ enum { ENDS_FAILED = 1, ENDS_WRONG = 2, ENDS_TAKEN = 3 };
             return ends_with;                                                                                          \
     } while (0)
 
+/* 1 for sanitizers and valgrind, which open files, make other calls, and take ten times as long. */
+#ifndef MACSECD_UNFILTERED
+#define MACSECD_UNFILTERED 0
+#endif
+
 /* Are these the same file, folder or namespace? */
 static inline bool is_same_file(const struct stat *a, const struct stat *b) {
     return a->st_dev == b->st_dev && a->st_ino == b->st_ino;
 }
 
-/* ---- messages.c: what macsecd says, on standard error and to the service manager ---- */
+/* ---- messages.c: what macsecd says on standard error ---- */
 
 /* Names the device in the messages that follow. */
 void messages_name(const char *name);
@@ -48,22 +55,31 @@ void messages_name(const char *name);
 void messages_open(void);
 /* Prints a line. No frame causes one. A line that comes again and again is printed once a minute, with its count. */
 void message(const char *form, ...) __attribute__((format(printf, 1, 2)));
-/* The same of a fault of what macsecd was given. Returns ENDS_WRONG. */
-int message_wrong(const char *form, ...) __attribute__((format(printf, 1, 2)));
+/* The same of a fault of what macsecd was given. Gives ENDS_WRONG. */
+#define message_wrong(...) (message(__VA_ARGS__), ENDS_WRONG)
 /* The same of a call that failed, with the text of errno after it. Returns ENDS_FAILED. */
 int message_of_errno(const char *form, ...) __attribute__((format(printf, 1, 2)));
-int message_of_memory(void);
+#define message_of_memory() (message("out of memory"), ENDS_FAILED)
 /* Writes what was printed to standard output. */
 int messages_flush_output(void);
 
+/* ---- service.c: what macsecd says to the service manager ---- */
+
 struct service {
-    int socket; /* -1: there is no service manager */
+    int socket, events; /* -1: there is no service manager, or no thread yet */
+    pthread_t thread;
+    sem_t begun;
+    int confined;
 };
 
 /* Connects to the service manager's socket, if there is one. */
 int service_open(struct service *s);
-/* Sends it an assignment, such as READY=1. */
+/* Starts the thread that sends by it. */
+int service_start(struct service *s);
+/* Has it sent READY=1, WATCHDOG=1 or STOPPING=1. */
 void service_notify(const struct service *s, const char *assignment);
+/* To be called after STOPPING=1: waits until that was sent. */
+void service_close(const struct service *s);
 
 /* ---- memory.c: memory that is not swapped ---- */
 
@@ -81,8 +97,9 @@ int confine_namespace(void);
  * of the journal: to be called before keys are used and the thread of the journal is started. Without Landlock it
  * fails, unless the configuration allows that. */
 int confine_rights(int state, bool unconfined);
-/* Allows only the system calls that this thread needs. */
-enum thread { ENDPOINT_THREAD, JOURNAL_THREAD, WORKER_THREAD };
-int confine_calls(enum thread thread);
+/* Allows only the system calls that this thread needs. `own` is the file that it alone writes to: LINK's socket, or an
+ * eventfd. The manager's socket is for one thread. */
+enum thread { ENDPOINT_THREAD, JOURNAL_THREAD, WORKER_THREAD, SERVICE_THREAD };
+int confine_calls(enum thread thread, int own, int manager);
 
 #endif

@@ -6,6 +6,9 @@
 #include <linux/if_ether.h>
 #include <linux/if_tun.h>
 
+/* TUN_F_USO4 and TUN_F_USO6, which older headers lack. */
+enum { DATAGRAMS = 0x20 | 0x40 };
+
 uint32_t tap_mtu(uint32_t link_mtu, uint32_t max_frame) {
     uint32_t most = link_max_frame(link_mtu), frame = max_frame < most ? max_frame : most;
     return frame < ETH_HLEN + MACSEC_OVERHEAD_MAX ? 0 : frame - ETH_HLEN - MACSEC_OVERHEAD_MAX;
@@ -24,7 +27,7 @@ static int attach(struct tap *t, const struct config *c, uid_t user) {
     struct ifreq request;
     memcpy(t->name, c->tap, IF_NAMESIZE);
     request = request_of(t);
-    request.ifr_flags = IFF_TAP | IFF_NO_PI;
+    request.ifr_flags = IFF_TAP | IFF_NO_PI | IFF_VNET_HDR;
     if (ioctl(t->file, TUNSETIFF, &request) == 0) {
         tap_set_carrier(t, false); /* until LINK is up, which rtnetlink_read finds out */
         return 0;
@@ -52,16 +55,18 @@ static bool has_group(const char *name) {
     return group >= 0;
 }
 
-/* A user who had TAP before it had an owner can have left filters, a limit and another type, which stay when the file
- * is closed. A system that lacks one of these calls has nothing to undo. */
+/* A user who had TAP before it had an owner can have left filters, a limit, another form of what is said about a frame,
+ * and another type, which stay when the file is closed. A system that lacks one of these calls has nothing to undo. */
 static int undo(const struct tap *t) {
     const struct tun_filter all = { .flags = 0, .count = 0 };
-    const int most = INT_MAX, no_program = -1;
+    const int most = INT_MAX, no_program = -1, about = sizeof(struct virtio_net_hdr), little_endian = 1;
     struct ifreq request = request_of(t);
     (void)ioctl(t->file, TUNSETTXFILTER, &all);
     (void)ioctl(t->file, TUNSETSNDBUF, &most);
     (void)ioctl(t->file, TUNSETSTEERINGEBPF, &no_program);
     (void)ioctl(t->file, TUNSETFILTEREBPF, &no_program);
+    (void)ioctl(t->file, TUNSETVNETHDRSZ, &about);
+    (void)ioctl(t->file, TUNSETVNETLE, &little_endian);
     if (ioctl(t->file, SIOCGIFHWADDR, &request) == 0 &&
         (request.ifr_hwaddr.sa_family == ARPHRD_ETHER || ioctl(t->file, TUNSETLINK, (unsigned long)ARPHRD_ETHER) == 0))
         return 0;
@@ -115,13 +120,21 @@ static int persist(const struct tap *t, const struct config *c) {
     return c->transient || ioctl(t->file, TUNSETPERSIST, 1UL) == 0 ? 0 : message_of_errno("TAP %s", t->name);
 }
 
+/* Lets the client leave checksums, and to divide what it sends, to macsecd: then one call reads many segments. Systems
+ * before Linux 6.2 do so for TCP alone. */
+static int set_offload(struct tap *t, bool joins) {
+    const unsigned long tcp = TUN_F_CSUM | TUN_F_TSO4 | TUN_F_TSO6 | TUN_F_TSO_ECN;
+    t->joins = joins;
+    t->datagrams = joins && ioctl(t->file, TUNSETOFFLOAD, tcp | DATAGRAMS) == 0;
+    return t->datagrams ? 0 : ioctl(t->file, TUNSETOFFLOAD, joins ? tcp : 0UL);
+}
+
 int tap_open(struct tap *t, const struct config *c, const struct link *l) {
     struct ifreq request;
     if (attach(t, c, geteuid()) != 0 || set_owner(t, c) != 0)
         return ENDS_FAILED;
     request = request_of(t);
-    /* No frame from the client lacks its checksum or is longer than the MTU. */
-    if (ioctl(t->file, TUNSETOFFLOAD, 0UL) != 0 || ioctl(t->file, TUNGETIFF, &request) != 0)
+    if (set_offload(t, !c->single) != 0 || ioctl(t->file, TUNGETIFF, &request) != 0)
         return message_of_errno("TAP %s", t->name);
     if ((request.ifr_flags & IFF_PERSIST) == 0 && persist(t, c) != 0)
         return ENDS_FAILED;
@@ -134,21 +147,43 @@ static bool is_gone(int error) {
 }
 
 enum outcome tap_read(struct tap *t, struct frame *frame) {
-    ssize_t length = TEMP_FAILURE_RETRY(read(t->file, t->buffer, sizeof t->buffer));
-    if (length < 0)
-        return is_gone(errno) ? GONE : BUSY;
-    frame->octets = t->buffer;
-    frame->length = (size_t)length;
-    return DONE;
+    struct unfinished u;
+    ssize_t length;
+    if (segments_next(&t->rest, frame))
+        return DONE;
+    length = TEMP_FAILURE_RETRY(read(t->file, &t->buffer, sizeof t->buffer));
+    if (length < (ssize_t)sizeof t->buffer.about)
+        return length < 0 && is_gone(errno) ? GONE : BUSY;
+    u = segments_unfinished(&t->buffer.about, t->buffer.octets, (size_t)length - sizeof t->buffer.about);
+    segments_begin(&t->rest, &u);
+    return segments_next(&t->rest, frame) ? DONE : BUSY;
+}
+
+bool tap_has_rest(const struct tap *t) {
+    return t->rest.at < t->rest.of.length;
+}
+
+enum outcome tap_flush(struct tap *t, struct counts *c) {
+    unsigned frames = t->joined.count;
+    size_t length;
+    if (frames == 0)
+        return DONE;
+    length = segments_finish(&t->joined);
+    if (TEMP_FAILURE_RETRY(write(t->file, &t->joined.whole, length)) >= 0) {
+        c->tap_out += frames;
+        return DONE;
+    }
+    c->tap_refused += frames;
+    return is_gone(errno) ? GONE : DONE;
 }
 
 enum outcome tap_write(struct tap *t, const uint8_t *octets, size_t length, struct counts *c) {
-    if (TEMP_FAILURE_RETRY(write(t->file, octets, length)) >= 0) {
-        c->tap_out++;
+    enum outcome outcome;
+    if (segments_join(&t->joined, octets, length))
         return DONE;
-    }
-    c->tap_refused++;
-    return is_gone(errno) ? GONE : DONE;
+    outcome = tap_flush(t, c);
+    segments_keep(&t->joined, octets, length, t->joins, t->datagrams);
+    return outcome == DONE && t->joined.closed ? tap_flush(t, c) : outcome;
 }
 
 bool tap_address(const struct tap *t, uint8_t address[6]) {

@@ -75,7 +75,8 @@ struct config {
     char link[IF_NAMESIZE];
     char tap[IF_NAMESIZE];
     char path[256];
-    gid_t group; /* that may use the control socket */
+    char journal[SCI_TEXT]; /* the first octets of the salt of its journal, or "" if no line says them */
+    gid_t group;            /* that may use the control socket */
     bool has_group;
     uid_t user; /* the owner of TAP; root if no line names another one */
     gid_t user_group;
@@ -84,6 +85,7 @@ struct config {
     bool alone;                 /* are the devices below LINK not in LINK's own namespace? */
     bool unconfined;            /* does macsecd go on without Landlock? */
     bool begins_off;            /* is the controlled port off at the start? */
+    bool single;                /* does TAP take and give each segment as a frame alone? */
     bool has_workers;           /* does a line say how many threads do the work of the cipher? */
     unsigned workers;           /* how many; 0: the thread that has the endpoint does it */
     struct limits limits;

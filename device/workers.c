@@ -121,7 +121,7 @@ static void *work(void *argument) {
     struct worker *it = argument;
     struct workers *w = it->all;
     unsigned looks = 0;
-    if (confine_calls(WORKER_THREAD) != 0)
+    if (confine_calls(WORKER_THREAD, w->events, -1) != 0)
         atomic_store(&w->unconfined, 1);
     atomic_fetch_add(&w->begun, 1);
     wake(&w->begun, 1);
