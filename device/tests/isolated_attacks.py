@@ -269,7 +269,9 @@ def check_devices(options: Options) -> None:
 
 # ---- A macsecd that was taken over
 
-FORBIDDEN = ["setns", "unshare", "socket", "bind", "openat", "SIOCGSKNS", "TUNGETDEVNETNS", "TUNSETIFF"]
+FORBIDDEN = ["setns", "unshare", "socket", "bind", "openat", "sendto", "SIOCGSKNS", "TUNGETDEVNETNS", "TUNSETIFF"]
+# What no thread may do with the socket of the service manager but the one that has it; and the other threads.
+OF_MANAGER, THREADS = ["write", "send", "sendto", "sendmmsg"], ["journal", "worker"]
 
 
 def build_taken(options: Options) -> pathlib.Path:
@@ -280,6 +282,13 @@ def build_taken(options: Options) -> pathlib.Path:
     for name, place, call in (
         ("macsecd.c", '    service_notify(&d->service, "READY=1");\n', "extern void taken(struct device *); taken(d);"),
         ("journal_writer.c", "    double began = now();\n", "extern void taken_files(void); taken_files();"),
+        ("service.c", "    if (s->socket >= 0 && ", "extern int taken_manager; taken_manager = s->socket;"),
+        ("journal_writer.c", "    s->confined = ", 'extern void taken_thread(const char *); taken_thread("journal");'),
+        (
+            "workers.c",
+            "    atomic_fetch_add(&w->begun, ",
+            'extern void taken_thread(const char *); taken_thread("worker");',
+        ),
     ):
         replace_once(source / name, place, f"    {call}\n{place}")
     return build(source / "built", options.library, ["-Wno-error"], source)
@@ -298,7 +307,7 @@ def reaches(pair: Pair) -> None:
     a.start(TAKEN="devices")
     got = tries(a.log())
     there = sorted({f"{call} {index}" for call, index, error in got if error not in ("6", "19") and index not in own})
-    report(len(got) == 300 and not there, f"taken: devices that are not LINK's namespace's: {there}, {len(got)} tries")
+    report(len(got) == 200 and not there, f"taken: devices that are not LINK's namespace's: {there}, {len(got)} tries")
     stolen = sum(b"stolen" in it for it in sniffer.frames())
     report(stolen == 0, f"taken: {stolen} frames left by another device")
     a.stop()
@@ -322,6 +331,30 @@ def opens(pair: Pair) -> None:
     a.stop()
 
 
+def is_ended(a: Host, what: str, **more: str) -> None:
+    """The system has to end it."""
+    a.begin(**more)
+    status = a.ended(3)
+    report(status == -signal.SIGSYS, f"taken: {what}: status {status}, {tries(a.log())[-1:]}")
+    a.stop(signal.SIGKILL)
+
+
+def manages(pair: Pair) -> None:
+    """No thread but one may send by the socket of the service manager, to the manager or to another program."""
+    with contextlib.ExitStack() as stack:
+        paths = [str(pair.folder / it) for it in ("manager", "evil")]
+        them = [stack.enter_context(socket.socket(socket.AF_UNIX, socket.SOCK_DGRAM)) for _ in paths]
+        for it, path in zip(them, paths):
+            it.bind(path)
+        for call in OF_MANAGER:
+            is_ended(pair.a, f"{call} by the manager's socket", TAKEN=call, NOTIFY_SOCKET=paths[0], EVIL=paths[1])
+        pair.a.configure(pair.keys, "device link link0\ndevice workers 1\n")
+        for thread in THREADS:
+            is_ended(pair.a, f"the thread: {thread}", TAKEN=thread, NOTIFY_SOCKET=paths[0])
+        told = {text for it in them for text in received(it, 0.1)}
+        report(told <= {b"READY=1", b"WATCHDOG=1"}, f"taken: sent by the manager's socket: {told}")
+
+
 def check_taken(options: Options) -> None:
     """What it can reach."""
     programs = build_taken(options)
@@ -333,7 +366,5 @@ def check_taken(options: Options) -> None:
         reaches(pair)
         opens(pair)
         for call in FORBIDDEN:
-            a.begin(TAKEN=call)
-            status = a.ended(3)
-            report(status == -signal.SIGSYS, f"taken: {call}: status {status}, {tries(a.log())[-1:]}")
-            a.stop(signal.SIGKILL)
+            is_ended(a, call, TAKEN=call)
+        manages(pair)

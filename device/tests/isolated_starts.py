@@ -9,7 +9,7 @@ import subprocess
 
 from house.reporting import Failed, report, until
 from isolated_attacks import macvlan
-from isolated_world import Host, Options
+from isolated_world import Host, Options, Pair
 from macsecd_controls import altered
 from macsecd_world import as_nobody, build, expect, expect_end
 
@@ -100,6 +100,15 @@ def check_inside(a: Host) -> None:
     a.link_ip("link", "set", "away0", "name", "link0")
 
 
+def check_clock(pair: Pair) -> None:
+    """A start at which the system's clock shows another time than before: the journal and the peer need none."""
+    pair.a.stop()
+    shifted = ["unshare", "-T", "--monotonic", "1000000000", "--fork", "--kill-child", str(pair.a.program), "macsec0"]
+    pair.a.start(shifted)
+    pair.passes("with another clock")
+    pair.a.stop()
+
+
 def check_starts(options: Options) -> None:
     """What a start needs."""
     with options.pair() as pair:
@@ -116,6 +125,9 @@ def check_starts(options: Options) -> None:
         a.stop()
         ended = a.attempt(str(a.macsec_link), "isolate")
         report(ended.returncode == 2 and "usage" in ended.stderr, f"starts: macsec-link without a name: {ended}")
+    with options.pair() as pair:
+        pair.start()
+        check_clock(pair)
 
 
 # ---- Rights
@@ -123,7 +135,7 @@ def check_starts(options: Options) -> None:
 
 def stopping(options: Options) -> pathlib.Path:
     """A macsecd that stops before it opens the journal."""
-    opens = "numbers_open(&d->numbers, d->name, &d->counts)"
+    opens = "numbers_open(&d->numbers, d->name, c->journal, &d->counts)"
     edit = "macsecd.c", f"FAILED({opens});", f"FAILED((raise({int(signal.SIGSTOP)}), {opens}));"
     source = altered(options.folder / f"stopping{next(options.numbers)}", edit, options.source)
     return build(source / "built", options.library, ["-Wno-error"], source)

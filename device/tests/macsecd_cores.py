@@ -114,22 +114,28 @@ def run_tcp(folder: pathlib.Path, programs: pathlib.Path, octets: int) -> Speed:
     return Speed(octets / seconds / 1e6, used / (after[0]["device LinkOut"] - before[0]["device LinkOut"]))
 
 
-def run_echo(folder: pathlib.Path, programs: pathlib.Path, count: int) -> float:
-    """Echo requests in a quiet network, each a millisecond after the reply to the last one. Returns the median."""
+def echo_times(world: World, count: int) -> list[float]:
+    """Echo requests in a quiet network, each a millisecond after the reply to the last one: the seconds of each."""
     times = []
+    with inside(world.ends[0].namespace):
+        it = socket.socket(socket.AF_INET, socket.SOCK_RAW, 1)
+    for sequence in range(count):
+        octets = echo_request(1, sequence)
+        began = time.perf_counter()
+        it.sendto(octets, ("10.9.0.2", 0))
+        if not is_answered(it, 4, 1, sequence, 1.0):
+            raise Failed("an echo request is not answered")
+        times.append(time.perf_counter() - began)
+        time.sleep(0.001)
+    it.close()
+    return times
+
+
+def run_echo(folder: pathlib.Path, programs: pathlib.Path, count: int) -> float:
+    """Echo requests between two new ends. Returns the median."""
     with World(folder, programs) as world:
         world.start()
-        with inside(world.ends[0].namespace):
-            it = socket.socket(socket.AF_INET, socket.SOCK_RAW, 1)
-        for sequence in range(count):
-            octets = echo_request(1, sequence)
-            began = time.perf_counter()
-            it.sendto(octets, ("10.9.0.2", 0))
-            if not is_answered(it, 4, 1, sequence, 1.0):
-                raise Failed("an echo request is not answered")
-            times.append(time.perf_counter() - began)
-            time.sleep(0.001)
-        it.close()
+        times = echo_times(world, count)
     return statistics.median(times[count // 10 :]) * 1e6
 
 

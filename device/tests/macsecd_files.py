@@ -21,6 +21,7 @@ WRONG_DEVICES = (
     ("device link averyveryverylongname0\n", 2, "line 1: no network device can have this name"),
     ("device link link0\ndevice tap averyveryverylongname0\n", 2, "line 2: no network device"),
     ("device link link0\ndevice tab macsec0\n", 2, "line 2: the word after `device`"),
+    ("device link link0\ndevice journal 0123456789ABCDEF\n", 2, "line 2: the name of a journal has 16 digits"),
     ("device link link0\ndevice group nosuchgroup\n", 2, "line 2: there is no such group"),
     ("device link link0\ndevice user nosuchuser\n", 2, "line 2: there is no such user"),
     ("device link link0\ndevice receive behind\n", 2, "line 2: `device receive behind` is gone: what is received is"),
@@ -35,7 +36,9 @@ def check_wrong_files(a: End) -> None:
     a.write_config()
     expect(a, "no journal", 2, "--create-journal")
     a.create_journal()
-    report(a.run_program("--create-journal", "macsec0").returncode == 1, "a journal was replaced")
+    line = f"device journal {a.journal.read_bytes()[16:24].hex()}\n"
+    again = a.run_program("--create-journal", "macsec0")
+    report((again.returncode, again.stdout) == (1, line), f"a journal that is there: {again}, and not {line}")
     a.config.chmod(0o644)
     expect(a, "a configuration of mode 0644", 2, "chmod 600")
     a.config.chmod(0o600)
@@ -45,8 +48,12 @@ def check_wrong_files(a: End) -> None:
     for device, status, text in WRONG_DEVICES:
         a.write_config(device=device)
         expect(a, device.strip(), status, text)
-    a.write_config(more="A txon 3\n")
-    expect(a, "a refused line", 2, "line 10: NoSa")
+    a.write_config(device=f"device link link0\ndevice journal {'0' * 16}\n")
+    text = f"is {line[-17:-1]}, and not {'0' * 16}: put the journal of this host there, or install new keys"
+    expect(a, "another journal", 2, text)
+    report(text in a.run_program("--check", "macsec0").stdout, "--check does not say that it is another journal")
+    a.write_config(device="device link link0\n" + line, more="A txon 3\n")
+    expect(a, "a refused line", 2, "line 11: NoSa")
     a.write_config(more="A txonn 0\n")
     expect(a, "a wrong line", 2, "line 10: Word")
     a.write_config()
@@ -60,14 +67,12 @@ def check_wrong_files(a: End) -> None:
 
 def check_used_keys(a: End) -> None:
     """A start that reserves the last packet numbers of a key leaves none to the next one, which says what to do."""
-    for line, first, last in ((5, "A txsa 0 0 1 conf", "A txsa 0 0 ffffff00 conf"), (8, " 0 1 1 ", " 0 1 fffffff8 ")):
-        a.config.write_text(a.config.read_text().replace(first, last))
-        a.start()
-        a.stop()
-        what = f"line {line}: PnFloor: the key has no packet number left: install a new one at both ends\n"
-        expect(a, f"{last!r} for {first!r}", 2, what)
-        a.world.keys = [secrets.token_hex(16), secrets.token_hex(16)]
-        a.write_config()
+    a.config.write_text(a.config.read_text().replace("A txsa 0 0 1 conf", "A txsa 0 0 ffffff00 conf"))
+    a.start()
+    a.stop()
+    expect(a, "a used key", 2, "line 5: PnFloor: the key has no packet number left: install a new one at both ends\n")
+    a.world.keys = [secrets.token_hex(16), secrets.token_hex(16)]
+    a.write_config()
 
 
 def check_socket_and_tap(a: End) -> None:

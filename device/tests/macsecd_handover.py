@@ -1,5 +1,5 @@
-"""A second endpoint takes over: after the last key of an endpoint's life, and for lines that are all carried out, or
-none is."""
+"""More keys than an endpoint has numbers for, and lines that are all carried out, or none is: a second endpoint tries
+them, and takes over if they install the octets of a retired key."""
 
 from __future__ import annotations
 
@@ -140,16 +140,15 @@ def run_rekeys(world: World, rekeys: int, first: int) -> None:
     report(rekeys // 2 < count <= rekeys + 1, f"frames of {count} associations in turn, for {rekeys} new keys")
     for end, old in zip(world.ends, before):
         report(losses(end) == old, f"{end.number}: frames were dropped: {losses(end)}, and before {old}")
-    taken = [end.log().count("a second one goes on") for end in world.ends]
     print(
-        f"handover: {rekeys} rekeys in {seconds:.1f} s, {taken} second endpoints, {sum(it[0] for it in counts)} "
-        f"datagrams, {full} dropped by a full TAP, slowest answer {1000 * slowest:.1f} ms",
+        f"handover: {rekeys} rekeys in {seconds:.1f} s, {sum(it[0] for it in counts)} datagrams, {full} dropped by a "
+        f"full TAP, slowest answer {1000 * slowest:.1f} ms",
         flush=True,
     )
 
 
 def check_life_of_keys(world: World, short: bool) -> None:
-    """An endpoint takes all its keys, and a second one goes on."""
+    """An endpoint takes all its keys, and goes on: each further key takes the place of a retired one."""
     a, b = world.ends
     with clients(world) as pair:
         for client in pair:
@@ -157,13 +156,17 @@ def check_life_of_keys(world: World, short: bool) -> None:
             report(client.keys_left() == 0, f"{client.keys_left()} keys are left")
             number, key = next_of(client.end), secrets.token_hex(16)
             report(client.ask(f"A key 0 {key} 0") == "refused 3 KeyNumberUsed\n", "a number that is in use")
-            report(client.ask(f"A key 2 {key[1:]} 0") == "fault Hex\n", "a wrong line at the end of an endpoint's life")
-            report(next_of(client.end) < number + 1000, "a refused key has changed a packet number")
+            report(client.ask(f"A key 2 {key[1:]} 0") == "fault Hex\n", "a wrong line when no number is left")
+            client.carry_out(f"A key 2 {key} 0", "A retire 2", f"A key 2 {secrets.token_hex(16)} 0", "A retire 2")
+            for place in (2, 3):
+                got = client.ask(f"A key {place} {key} 0")
+                report(got == "refused 4 KeyRepeated\n", f"octets that were given up, as key {place}: {got}")
+            report(next_of(client.end) < number + 1000, "a key has changed a packet number")
     report(ping(a) == 3, "no replies while no key is left")
     before = [end.counters() for end in world.ends]
     run_rekeys(world, 40 if short else 2500, 0)
     for end, old in zip(world.ends, before):
-        report("a second one goes on" in end.log(), "no second endpoint has taken over")
+        report("second" not in end.log(), "a second endpoint has taken over")
         now = end.counters()
         fell = [it for it in old if it in now and now[it] < old[it] and " 0 " not in it]
         report(not fell, f"{end.number}: counters have fallen: {fell}")
@@ -178,9 +181,9 @@ def channel_is_sum(end: End) -> None:
     report(0 < of_sas <= c[f"{peer} InPktsOK"], f"{of_sas} of {c[f'{peer} InPktsOK']} frames are of associations")
 
 
-def next_of(end: End) -> int:
-    """The next packet number of association 0."""
-    return int(end.ask("numbers tx 0").split()[3], 16)
+def next_of(end: End, an: int = 0) -> int:
+    """The next packet number of a transmit association."""
+    return int(end.ask(f"numbers tx {an}").split()[3], 16)
 
 
 def check_numbers(a: End) -> None:
@@ -279,14 +282,24 @@ def check_no_memory(world: World) -> None:
 
 
 def check_number_again(a: End, load: Callable[..., str], key: str) -> None:
-    """The number of a retired key: the endpoint refuses it, and a second one takes over, with all lines."""
-    state, log = state_of(a), a.log()
-    report(load(f"A key 0 {key} 0") == "1 refused 3 KeyNumberUsed\n", "the number of a retired key, alone")
+    """The number of a retired key: the endpoint takes it, and no packet number is skipped. Its octets: the endpoint
+    refuses them, and a second one takes over, with all lines."""
+    number, log = next_of(a, 1), a.log()
+    for lines, answer in (([], "1 ok\n2 ok\n"), (["A txoff 1", "A txon 1"], "1 ok\n2 ok\n3 ok\n4 ok\n")):
+        got = load(*lines, f"A key 0 {key} 0", "A retire 0")
+        report(got == answer and a.log() == log, f"the number of a retired key: {got!r}")
+        key = secrets.token_hex(16)
+    report(number <= next_of(a, 1) < number + 1000, "a key in the place of a retired one has changed a packet number")
+    report(load(f"A key 0 {key} 0") == "1 ok\n" == load("A retire 0"), "the number of a retired key, alone")
+    report(load(f"A key 0 {key} 0") == "1 refused 4 KeyRepeated\n", "the octets of a retired key, alone")
+    state, counters = state_of(a), a.counters()
     got = load("A txoff 1", f"A key 0 {key} 0", "A txon 9")
     report(got.startswith("3 ") and state_of(a) == state and a.log() == log, f"a refused line after it: {got!r}")
-    report(load("A txoff 1", f"A key 0 {key} 0", "A txon 1") == "1 ok\n2 ok\n3 ok\n", "the number of a retired key")
+    report(load("A txoff 1", f"A key 0 {key} 0", "A txon 1") == "1 ok\n2 ok\n3 ok\n", "the octets of a retired key")
     holds = "a second endpoint goes on after `load`" in a.log() and state_of(a) != state
     report(holds, "no second endpoint has taken over")
+    fell = [name for name, value in counters.items() if a.counters().get(name, value) < value]
+    report(not fell, f"counters have fallen: {fell}")
     # The copy was given all lines. The device has the keys of the endpoint, so that a copy can take over again.
     a.hand_over()
     report(load("A retire 0", "A protect on") == "1 ok\n2 ok\n", "a key of a second endpoint")

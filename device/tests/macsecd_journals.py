@@ -6,6 +6,7 @@ from __future__ import annotations
 import fcntl
 import os
 import pathlib
+import secrets
 import shutil
 import signal
 import subprocess
@@ -14,7 +15,7 @@ from house import ROOT
 from house.compiling import WARNINGS
 from house.reporting import call, report, until
 from macsecd_handover import next_of
-from macsecd_world import End, World, attempt, expect, ping, ping_again
+from macsecd_world import End, Packets, World, attempt, expect, numbers_of, ping, ping_again, protected
 
 
 def on(end: End, kind: str, *words: str) -> subprocess.CompletedProcess[str]:
@@ -24,6 +25,7 @@ def on(end: End, kind: str, *words: str) -> subprocess.CompletedProcess[str]:
     shutil.copytree(state, copy)
     mounts = {
         "tmpfs": f"mount -t tmpfs none {state}",
+        "a full disk": f"mount -t tmpfs -o size=4k none {state}",
         "overlay": f"mount -t tmpfs none /mnt && mkdir /mnt/u /mnt/w && mount -t overlay overlay "
         f"-o lowerdir={copy},upperdir=/mnt/u,workdir=/mnt/w {state}",
     }
@@ -42,7 +44,8 @@ def check_disks(end: End) -> None:
     end.create_journal()
     again = end.run_program("--create-journal", "macsec0")
     report((again.returncode, "is there already" in again.stderr) == (1, True), f"a journal is created twice: {again}")
-    for kind, text in (("tmpfs", "in memory"), ("overlay", "an overlay")):
+    full = "so frames are dropped until it can be: write: No space left on device"
+    for kind, text in (("tmpfs", "in memory"), ("overlay", "an overlay"), ("a full disk", full)):
         told = on(end, kind, "macsec0")
         report(text in told.stderr and "protects macsec0" in told.stderr, f"a journal on {kind}: {told}")
 
@@ -196,3 +199,27 @@ def check_journals(world: World, cuts: int) -> None:
     b.create_journal()
     b.start()
     check_keys(a, b, cuts)
+
+
+def check_older(world: World) -> None:
+    """An older copy of a journal, as a backup has it: packet numbers repeat, and nothing says so. New keys end that."""
+    world.start()
+    a, b = world.ends
+    link = Packets(b.link_namespace, "link0")
+    ping(a)
+    a.stop()
+    older = a.journal.read_bytes()
+    a.start()
+    report(ping_again(a) == 3, "older: no replies after a start")
+    a.stop()
+    a.journal.write_bytes(older)
+    a.start()
+    replies = ping(a, seconds=0.2)
+    numbers = numbers_of(protected(link.frames(), a.sci))
+    report(len(set(numbers)) < len(numbers) and replies == 0, f"older: docs/WHO.md: numbers do not repeat: {numbers}")
+    world.keys = [secrets.token_hex(16), secrets.token_hex(16)]
+    for end in world.ends:
+        end.stop()
+        end.write_config()
+        end.start()
+    report(ping_again(a) == 3, "older: no replies under new keys")

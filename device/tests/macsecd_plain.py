@@ -88,17 +88,16 @@ def check_plain(world: World, octets: int, seed: str) -> None:
     world.prepare()
     a, b = world.ends
     allowed = "device allow validate check\ndevice allow validate disabled\ndevice allow protect off\n"
-    b.write_config(device="device link link0\n" + allowed)
-    b.start()
-    b.carry_out("A protect off")
-    mtu = b.ip("link", "show", "macsec0").split(" mtu ")[1].split()[0]
     a.sysctl("net.ipv6.conf.link0.disable_ipv6=0")
-    a.ip("link", "set", "link0", "mtu", mtu)
     a.ip("addr", "replace", "10.9.0.1/24", "dev", "link0")
     a.ip("addr", "replace", "fd09::1/64", "dev", "link0", "nodad")
-    b.ip("neigh", "flush", "dev", "macsec0")
-    for mode in ("check", "disabled"):
-        b.carry_out(f"A validate {mode}")
+    for mode, line in (("check", ""), ("disabled", "device segments off\n")):
+        b.stop()
+        b.write_config(device=f"device link link0\n{line}{allowed}")
+        b.start()
+        b.carry_out("A protect off", f"A validate {mode}")
+        a.ip("link", "set", "link0", "mtu", b.ip("link", "show", "macsec0").split(" mtu ")[1].split()[0])
+        b.ip("neigh", "flush", "dev", "macsec0")
         check_mode(a, b, octets, seed)
     check_segments(a, b)
 

@@ -19,6 +19,7 @@ from typing import Callable
 
 from house import families
 from house.reporting import report, until
+from macsecd_metrics import check_metrics
 from macsecd_world import IN, OUT, RX, Client, End, attempt, connected, ping, processor_time
 
 
@@ -80,9 +81,9 @@ def check_formats(end: End, peer: str) -> None:
     )
     agree(lambda: sample().split()[1], lambda: str(end.counters()["OutPktsEncrypted"]), "metrics")
     metrics = end.ask("metrics")
-    report("macsec_in_pkts_no_sa_error_total{" in metrics, metrics[:300])
-    samples = [it for it in metrics.splitlines() if not it.startswith("#")]
-    report(len({it.rsplit(" ", 1)[0] for it in samples}) == len(samples) > 40, "metrics has a sample twice")
+    samples = [it.rsplit(" ", 1)[0] for it in metrics.splitlines() if not it.startswith("#")]
+    report(len(set(samples)) == len(samples), "metrics has a sample twice")
+    check_metrics(metrics)
 
 
 def state_of(end: End) -> str:

@@ -142,8 +142,8 @@ def check_replays(world: World, sender: pathlib.Path, kills: int, rng: random.Ra
 
 def second_endpoint() -> list[str]:
     """Requests by which a second endpoint takes over."""
-    keys = [secrets.token_hex(16) for _ in range(2)]
-    return [f"A key 4000 {keys[0]} 0", "A retire 4000", hand_over_lines(keys[1])]
+    key = secrets.token_hex(16)
+    return [f"A key 4000 {key} 0", "A retire 4000", hand_over_lines(key)]
 
 
 def check_again(world: World, sender: pathlib.Path) -> None:
@@ -300,6 +300,72 @@ def check_slow_disk(
     manager.stop()
 
 
+class Sudden(NamedTuple):
+    """A receiver's disk that becomes slow: how many seconds a synchronization takes then; frames a second, for so many
+    seconds; and which part of them has to arrive."""
+
+    seconds: float
+    rate: int
+    length: int
+    least: float
+
+
+def check_sudden(world: World, programs: pathlib.Path, sender: pathlib.Path, sudden: Sudden) -> None:
+    """A disk that becomes slow while frames come, with a record for sending: few frames are lost. Almost half of their
+    reservation is used then: for 5.5 seconds nothing was written."""
+    world.prepare()
+    a, b = world.ends
+    b.program, stalled = programs / "macsecd", b.folder / "slow"
+    b.more_environment = {"SLOW": str(int(1000 * sudden.seconds)), "SLOW_FILE": str(stalled)}
+    for end in (a, b):
+        end.start()
+
+    def counts() -> tuple[int, int]:
+        return a.counters()["device LinkOut"], b.counters()[f"{a.sci} InPktsOK"]
+
+    frames = a.spawn(str(sender), "plain", "macsec0", str(100 * sudden.rate), str(sudden.rate), log="sender")
+    waits = until(lambda: time.time() - b.journal.stat().st_mtime > 5.5, 40)
+    first = counts()
+    stalled.touch()
+    b.carry_out(f"A key 7 {secrets.token_hex(16)} 0", "A txsa 1 7 1 conf")
+    time.sleep(sudden.length)
+    frames.terminate()
+    frames.wait()
+    stalled.unlink()
+    until(lambda: counts()[0] - first[0] <= counts()[1] - first[1], sudden.seconds + 2)
+    sent, arrived = (now - then for now, then in zip(counts(), first))
+    lacked, lost = (b.counters()[f"device {it}"] for it in ("LinkNoReservation", "LinkLost"))
+    what = f"disk: synchronizations of {sudden.seconds} s while {sudden.rate} frames come in a second"
+    print(f"{what}: {arrived} of {sent} arrived, {lacked} without a reservation, {lost} lost by LINK", flush=True)
+    report(waits and sent > sudden.rate * sudden.length / 2, f"{what}: only {sent} were sent")
+    report(arrived >= sudden.least * sent, f"{what}: only {arrived} of {sent} arrived")
+    b.stop(signal.SIGKILL)
+
+
+def check_order(world: World, programs: pathlib.Path, waited: list[bool]) -> None:
+    """A new key while frames under the old one wait for a slow disk: none of its frames overtakes these. Notes whether
+    they waited: a machine under load sends too few."""
+    world.prepare()
+    a, b = world.ends
+    b.program, stalled, key = programs / "macsecd", b.folder / "slow", secrets.token_hex(16)
+    b.more_environment = {"SLOW": "2500", "SLOW_FILE": str(stalled)}
+    for end in (a, b):
+        end.start()
+    stream = Stream(a, 0.02)
+    time.sleep(3)  # few packet numbers are reserved for so few frames
+    stalled.touch()
+    stream.interval = 0.0003
+    b.carry_out(f"A key 5 {key} 0", f"A rxsa {a.sci} 1 5 1", f"A rxon {a.sci} 1")
+    a.carry_out(f"A key 5 {key} 0", "A txsa 1 5 1 conf")
+    waited.append(until(lambda: a.counters()["device LinkOut"] > b.counters()["device LinkIn"] + 30, 3))
+    a.carry_out("A txon 1")
+    time.sleep(5)
+    stalled.unlink()
+    sent, arrived = stream.stop()
+    print(f"disk: a new key: {arrived} of {sent} datagrams arrived, {stream.overtaken} after later ones", flush=True)
+    report(arrived > 50 and stream.overtaken == 0, f"disk: {stream.overtaken} of {arrived} datagrams were overtaken")
+
+
 # ---- Many keys
 
 
@@ -380,10 +446,16 @@ def check_given_up(world: World) -> None:
     """Only a key that the owner of the device has brought and retired leaves the journal."""
     world.start()
     a, b = world.ends
-    lasting = secrets.token_hex(16)
-    use = [f"A key 7 {lasting} 0", "A txsa 1 7 1 conf", "A txdel 1", "A retire 7"]
+    lasting, injector = secrets.token_hex(16), Packets(a.namespace, "macsec0")
+
+    def use(by: Client, number: int, key: str) -> None:
+        by.carry_out(f"A key {number} {key} 0", f"A txsa 2 {number} 1 conf", "A txon 2", "port on")
+        injector.send(b"\xff" * 12 + b"\x88\xb5" + bytes(50))
+        report(until(lambda: f" {1:016x} " not in by.ask("numbers tx 2")), "given up: no frame is sent")
+        by.carry_out("A txoff 2", "A txdel 2", f"A retire {number}")
+
     other = Client(a)
-    other.carry_out(*use)
+    use(other, 7, lasting)
     other.socket.close()
     client = Client(a)
     client.carry_out("own", "A txoff 0", "A txdel 0", f"A rxscdel {b.sci}", "A retire 0", "A retire 1")
@@ -392,10 +464,11 @@ def check_given_up(world: World) -> None:
     client.carry_out(f"open {a.sci} gcm128", *received, f"A rxon {b.sci} 1")
     b.carry_out(again, "A txsa 1 5 1 conf", "A txon 1")
     ping(b)
-    client.carry_out(f"A rxdel {b.sci} 1", "A retire 5", f"open {a.sci} gcm128", *received, *use)
-    keys = [secrets.token_hex(16) for _ in range(1200)]
+    client.carry_out(f"A rxdel {b.sci} 1", "A retire 5", f"open {a.sci} gcm128", *received)
+    use(client, 7, lasting)
+    keys = [secrets.token_hex(16) for _ in range(300)]
     for number, key in enumerate(keys, 8):
-        client.carry_out(f"A key {number} {key} 0", f"A txsa 2 {number} 1 conf", "A txdel 2", f"A retire {number}")
+        use(client, number, key)
     client.carry_out(f"open {a.sci} gcm128", f"A key 1 {keys[-20]} 0", f"A key 2 {keys[0]} 0", f"A key 3 {lasting} 0")
     answers = [client.ask(f"A txsa {an} {key} 1 conf") for an, key in ((0, 1), (1, 2), (2, 3))]
     report(answers[0].startswith("ok pn"), f"given up: a recent key begins again at 1: {answers}")
@@ -475,7 +548,7 @@ def check_fill(world: World) -> None:
     header = earlier_header(journal.read_bytes())
     journal.write_bytes(header + b"".join(record(5) for _ in range(32768)))
     expect(a, "fill: too many names", 2, "has too many names")
-    for names, text in ((14200, ""), (14400, "is full to 50 percent"), (32766, "File too large")):
+    for names, text in ((14200, ""), (14400, "is full to 50 percent"), (32766, "no name left")):
         journal.write_bytes(header + b"".join(record(5) for _ in range(names)))
         log = len(a.log()) if (a.folder / "log").exists() else 0
         a.start()

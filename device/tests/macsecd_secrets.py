@@ -112,7 +112,8 @@ def change_keys(world: World, phase: int, octets: int) -> tuple[str, str]:
 
 def check_loads(a: End, known: Secrets, octets: int, living: list[str]) -> None:
     """Lines that are all carried out, or none is; and a second endpoint, after which no retired key is there."""
-    kept, refused, passed = ([secrets.token_hex(octets) for _ in range(2)] for _ in range(3))
+    kept, refused = ([secrets.token_hex(octets) for _ in range(2)] for _ in range(2))
+    passed = secrets.token_hex(octets)
     a.ask("load\n" + "\n".join(key_line(a, 3000 + number, key) for number, key in enumerate(kept)))
     known.note(*kept)
     counts: set[int] = set()
@@ -126,12 +127,11 @@ def check_loads(a: End, known: Secrets, octets: int, living: list[str]) -> None:
     lines = [*(key_line(a, 3002 + number, key) for number, key in enumerate(refused)), "A retire 4095"]
     answer = a.ask("load\n" + "\n".join(lines))
     report("refused" in answer, f"a wrong line of `load`: {answer}")
-    a.carry_out(f"A key 4000 {passed[0]} 0", "A retire 4000")
-    answer = a.ask(hand_over_lines(passed[1]))
+    a.carry_out(f"A key 4000 {passed} 0", "A retire 4000")
+    answer = a.ask(hand_over_lines(passed))
     report(answer == "1 ok\n2 ok\n", f"a second endpoint does not take over: {answer}")
-    known.add(*refused, passed[0])
+    known.add(*refused, passed)  # the second endpoint has retired it too
     known.judge("a second endpoint", [*living, *kept])
-    known.add(passed[1])  # the second endpoint has retired it
 
 
 def check_secrets(world: World, suite: str, changes: int) -> None:

@@ -38,10 +38,12 @@ def rows_of_text(text: str) -> tuple[list[tuple[str, ...]], list[tuple[str, ...]
     return [it[:6] for it in SENDS.findall(text)], RECEIVES.findall(text)
 
 
-def send_in_clear(end: End) -> None:
-    """Brings a frame without a tag to LINK, from the other end of the wire."""
-    other = Packets(end.peer.link_namespace, "link0")
-    other.send(bytes.fromhex("ffffffffffff02000000009988b5") + bytes(50))
+# Frames from the other end of the wire, and what is said of each: one without a tag, and two of no association.
+DROPPED = {
+    "88b5": "NoTag",
+    "88e52e00000000010200000000990001": "NoSAError, SCI 0200000000990001, AN 2",
+    "88e5030000000001": "NoSAError, SCI none, AN 3",
+}
 
 
 def check_rows(end: End) -> None:
@@ -60,12 +62,15 @@ def check_show(end: End) -> None:
     check_rows(end)
     text = end.ask("show")
     for form in (
-        r"\Amacsec0\n  link link0: up, MTU \d+, [0-9a-f]{2}(:[0-9a-f]{2}){5}, in .+\n  tap macsec0: port on\n",
+        r"\Amacsec0\n  link link0: up, MTU \d+, [0-9a-f]{2}(:[0-9a-f]{2}){5}, in .+$",
+        r"^  tap macsec0: port on, segments TCP( and UDP)?$",
         rf"^  suite \w+, SCI {end.sci}, \d+ keys left$", rf"^  last frame sent: {AGE}$",
         r"^  journal: [1-9]\d* of 28672 names$",
         rf"^peer {peer}: last frame {AGE}$",
     ):  # fmt: skip
         report(re.search(form, text, re.M) is not None, f"show has no {form}: {text}")
-    send_in_clear(end)
-    wanted = rf"^  last drop: {AGE}, from the link: NoTag$"
-    report(until(lambda: re.search(wanted, end.ask("show"), re.M) is not None), f"show: {end.ask('show')}")
+    other = Packets(end.peer.link_namespace, "link0")
+    for octets, said in DROPPED.items():
+        other.send(bytes.fromhex("ffffffffffff020000000099" + octets) + bytes(90))
+        wanted = rf"^  last drop: {AGE}, from the link: {said}$"
+        report(until(lambda: re.search(wanted, end.ask("show"), re.M) is not None), f"show: {end.ask('show')}")

@@ -2,8 +2,10 @@
 
 from __future__ import annotations
 
+import concurrent.futures
 import contextlib
 import ctypes
+import hashlib
 import json
 import os
 import pathlib
@@ -13,6 +15,7 @@ import signal
 import socket
 import struct
 import subprocess
+import tempfile
 import threading
 import time
 from collections.abc import Iterator, Sequence
@@ -26,7 +29,7 @@ SANITIZED = [*compiling.SANITIZED, "-O1", "-DMACSECD_UNFILTERED"]
 # As the Makefile links it. Else the first call of a function stores the vector registers on the stack of its thread. A
 # new thread has the registers of the thread that has made it, and they can have parts of a key.
 BOUND = ["-Wl,-z,relro", "-Wl,-z,now"]
-ALL_FRAMES = socket.htons(3)
+OBJECTS = tempfile.TemporaryDirectory(prefix="macsecd-objects-")  # of all programs of this test
 SOL_PACKET, PACKET_AUXDATA, VLAN_VALID = 263, 8, 1 << 4
 Ended = subprocess.CompletedProcess
 SALT = "0102030405060708090a0b0c"
@@ -44,8 +47,24 @@ def build(
     """Builds macsecd, with what wraps its calls, and macsecctl. Returns the folder of the programs."""
     out.mkdir(parents=True, exist_ok=True)
     words = ["gcc", *WARNINGS, "-pedantic", "-pthread", "-O2", *BOUND, *options, *INCLUDED, "-I", str(source)]
-    call(*words, *wrapped, "-o", str(out / "macsecd"), *device_sources(source), str(library))
-    call(*words, "-o", str(out / "macsecctl"), str(source / "macsecctl.c"))
+    about = [it for it in options if it != "-Wno-error"], [it.read_bytes() for it in sorted(source.glob("*.h"))]
+
+    def compiled(path: str) -> str:
+        """The object of a source. Most programs differ in one of them, so that the others are there."""
+        name = hashlib.sha256(repr((about, pathlib.Path(path).read_bytes())).encode()).hexdigest()
+        made = pathlib.Path(OBJECTS.name, f"{name}.o")
+        if not made.exists():
+            part = f"{made}-{os.getpid()}-{threading.get_ident()}"
+            call(*words, "-c", "-o", part, path)
+            os.rename(part, made)
+        return str(made)
+
+    sources = [str(source / "macsecctl.c"), *device_sources(source), *(it for it in wrapped if it.endswith(".c"))]
+    with concurrent.futures.ThreadPoolExecutor(os.cpu_count()) as pool:
+        macsecctl, *objects = pool.map(compiled, sources)
+    flags = [it for it in wrapped if not it.endswith(".c")]
+    call(*words, *flags, "-o", str(out / "macsecd"), *objects, str(library))
+    call(*words, "-o", str(out / "macsecctl"), macsecctl)
     return out
 
 
@@ -304,7 +323,7 @@ class Namespace:
     def ask(self, *requests: str) -> str:
         """Makes requests over one connection. Returns the last answer."""
         got = b""
-        with connected(self.socket, 10) as it:
+        with connected(self.socket, 70) as it:  # a request may have to wait for earlier ones
             for request in requests:
                 it.send(request.encode())
                 got = it.recv(1 << 20)
@@ -423,15 +442,15 @@ class End(Namespace):
             return call("ip", "-br", "link", "show", "link0").split()[2]
 
     def hand_over(self, octets: int = 16) -> None:
-        """Lets a second endpoint take over: a copy does not know the retired keys, and takes the number of one."""
-        keys = [secrets.token_hex(octets) for _ in range(2)]
-        self.ask(f"A key 4000 {keys[0]} 0", "A retire 4000")
-        got = self.ask(hand_over_lines(keys[1]))
+        """Lets a second endpoint take over: a copy does not know the retired keys, and takes the octets of one."""
+        key = secrets.token_hex(octets)
+        self.carry_out(f"A key 4000 {key} 0", "A retire 4000")
+        got = self.ask(hand_over_lines(key))
         report(got == "1 ok\n2 ok\n", f"a second endpoint does not take over: {got}")
 
 
 def hand_over_lines(key: str) -> str:
-    """A request by which a second endpoint takes over, if the key 4000 is retired."""
+    """A request by which a second endpoint takes over, if this key is retired and none in use has number 4000."""
     return f"load\nA key 4000 {key} 0\nA retire 4000"
 
 
@@ -455,7 +474,7 @@ class Client:
     """A connection to a control socket, for many lines."""
 
     def __init__(self, end: Namespace) -> None:
-        self.end, self.socket = end, connected(end.socket, 20)
+        self.end, self.socket = end, connected(end.socket, 70)
         self.slowest = 0.0
 
     def ask(self, request: str) -> str:
@@ -630,7 +649,7 @@ class Stream:
     def __init__(self, end: End, interval: float, size: int = 64, port: int = 9009) -> None:
         self.receiver, self.sender = udp_socket(end.peer.namespace, port), udp_socket(end.namespace)
         self.target, self.interval, self.size = (f"10.9.0.{end.peer.number}", port), interval, size
-        self.sent, self.received, self.goes_on = 0, 0, True
+        self.sent, self.received, self.overtaken, self.goes_on = 0, 0, 0, True
         self.arrived: set[bytes] = set()
         self.threads = [threading.Thread(target=each) for each in (self.send, self.receive)]
         for thread in self.threads:
@@ -648,10 +667,14 @@ class Stream:
     def receive(self) -> None:
         """Receives until it is stopped and none has arrived for half a second."""
         self.receiver.settimeout(0.5)
+        last = b""
         while True:
             try:
-                self.arrived.add(self.receiver.recv(65536)[:8])
+                number = self.receiver.recv(65536)[:8]
+                self.arrived.add(number)
                 self.received += 1
+                self.overtaken += number < last
+                last = max(number, last)
             except socket.timeout:
                 if not self.threads[0].is_alive():
                     return

@@ -94,6 +94,12 @@ enum outcome tap_write(struct tap *t, const uint8_t *octets, size_t length, stru
     return DONE;
 }
 
+/* Nothing is joined. */
+enum outcome tap_flush(struct tap *t, struct counts *c) {
+    (void)t, (void)c;
+    return DONE;
+}
+
 /* ---- LINK ---- */
 
 unsigned link_waiting(const struct link *l) {
@@ -180,8 +186,8 @@ uint64_t numbers_grants(const struct numbers *n) {
     return 0;
 }
 
-void numbers_received(struct numbers *n, macsec_endpoint *e, const macsec_received *got, unsigned waiting) {
-    (void)n, (void)e, (void)waiting;
+void numbers_received(struct numbers *n, macsec_endpoint *e, const macsec_received *got, bool again) {
+    (void)n, (void)e, (void)again;
     if (got->pn != 0)
         wrong("packet number %" PRIu64 " lacks a reservation", got->pn);
 }
@@ -196,8 +202,8 @@ void floods_stop(struct device *d) {
     (void)d;
 }
 
-int confine_calls(enum thread thread) {
-    (void)thread;
+int confine_calls(enum thread thread, int own, int manager) {
+    (void)thread, (void)own, (void)manager;
     return 0;
 }
 
