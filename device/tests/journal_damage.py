@@ -101,17 +101,18 @@ def cut(program: pathlib.Path, rng: random.Random) -> bool:
 
 def check_damage(options: runs.Options) -> None:
     """Damaged journals and cut journals."""
-    numbers, jobs = runs.build_numbers(options.library, options.folder), []
-    journals, each, cuts = (12, 15, 8) if options.short else (250, 20, 500)
+    numbers, jobs = options.numbers, []
+    journals, each, cuts = (12, 15, 60) if options.short else (250, 20, 500)
     with ThreadPoolExecutor(len(os.sched_getaffinity(0))) as pool:
         made = list(pool.map(lambda it: make(options, numbers, it), range(journals)))
         for at, number in itertools.product(range(journals), range(each)):
             rng = random.Random(f"{options.seed} octet {number} of {at}")
             jobs.append(pool.submit(lambda at=at, rng=rng: len(wrong) < MANY and damage(made[at], rng)))
         refused = sum(it.result() for it in jobs)
-        rngs = [random.Random(f"{options.seed} cut {it}") for it in range(cuts)]
-        noticed = sum(pool.map(cut, itertools.cycle((numbers, options.program)), rngs))
-        report(noticed > cuts * 3 / 4, f"of {cuts} journals that were cut only {noticed} were written again")
+    # One after another: a program that waits for a processor between a look and an append does not see a cut.
+    rngs = [random.Random(f"{options.seed} cut {it}") for it in range(cuts)]
+    noticed = sum(map(cut, itertools.cycle((numbers, options.program)), rngs))
+    report(noticed > cuts * 3 / 4, f"of {cuts} journals that were cut only {noticed} were written again")
     print(
         f"damage: of {len(jobs)} journals with another octet {refused} were refused; {noticed} of {cuts} that were cut "
         "were written again"

@@ -1,20 +1,18 @@
 /* A library that the test journal loads before a program with a journal. It makes system calls fail, stops the program,
- * and plays a disk that loses what was not made durable.
+ * and logs what it does to the disk.
  *
  * FAULTS is a list of CALL:FIRST:COUNT:KIND, separated by commas: COUNT calls of this name, from the one of number
  * FIRST, counted from 1. CALL is pwrite, fdatasync, fsync, openat, renameat2, unlinkat or flock, or `any` of them. KIND
- * is the number of an errno, `short` (pwrite writes a third and returns that), `torn` (pwrite writes a half and fails
- * with EIO), or `stop` (SIGKILL before the call).
+ * is the number of an errno, `short` (pwrite writes a third and returns that), `torn` (pwrite writes a half, renameat2
+ * all, and fails with EIO), or `stop` (SIGKILL before the call).
  *
- * DISK is the folder of the disk. A successful fsync or fdatasync of a file copies the pages that were written since
- * the last one, whether it was successful or not, to DISK/INODE. A failed one copies nothing, and leaves the pages
- * clean, as on Linux. A folder is synchronized in the same way: if a name has changed since the last call, which
- * DISK/changed says, a successful one writes the names in it and their inodes to DISK/names. DISK/INODE.torn says that
- * octets of a file were written and are not on the disk. Nothing is synchronized really.
+ * LOG is a file to which each call is added that writes, makes, renames or synchronizes a file or folder: a line with
+ * its name, the inode, the place in the file, the octets, whether it is reported as done, and how many frames were
+ * captured before. The octets follow. Then nothing is synchronized really: what a power failure leaves is for the
+ * reader of the log.
  *
  * PAUSE is a file that flock creates when it is called for the first time. It waits until the file is removed. */
 #define _GNU_SOURCE
-#include <dirent.h>
 #include <dlfcn.h>
 #include <errno.h>
 #include <fcntl.h>
@@ -29,8 +27,6 @@
 #include <time.h>
 #include <unistd.h>
 
-enum { PAGE = 4096, FILES = 64 };
-
 /* The calls, and how often each was made. */
 static struct call {
     const char *name;
@@ -38,12 +34,6 @@ static struct call {
 } calls[] = { { "pwrite", 0 },    { "fdatasync", 0 }, { "fsync", 0 }, { "openat", 0 },
               { "renameat2", 0 }, { "unlinkat", 0 },  { "flock", 0 }, { "any", 0 } };
 enum { PWRITE, FDATASYNC, FSYNC, OPENAT, RENAMEAT2, UNLINKAT, FLOCK, ANY };
-
-/* The octets of files that were written and are not on the disk. */
-static struct dirty {
-    ino_t inode;
-    off_t from, to;
-} files[FILES];
 
 static void *next(const char *name) {
     void *found = dlsym(RTLD_NEXT, name);
@@ -54,17 +44,6 @@ static void *next(const char *name) {
 
 /* The call itself. */
 #define REAL(name) ((__typeof__(name) *)next(#name))
-
-static int disk_file(const char *name, int flags) {
-    char path[PATH_MAX];
-    int file;
-    if (snprintf(path, sizeof path, "%s/%s", getenv("DISK"), name) >= (int)sizeof path)
-        abort();
-    file = REAL(open)(path, flags | O_CREAT | O_CLOEXEC, 0600);
-    if (file < 0)
-        abort();
-    return file;
-}
 
 /* ---- Faults ---- */
 
@@ -100,166 +79,100 @@ static int is_refused(int call) {
     return *fault_of(call) != '\0';
 }
 
-/* ---- The disk ---- */
+/* ---- The log ---- */
 
-static struct dirty *dirty_of(int file) {
-    struct stat status;
-    if (fstat(file, &status) != 0)
+static unsigned long written; /* how often a capture was written, at first its header */
+
+static void note(int call, ino_t inode, off_t at, const void *octets, size_t length, int done) {
+    const char *name = getenv("LOG");
+    int file;
+    if (name == NULL)
+        return;
+    file = REAL(open)(name, O_WRONLY | O_APPEND | O_CREAT | O_CLOEXEC, 0600);
+    if (file < 0 || dprintf(file, "%s %ju %jd %zu %d %lu\n", calls[call].name, (uintmax_t)inode, (intmax_t)at, length,
+                            done, written) < 0)
         abort();
-    for (int at = 0; at < FILES; at++)
-        if (files[at].inode == status.st_ino || files[at].inode == 0) {
-            files[at].inode = status.st_ino;
-            return &files[at];
-        }
-    abort();
-}
-
-/* Notes something of which the next processes know too, in an empty file. */
-static void note(const char *name) {
-    if (getenv("DISK") != NULL)
-        close(disk_file(name, O_WRONLY));
-}
-
-/* Was it noted? Then it is not any more. */
-static int take_note(const char *name) {
-    char path[PATH_MAX];
-    snprintf(path, sizeof path, "%s/%s", getenv("DISK"), name);
-    return unlink(path) == 0;
-}
-
-static const char *torn_of(ino_t inode) {
-    static char name[40];
-    snprintf(name, sizeof name, "%ju.torn", (uintmax_t)inode);
-    return name;
-}
-
-static void write_dirty(int file, off_t at, size_t length) {
-    struct dirty *dirty = dirty_of(file);
-    off_t from = at / PAGE * PAGE, to = (at + (off_t)length + PAGE - 1) / PAGE * PAGE;
-    if (dirty->to == 0 || from < dirty->from)
-        dirty->from = from;
-    if (to > dirty->to)
-        dirty->to = to;
-    note(torn_of(dirty->inode));
-}
-
-/* Copies what is dirty to the disk. */
-static void keep(int file, struct dirty *dirty) {
-    char name[32];
-    uint8_t page[PAGE];
-    int disk;
-    snprintf(name, sizeof name, "%ju", (uintmax_t)dirty->inode);
-    disk = disk_file(name, O_WRONLY);
-    for (off_t at = dirty->from; at < dirty->to; at += PAGE) {
-        ssize_t count = pread(file, page, PAGE, at);
-        if (count < 0 || REAL(pwrite)(disk, page, (size_t)count, at) != count)
-            abort();
-    }
-    close(disk);
-}
-
-/* Writes the names in a folder to the disk. */
-static void keep_names(int folder) {
-    int file = disk_file("names", O_WRONLY | O_TRUNC), copy = dup(folder);
-    DIR *names = copy < 0 ? NULL : fdopendir(copy);
-    struct dirent *entry;
-    if (names == NULL)
+    if (REAL(write)(file, octets, length) != (ssize_t)length)
         abort();
-    rewinddir(names);
-    while ((entry = readdir(names)) != NULL)
-        if (entry->d_type == DT_REG)
-            dprintf(file, "%ju %s\n", (uintmax_t)entry->d_ino, entry->d_name);
-    closedir(names);
     close(file);
 }
 
-static void sync_file(int file, int is_failed) {
-    struct dirty *dirty = dirty_of(file);
-    if (!is_failed) {
-        keep(file, dirty);
-        (void)take_note(torn_of(dirty->inode));
-    }
-    dirty->from = dirty->to = 0;
+static ino_t inode_of(int file) {
+    struct stat status;
+    if (fstat(file, &status) != 0)
+        abort();
+    return status.st_ino;
+}
+
+/* Synchronizes a file or folder, if that is not for the reader of the log. */
+static int synchronize(int call, int file, int (*real)(int)) {
+    int refused = is_refused(call), error = errno;
+    note(call, inode_of(file), 0, NULL, 0, !refused);
+    errno = error;
+    if (!refused && getenv("LOG") == NULL)
+        return real(file);
+    return refused ? -1 : 0;
 }
 
 /* ---- The calls ---- */
 
 int fdatasync(int file) {
-    int refused = is_refused(FDATASYNC), error = errno;
-    if (getenv("DISK") == NULL)
-        return refused ? -1 : REAL(fdatasync)(file);
-    sync_file(file, refused);
-    errno = error;
-    return refused ? -1 : 0;
+    return synchronize(FDATASYNC, file, REAL(fdatasync));
 }
 
 int fsync(int file) {
-    int refused = is_refused(FSYNC), error = errno;
-    struct stat status;
-    if (getenv("DISK") == NULL)
-        return refused ? -1 : REAL(fsync)(file);
-    if (fstat(file, &status) != 0)
-        abort();
-    if (!S_ISDIR(status.st_mode))
-        sync_file(file, refused);
-    else if (take_note("changed") && !refused)
-        keep_names(file);
-    errno = error;
-    return refused ? -1 : 0;
+    return synchronize(FSYNC, file, REAL(fsync));
 }
 
+ssize_t write(int file, const void *octets, size_t length) {
+    written++;
+    return REAL(write)(file, octets, length);
+}
+
+/* A write that a signal interrupts before its first octet has done nothing, as POSIX says, so the disk isn't told. */
 ssize_t pwrite(int file, const void *octets, size_t length, off_t at) {
     const char *kind = fault_of(PWRITE);
-    int torn = strcmp(kind, "torn") == 0;
-    ssize_t count;
-    if (torn || (strcmp(kind, "short") == 0 && length > 1))
-        length /= torn ? 2 : 3;
-    else if (*kind != '\0' && strcmp(kind, "short") != 0)
-        return -1;
-    count = REAL(pwrite)(file, octets, length == 0 ? 1 : length, at);
-    if (count > 0)
-        write_dirty(file, at, (size_t)count);
-    if (torn)
-        errno = EIO;
-    return torn ? -1 : count;
+    int is_torn = strcmp(kind, "torn") == 0, is_short = strcmp(kind, "short") == 0, error = errno;
+    size_t part = is_torn ? length / 2 : is_short && length > 1 ? length / 3 : length;
+    ssize_t count = *kind != '\0' && !is_torn && !is_short ? -1 : REAL(pwrite)(file, octets, part + (part == 0), at);
+    int done = count >= 0 && !is_torn;
+    if (done || is_torn || error != EINTR)
+        note(PWRITE, inode_of(file), at, octets, done ? (size_t)count : length, done);
+    errno = is_torn ? EIO : error;
+    return is_torn ? -1 : count;
 }
 
 int openat(int folder, const char *name, int flags, ...) {
     va_list rest;
     mode_t mode;
     int file;
-    struct stat status;
-    char path[PATH_MAX];
     va_start(rest, flags);
     mode = flags & O_CREAT ? va_arg(rest, mode_t) : 0;
     va_end(rest);
     if (is_refused(OPENAT))
         return -1;
     file = REAL(openat)(folder, name, flags, mode);
-    /* A new file has nothing on the disk, even if it has the inode of an old one. */
-    if (file >= 0 && flags & O_CREAT && getenv("DISK") != NULL && fstat(file, &status) == 0) {
-        struct dirty *dirty = dirty_of(file);
-        dirty->from = dirty->to = 0;
-        snprintf(path, sizeof path, "%s/%ju", getenv("DISK"), (uintmax_t)status.st_ino);
-        unlink(path);
-        (void)take_note(torn_of(status.st_ino));
-        note("changed");
-    }
+    if (file >= 0 && flags & O_CREAT)
+        note(OPENAT, inode_of(file), 0, NULL, 0, 1);
     return file;
 }
 
 int renameat2(int from, const char *name, int to, const char *new_name, unsigned flags) {
-    int result = is_refused(RENAMEAT2) ? -1 : REAL(renameat2)(from, name, to, new_name, flags);
-    if (result == 0)
-        note("changed");
-    return result;
+    const char *kind = fault_of(RENAMEAT2);
+    int is_torn = strcmp(kind, "torn") == 0, error = errno, result;
+    struct stat status;
+    if (fstatat(from, name, &status, AT_SYMLINK_NOFOLLOW) != 0)
+        return -1;
+    result = *kind != '\0' && !is_torn ? -1 : REAL(renameat2)(from, name, to, new_name, flags);
+    if (*kind == '\0')
+        error = errno;
+    note(RENAMEAT2, status.st_ino, result, NULL, 0, result == 0 && !is_torn);
+    errno = is_torn ? EIO : error;
+    return is_torn ? -1 : result;
 }
 
 int unlinkat(int folder, const char *name, int flags) {
-    int result = is_refused(UNLINKAT) ? -1 : REAL(unlinkat)(folder, name, flags);
-    if (result == 0)
-        note("changed");
-    return result;
+    return is_refused(UNLINKAT) ? -1 : REAL(unlinkat)(folder, name, flags);
 }
 
 int flock(int file, int operation) {

@@ -4,7 +4,7 @@
  *     journal_held SEED
  *
  * Each frame has its packet number in its first octets, and a length and octets that follow from it. No frame may be
- * overtaken, altered or lost, except a frame that comes while there is no space or that waits for two ticks. */
+ * overtaken, altered or lost, except a frame that comes while there is no space or that waits for six ticks. */
 #include "device.h"
 #include <inttypes.h>
 #include <stdio.h>
@@ -14,7 +14,7 @@
 enum { SHORTEST = 60, LENGTHS = 1400, MOST_AHEAD = 40 };
 
 /* At the beginning of each period nothing is reserved for so many frames. The last frame comes at such a time. */
-enum { PERIOD = 4096, STALL = 1500, FRAMES = 49 * PERIOD + STALL / 2 };
+enum { TICKS = 6, PERIOD = 4096, STALL = 1500, FRAMES = 49 * PERIOD + STALL / 2 };
 
 static struct device device;
 static uint64_t newest, reserved, grants, last, delivered, refused;
@@ -57,18 +57,30 @@ static void test_octets(const struct frame *frame, uint64_t pn) {
             fail("other octets", pn);
 }
 
+enum outcome frames_deliver(struct device *d, const uint8_t *octets, size_t length) {
+    const struct frame frame = { octets, length };
+    uint64_t pn;
+    (void)d;
+    memcpy(&pn, octets, sizeof pn);
+    test_octets(&frame, pn);
+    if (pn <= last)
+        fail("it was overtaken, or came twice", pn);
+    last = pn;
+    delivered++;
+    return DONE;
+}
+
+/* Each seventh frame is of another association of the channel, which has reservations. */
 enum outcome frames_present(struct device *d, const struct frame *frame) {
+    struct held_frame it = { .length = (uint16_t)frame->length };
     uint64_t pn;
     memcpy(&pn, frame->octets, sizeof pn);
     test_octets(frame, pn);
-    if (pn <= last)
-        fail("it was overtaken, or came twice", pn);
-    if (pn > reserved) {
-        refused += !held_frames_keep(d, frame->octets, frame->length);
-    } else {
-        last = pn;
-        delivered++;
-    }
+    it.accepted = pn % 7 == 0;
+    if (it.accepted ? held_frames_wait(d, it.sci) : pn > reserved)
+        refused += !held_frames_keep(d, &it, frame->octets);
+    else
+        (void)frames_deliver(d, frame->octets, frame->length);
     reserve();
     return DONE;
 }
@@ -84,30 +96,34 @@ static void receive(uint64_t pn) {
         fail("it is not taken", pn);
 }
 
-/* Frames that wait without a reservation are dropped after two ticks, and counted. */
+/* Frames that wait without a reservation are dropped after some ticks, and counted. */
 static void test_ticks(void) {
-    unsigned count = held_frames_count(&device);
-    held_frames_tick(&device);
-    if (held_frames_count(&device) != count)
-        fail("it does not wait", last);
-    held_frames_tick(&device);
-    if (held_frames_count(&device) != 0 || device.counts.link_no_reservation != count || device.counts.link_in != count)
+    unsigned count = device.held_frames.count, dropped = 0;
+    for (unsigned i = 0; i < count; i++)
+        dropped += !device.held_frames.frames[i].accepted;
+    for (int tick = 1; tick < TICKS; tick++)
+        if (held_frames_tick(&device) != DONE || device.held_frames.count != count)
+            fail("it does not wait", last);
+    delivered = 0;
+    if (held_frames_tick(&device) != DONE || device.held_frames.count != 0 || delivered != count - dropped ||
+        device.counts.link_no_reservation != dropped || device.counts.link_in != dropped)
         fail("it waits for ever, or is not counted", last);
     if (device.history.dropped == 0 || device.history.why != MACSEC_VERDICT_NO_RESERVATION)
         fail("it is not shown as the last drop", last);
 }
 
 int main(int count, char **words) {
-    uint64_t waiting;
+    uint64_t waiting, in_order;
     if (count != 2)
         return 2;
     state = strtoull(words[1], NULL, 10);
     for (uint64_t pn = 1; pn <= FRAMES; pn++)
         receive(pn);
-    waiting = held_frames_count(&device);
+    waiting = device.held_frames.count;
     if (delivered + refused + waiting != FRAMES)
         fail("it is lost", last);
+    in_order = delivered;
     test_ticks();
-    printf("delivered %" PRIu64 " refused %" PRIu64 " waiting %" PRIu64 "\n", delivered, refused, waiting);
+    printf("delivered %" PRIu64 " refused %" PRIu64 " waiting %" PRIu64 "\n", in_order, refused, waiting);
     return 0;
 }

@@ -11,8 +11,8 @@
  * failure: each tick makes reservations longer, since no time passes. If nothing fails, each new frame has to be
  * delivered. agree is a key agreement. It sends and receives frames of association 0 under a key, retires the key, and
  * installs it again in a second endpoint. Then it does so with association 1 under COUNT other keys, and ends without
- * an orderly end. rates prints how many packet numbers are reserved for a channel that is quiet, busy, quiet again, and
- * whose frames lack a reservation. */
+ * an orderly end. rates prints how many packet numbers are reserved for a channel that is new, busy, quiet, whose
+ * frames lack a reservation, and that is fast. */
 #define _GNU_SOURCE
 #include "device.h"
 #include "journal.h"
@@ -20,11 +20,12 @@
 #include <errno.h>
 #include <inttypes.h>
 #include <stdarg.h>
+#include <time.h>
 
 enum { TICK = 4, RECORDED = 10, LINE = 128 };
 
 static const char own[] = "0200000000010001", other[] = "0200000000020001";
-static const uint8_t other_sci[8] = { 2, 0, 0, 0, 0, 2, 0, 1 };
+static const uint8_t other_sci[8] = { 2, 0, 0, 0, 0, 2, 0, 1 }, another_sci[8] = { 2, 0, 0, 0, 0, 3, 0, 1 };
 
 static const char *journal_path;
 
@@ -44,19 +45,9 @@ void message(const char *form, ...) {
     PRINT("%s", "\n");
 }
 
-int message_wrong(const char *form, ...) {
-    PRINT("%s", "\n");
-    return ENDS_WRONG;
-}
-
 int message_of_errno(const char *form, ...) {
     int error = errno;
     PRINT(": %s\n", strerror(error));
-    return ENDS_FAILED;
-}
-
-int message_of_memory(void) {
-    message("out of memory");
     return ENDS_FAILED;
 }
 
@@ -66,8 +57,15 @@ bool config_path(char *path, size_t room, const char *variable, const char *othe
     return snprintf(path, room, "%s", journal_path) < (int)room;
 }
 
-int confine_calls(enum thread thread) {
-    (void)thread;
+/* No synchronization takes long, however slow the machine is: else fewer and longer reservations are made. */
+int clock_gettime(clockid_t clock, struct timespec *time) {
+    (void)clock;
+    *time = (struct timespec){ 0, 0 };
+    return 0;
+}
+
+int confine_calls(enum thread thread, int own, int manager) {
+    (void)thread, (void)own, (void)manager;
     return 0;
 }
 
@@ -150,18 +148,19 @@ static void begin(void) {
     }
 }
 
-/* The peer sends a frame, which is received. */
-static void receive_frame(unsigned an) {
+/* The peer sends a frame, which is received. It is given again if it lacks a reservation: there is no thread, so the
+ * record is written. Returns whether it is delivered. */
+static bool receive_frame(void) {
     macsec_sent sent;
-    macsec_received got;
+    macsec_received got = MACSEC_RECEIVED_INIT;
     must("send", macsec_send(&peer, client_frame, sizeof client_frame, &sent));
-    must("receive", macsec_receive(&e, sent.frame, sent.length, &got));
+    for (int times = 0; times == 0 || (times == 1 && got.verdict == MACSEC_VERDICT_NO_RESERVATION); times++) {
+        must("receive", macsec_receive(&e, sent.frame, sent.length, &got));
+        numbers_received(n, &e, &got, times > 0);
+    }
     if (got.delivered)
         capture(out, sent.frame, sent.length);
-    else if (next[an] >= first[an])
-        lacked++;
-    next[an]++;
-    numbers_received(n, &e, &got, 1);
+    return got.delivered;
 }
 
 static int run_send(unsigned long frames, const char *name) {
@@ -179,7 +178,8 @@ static int run_send(unsigned long frames, const char *name) {
         went = send_frame(&e, out);
         sent += went;
         numbers_used(n, &e, went, !went);
-        receive_frame(an);
+        lacked += !receive_frame() && next[an] >= first[an];
+        next[an]++;
         if (counts.journal_failed != failures && it % TICK == TICK - 1) {
             failures = counts.journal_failed;
             numbers_tick(n, &e);
@@ -201,9 +201,9 @@ static void begin_key(unsigned an, unsigned key, unsigned pn) {
     install_key(&e, key);
     numbers_note_key(n, key, true);
     create_association(an, key);
-    numbers_accept(n, &e);
+    numbers_begin_to_receive(n, &e, other_sci, (uint8_t)an);
     carry_out(&e, "A txsa %u %u %x conf", an, key, pn);
-    numbers_reserve(n, &e);
+    numbers_begin_to_send(n, &e, (uint8_t)an);
     carry_out(&e, "A txon %u", an);
     install_key(&peer, key);
 }
@@ -217,20 +217,12 @@ static void retire_key(unsigned an, unsigned key) {
     carry_out(&peer, "A retire %u", key);
 }
 
-/* A frame is sent, and the peer sends one with this packet number, which is given again if it lacks a reservation. */
+/* A frame is sent, and the peer sends one with this packet number. */
 static void pass_frames(unsigned an, unsigned key, unsigned pn) {
-    macsec_sent sent;
-    macsec_received got;
     (void)send_frame(&e, out);
     carry_out(&peer, "A txsa %u %u %x conf", an, key, pn);
     carry_out(&peer, "A txon %u", an);
-    must("send", macsec_send(&peer, client_frame, sizeof client_frame, &sent));
-    must("receive", macsec_receive(&e, sent.frame, sent.length, &got));
-    numbers_received(n, &e, &got, 1);
-    if (got.verdict == MACSEC_VERDICT_NO_RESERVATION)
-        must("receive", macsec_receive(&e, sent.frame, sent.length, &got));
-    if (got.delivered)
-        capture(out, sent.frame, sent.length);
+    (void)receive_frame();
     carry_out(&peer, "A txdel %u", an);
 }
 
@@ -241,7 +233,7 @@ static int run_agree(unsigned count, const char *name) {
         carry_out(&e, "A rxsc %s", other);
         numbers_begin(n, &e);
         begin_key(0, 0, 1);
-        pass_frames(0, 0, 1 + number); /* the first reservation is enough for both */
+        pass_frames(0, 0, 1 + number);
         if (number == 1)
             break;
         retire_key(0, 0);
@@ -251,8 +243,8 @@ static int run_agree(unsigned count, const char *name) {
         macsec_free(&peer);
     }
     for (unsigned key = 1; key <= count; key++) { /* with packet numbers that no other key has */
-        begin_key(1, key, 16 * key);
-        pass_frames(1, key, 16 * key);
+        begin_key(1, key, key << 20);
+        pass_frames(1, key, key << 20);
         retire_key(1, key);
     }
     return end();
@@ -262,7 +254,7 @@ static int run_agree(unsigned count, const char *name) {
 
 static void receive_frames(struct receive_rate *p, unsigned count) {
     for (unsigned it = 0; it < count; it++)
-        (void)receive_rates_accepted(p);
+        receive_rates_count(p);
 }
 
 static void print_amount(const char *what, struct receive_rate *p, double slow) {
@@ -272,7 +264,13 @@ static void print_amount(const char *what, struct receive_rate *p, double slow) 
 static int run_rates(void) {
     static struct receive_rates rates;
     struct receive_rate *p = receive_rates_of(&rates, other_sci);
-    print_amount("quiet", p, 0);
+    for (int frame = 0; frame < 10; frame++) {
+        print_amount("new", p, 5);
+        receive_frames(p, 1);
+        receive_rates_tick(&rates);
+    }
+    receive_frames(receive_rates_of(&rates, another_sci), 2);
+    print_amount("two", receive_rates_of(&rates, another_sci), 0);
     receive_frames(p, 1000);
     print_amount("busy", p, 0);
     receive_rates_tick(&rates);
@@ -282,12 +280,16 @@ static int run_rates(void) {
         receive_rates_tick(&rates);
     }
     for (unsigned frame = 0; frame < 300; frame++)
-        (void)receive_rates_lacked(p, 1, frame);
+        (void)receive_rates_lacked(p, 1, false);
     print_amount("first", p, 0);
-    (void)receive_rates_lacked(p, 2, 300);
+    (void)receive_rates_lacked(p, 2, true);
     print_amount("next", p, 0);
     receive_rates_tick(&rates);
     print_amount("later", p, 0);
+    receive_frames(p, 3000);
+    print_amount("fast", p, 0);
+    receive_frames(p, 17000);
+    print_amount("faster", p, 0);
     receive_frames(p, 1 << 20);
     print_amount("most", p, 0);
     return 0;
@@ -303,7 +305,7 @@ int main(int count, char **words) {
         return numbers_create("journal") == 0 ? 0 : 3;
     if (count > 3 && setenv("LIMIT", words[3], 1) != 0)
         return 1;
-    if (numbers_open(&n, "journal", &counts) != 0)
+    if (numbers_open(&n, "journal", "", &counts) != 0)
         return 3;
     if (count == 6 && strcmp(words[1], "agree") == 0)
         return run_agree((unsigned)strtoul(words[4], NULL, 10), words[5]);
