@@ -16,7 +16,7 @@ static bool read_file(struct journal *journal, struct names *names) {
     fuzz_require(journals_path(path, sizeof path, "fuzz"), "the path is too long");
     if (journal_open(journal, path, LIMIT, &fault) != 0)
         return false;
-    fuzz_require(names_read(names, &journal->machine, journal->room), "out of memory");
+    fuzz_require(names_read(names, &journal->machine, journal->room, journal->room), "out of memory");
     return true;
 }
 

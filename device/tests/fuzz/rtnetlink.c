@@ -69,5 +69,9 @@ int LLVMFuzzerTestOneInput(const uint8_t *octets, size_t length) {
     (void)rtnetlink_read(device);
     fuzz_require(rtnetlink_tick(device), "a second is not counted");
     fuzz_require(has_carrier == device->link.up, "TAP is not as LINK is");
+    input = (struct input){ octets, length }; /* the same, as what is known of the host's devices */
+    device->over.asked = true;
+    device->over.number = 0;
+    over_read(device);
     return 0;
 }
