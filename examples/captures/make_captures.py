@@ -55,6 +55,19 @@ def ping(kind: int, sender: tuple[bytes, bytes], target: tuple[bytes, bytes], nu
     return target[0] + sender[0] + b"\x08\x00" + ip[:10] + checksum(ip) + ip[12:] + icmp
 
 
+def mirrored(frame: bytes, number: int) -> bytes:
+    """A frame as a switch mirrors it by ERSPAN of the second type, to 192.0.2.9."""
+    gre, erspan = bytes.fromhex("100088be") + number.to_bytes(4, "big"), bytes.fromhex("1000000900000001")
+    ip = (
+        struct.pack(">BBHHHBBH", 0x45, 0, 36 + len(frame), number, 0x4000, 64, 47, 0)
+        + IP_1[:3]
+        + b"\x08"
+        + IP_1[:3]
+        + b"\x09"
+    )
+    return bytes.fromhex("020000000009" "020000000008" "0800") + ip[:10] + checksum(ip) + ip[12:] + gre + erspan + frame
+
+
 def write(path: str, records: list[Record]) -> None:
     """Writes a pcap file, with times in microseconds."""
     capture.write_pcap(path, ((START * 10**9 + time * 1000, frame) for time, frame in records), 1000)
@@ -115,8 +128,9 @@ def main() -> None:
     # Two runs with one CONFIG, whose third client frames differ.
     changed = [*((5_000_000 + time, frame) for time, frame in from_1[:2]), (6_001_000, ping(8, one, two, 7))]
     put("two-runs.pcap", [*link, *sent(changed, SCI_1, KEYS[0], 0, "1")])
-    # The frame check sequence left on; a VLAN tag before the SecTAG.
+    # The frame check sequence left on; a VLAN tag before the SecTAG; mirrored by a switch.
     put("fcs.pcap", [(time, frame + bytes.fromhex("deadbeef")) for time, frame in link])
+    put("erspan.pcap", [(time, mirrored(frame, number)) for number, (time, frame) in enumerate(link)])
     put("vlan.pcap", [(time, frame[:12] + bytes.fromhex("81000064") + frame[12:]) for time, frame in link])
 
 

@@ -1,21 +1,19 @@
-"""Reads and writes capture files: pcap, pcapng, and both compressed by gzip."""
+"""Reads and writes capture files: pcap and pcapng, which can be compressed."""
 
 from __future__ import annotations
 
 import contextlib
 import errno
-import gzip
 import os
 import secrets
 import struct
-import zlib
 from collections.abc import Iterable, Iterator
 from typing import BinaryIO, NamedTuple, cast
 
+from .compressed import compression_of, uncompressed
 from .errors import CaptureError
-from .frames import may_be_protected
+from .frames import ETHERNET, may_be_protected, network_of, new_tuple
 
-ETHERNET = 1
 MOST_OCTETS = 262_144
 # The limits of a pcapng file: the octets of a block that is read (others are skipped), the options of a block, the
 # interfaces of a section, and how many blocks without a packet can follow each other.
@@ -25,12 +23,20 @@ _PIECE = 1 << 16
 _DESCRIPTORS = "/proc/self/fd"
 # The blocks that have a packet: obsolete, simple and enhanced.
 _PACKETS = (2, 3, 6)
+_PCAPNG = b"\x0a\x0d\x0d\x0a"
+_BY_EDITCAP = "if Wireshark opens it, make pcapng of it by editcap -F pcapng IN NEW, with -T ether if it refuses that"
 _MAGIC = {0xA1B2C3D4: 1000, 0xA1B23C4D: 1}
+# With what a file of pcap begins, in both orders, and the order and the unit of its times.
+_STARTS = {struct.pack(order + "I", it): (order, unit) for order in "<>" for it, unit in _MAGIC.items()}
+_VERSIONS = (b"\2\0\4\0", b"\0\2\0\4")
+# The head of an enhanced packet block, and of a comment.
+_HEAD, _COMMENT = struct.Struct("<7I"), struct.Struct("<HH")
 
 
 class Packet(NamedTuple):
     """A record, numbered from 0 as `macsec` numbers them. `time` is in nanoseconds since 1970, `fcs` the length of a
-    frame check sequence that the file announces."""
+    frame check sequence that the file announces. `lack` says why a frame of a tunnel is not here (`tunnels`); a frame
+    that is was `inside` one, and in so many IP fragments before this one."""
 
     number: int
     time: int
@@ -38,16 +44,29 @@ class Packet(NamedTuple):
     length: int
     link_type: int = ETHERNET
     fcs: int = 0
+    lack: str = ""
+    inside: str = ""
+    fragments: int = 0
 
     @property
     def is_whole(self) -> bool:
         """Was all of an Ethernet frame captured?"""
-        return self.link_type == ETHERNET and len(self.frame) >= self.length
+        return self.link_type == ETHERNET and len(self.frame) >= self.length and not self.lack
+
+    @property
+    def unseen(self) -> str:
+        """Why an endpoint cannot judge it; nothing if one can."""
+        if self.lack or self.link_type != ETHERNET:
+            return self.lack or f"linktype {self.link_type}"
+        return "partial" if len(self.frame) < self.length else ""
 
     @property
     def may_be_protected(self) -> bool:
         """Can it be a protected frame, as far as it was captured?"""
-        return self.link_type != ETHERNET or may_be_protected(self.frame)
+        if self.lack or self.link_type == ETHERNET:
+            return bool(self.lack) or may_be_protected(self.frame)
+        network = network_of(self.frame, self.link_type)
+        return network is None or may_be_protected(bytes(12) + network[0].to_bytes(2, "big"))
 
 
 def read(source: str | BinaryIO) -> Iterator[Packet]:
@@ -59,34 +78,20 @@ def read(source: str | BinaryIO) -> Iterator[Packet]:
         with open(source, "rb") as named:
             yield from read(named)
         return
-    file, start = source, source.read(4)
-    try:
-        if start[:2] == b"\x1f\x8b":
-            file = cast(BinaryIO, gzip.GzipFile(fileobj=cast(BinaryIO, _PutBack(source, start))))
-            start = file.read(4)
-        if start == b"\x0a\x0d\x0d\x0a":
+    with uncompressed(source, source.read(4)) as (file, start):
+        if start == _PCAPNG:
             yield from _read_pcapng(file, start)
         else:
             yield from _read_pcap(file, start)
-    except EOFError:
-        raise CaptureError("the compressed file is cut") from None
-    except (gzip.BadGzipFile, zlib.error) as why:
-        raise CaptureError(f"the compressed file is damaged: {why}") from None
 
 
-class _PutBack:
-    """A file whose first octets were read already, and which cannot be read again."""
+def is_capture(start: bytes) -> bool:
+    """Can a capture begin with these 4 octets?
 
-    def __init__(self, file: BinaryIO, start: bytes) -> None:
-        self._file, self._start = file, start
-
-    def read(self, count: int = -1) -> bytes:
-        start, self._start = self._start, b""
-        if count < 0:
-            return start + self._file.read()
-        if len(start) > count:
-            start, self._start = start[:count], start[count:]
-        return start + self._file.read(count - len(start))
+    >>> is_capture(bytes.fromhex("d4c3b2a1")), is_capture(b"end ")
+    (True, False)
+    """
+    return start in _STARTS or start == _PCAPNG or compression_of(start) is not None
 
 
 def _exactly(file: BinaryIO, count: int, what: str) -> bytes:
@@ -101,15 +106,31 @@ def _skip(file: BinaryIO, count: int, what: str) -> None:
         count -= len(_exactly(file, min(count, _PIECE), what))
 
 
-def _read_pcap(file: BinaryIO, start: bytes) -> Iterator[Packet]:
-    order = next((it for it in "<>" if len(start) == 4 and struct.unpack(it + "I", start)[0] in _MAGIC), None)
-    if order is None:
-        raise CaptureError("this is neither pcap nor pcapng")
-    unit = _MAGIC[struct.unpack(order + "I", start)[0]]
-    kind = struct.unpack(order + "I", _exactly(file, 20, "its header")[16:])[0]
+def _other_file(start: bytes, file: BinaryIO) -> str:
+    """What a file is that is no capture, and how to make one of it."""
+    if not start:
+        return "the file is empty"
+    octets = start + file.read(512)
+    if start == b"PK\3\4" or octets[257:262] == b"ustar":
+        return "this is an archive: take the capture out of it (unzip, tar -xf)"
+    if octets.isascii() and b"\0" not in octets:
+        return f"this is text: give the capture itself, as tcpdump -w writes it; {_BY_EDITCAP}"
+    return f"this is neither pcap nor pcapng: {_BY_EDITCAP}"
+
+
+def _header(octets: bytes) -> tuple[struct.Struct, int, int, int]:
+    """What the header of a pcap file says: the head of a record, the unit of times, an FCS's length, the link type."""
+    order, unit = _STARTS[octets[:4]]
+    kind = struct.unpack(order + "I", octets[20:])[0]
     # The upper half of the link type can announce a frame check sequence.
-    fcs = 4 if kind & 0x0400_0000 and kind >> 28 else 0
-    head, number = struct.Struct(order + "IIII"), 0
+    return struct.Struct(order + "IIII"), unit, 4 if kind & 0x0400_0000 and kind >> 28 else 0, kind & 0xFFFF
+
+
+def _read_pcap(file: BinaryIO, start: bytes) -> Iterator[Packet]:
+    if start not in _STARTS:
+        raise CaptureError(_other_file(start, file))
+    head, unit, fcs, link_type = _header(start + _exactly(file, 20, "its header"))
+    number = 0
     while True:
         octets = file.read(16)
         if not octets:
@@ -117,10 +138,17 @@ def _read_pcap(file: BinaryIO, start: bytes) -> Iterator[Packet]:
         if len(octets) < 16:
             raise CaptureError(f"the file ends within record {number}")
         seconds, fraction, captured, length = head.unpack(octets)
+        if not captured and octets[:4] in _STARTS and octets[4:8] in _VERSIONS:
+            # The header of another file, which was put after this one.
+            head, unit, fcs, link_type = _header(octets + _exactly(file, 8, "a header"))
+            continue
         if captured > MOST_OCTETS:
-            raise CaptureError(f"record {number} has {captured} octets")
-        frame = _exactly(file, captured, f"record {number}")
-        yield Packet(number, seconds * 10**9 + fraction * unit, frame, length, kind & 0xFFFF, fcs)
+            raise CaptureError(f"record {number} has {captured} octets: damaged, or {_BY_EDITCAP}")
+        frame = file.read(captured)
+        if len(frame) < captured:
+            raise CaptureError(f"the file ends within record {number}")
+        time = seconds * 10**9 + fraction * unit
+        yield new_tuple(Packet, (number, time, frame, length, link_type, fcs, "", "", 0))
         number += 1
 
 
@@ -163,7 +191,7 @@ def _read_pcapng(file: BinaryIO, start: bytes) -> Iterator[Packet]:
         if len(start) < 4:
             raise CaptureError("the file ends within a block")
         size_octets, body = _exactly(file, 4, "a block"), b""
-        if start == b"\x0a\x0d\x0d\x0a":
+        if start == _PCAPNG:
             body = _exactly(file, 4, "a block")
             order = "<" if body == b"\x4d\x3c\x2b\x1a" else ">"
             if body not in (b"\x4d\x3c\x2b\x1a", b"\x1a\x2b\x3c\x4d"):
@@ -211,10 +239,9 @@ def _packet(number: int, kind: int, body: bytes, order: str, interfaces: list[_I
     else:
         which, high, low, captured, length = struct.unpack_from(order + ("IIIII" if kind == 6 else "HxxIIII"), body)
         of, at = interfaces[which], 20
-        time = (high << 32 | low) * 10**9 // of.units + of.offset * 10**9
+        # A time before 1970 or after 2106 is the first or the last one between.
+        time = min(max((high << 32 | low) * 10**9 // of.units + of.offset * 10**9, 0), (10**9 << 32) - 1)
         options = at + (captured + 3) // 4 * 4
-        if not 0 <= time < 10**9 << 32:
-            raise CaptureError(f"record {number}: its time is before 1970 or after 2106")
     if captured > MOST_OCTETS or at + captured > len(body):
         raise CaptureError(f"record {number} has more octets than its block")
     flags = _options(body, options, order).get(2, b"")
@@ -246,14 +273,14 @@ class PcapngWriter:
     """Writes frames as pcapng to a file that is open."""
 
     def __init__(self, file: BinaryIO) -> None:
-        self._file = file
+        self._file, self._write = file, file.write
         self._interfaces: dict[int, int] = {}
         self._put(0x0A0D0D0A, struct.pack("<IHHq", 0x1A2B3C4D, 1, 0, -1))
 
     def _put(self, kind: int, body: bytes) -> None:
         body += bytes(-len(body) % 4)
         size = struct.pack("<I", 12 + len(body))
-        self._file.write(struct.pack("<I", kind) + size + body + size)
+        self._write(struct.pack("<I", kind) + size + body + size)
 
     def write(self, time: int, frame: bytes, length: int, comment: str = "", link_type: int = ETHERNET) -> None:
         """Adds a frame with its time in nanoseconds, its original length and a comment."""
@@ -261,10 +288,11 @@ class PcapngWriter:
             self._interfaces[link_type] = len(self._interfaces)
             # if_tsresol: nanoseconds.
             self._put(1, struct.pack("<HHIHHBxxxI", link_type, 0, 0, 9, 1, 9, 0))
-        octets = comment.encode()
-        options = struct.pack("<HH", 1, len(octets)) + octets + bytes(-len(octets) % 4 + 4) if comment else b""
-        head = struct.pack("<IIIII", self._interfaces[link_type], time >> 32, time & 0xFFFF_FFFF, len(frame), length)
-        self._put(6, head + frame + bytes(-len(frame) % 4) + options)
+        octets, captured = comment.encode(), len(frame)
+        options = _COMMENT.pack(1, len(octets)) + octets + bytes(-len(octets) % 4 + 4) if comment else b""
+        size = 32 + captured + -captured % 4 + len(options)
+        head = _HEAD.pack(6, size, self._interfaces[link_type], time >> 32, time & 0xFFFF_FFFF, captured, length)
+        self._write(b"".join((head, frame, bytes(-captured % 4), options, head[4:8])))
 
     def close(self) -> None:
         """Writes what is buffered. The file stays open."""
@@ -289,27 +317,27 @@ class PcapngStream(PcapngWriter):
         self._file.flush()
 
 
-class PcapngFile(PcapngWriter):
-    """A new pcapng file, which appears under its name only when `close` is called.
+class NewFile:
+    """A new file, which appears under its name only when `close` is called.
 
     Until then it has no name, so that nothing is left of it, however the process ends. Where the system has no such
     files, it has another name in the same folder, which `discard` removes. It can be read by its owner alone, since
-    what it holds was protected.
+    what it holds was protected. One that `replaces` takes the place of another file then, also if the power fails.
     """
 
-    def __init__(self, path: str) -> None:
-        self._path, self._is_there = path, True
-        if os.path.lexists(path):
+    def __init__(self, path: str, replaces: bool = False) -> None:
+        self._path, self._is_there, self._replaces = path, True, replaces
+        if not replaces and os.path.lexists(path):
             raise FileExistsError(f"{path} exists: name a new file")
         folder = os.path.dirname(os.path.abspath(path))
         self._temporary: str | None = None
+        self._name = os.path.join(folder, f".macsec-{secrets.token_hex(8)}")
         try:
             handle = _nameless_file(folder)
             if handle is None:
-                self._temporary = os.path.join(folder, f".macsec-{secrets.token_hex(8)}")
+                self._temporary = self._name
                 handle = os.open(self._temporary, os.O_CREAT | os.O_EXCL | os.O_WRONLY | os.O_CLOEXEC, 0o600)
             self._file = os.fdopen(handle, "wb")
-            super().__init__(self._file)
         except BaseException as why:
             self._remove()
             if isinstance(why, OSError):
@@ -317,9 +345,10 @@ class PcapngFile(PcapngWriter):
                 raise OSError(why.errno, why.strerror, path) from None
             raise
 
-    def _put(self, kind: int, body: bytes) -> None:
+    def write(self, octets: bytes) -> None:
+        """Adds octets."""
         try:
-            super()._put(kind, body)
+            self._file.write(octets)
         except OSError as why:
             raise OSError(why.errno, why.strerror, self._path) from None
 
@@ -337,13 +366,20 @@ class PcapngFile(PcapngWriter):
             self.discard()
 
     def _give_name(self) -> None:
+        self._file.flush()
+        if self._replaces:
+            os.fsync(self._file.fileno())
         if self._temporary is None:
-            self._file.flush()
             # Python follows the link only if a descriptor is named too, which an absolute path does not need.
-            handle = self._file.fileno()
-            os.link(f"{_DESCRIPTORS}/{handle}", self._path, src_dir_fd=handle, follow_symlinks=True)
-            return
+            handle, name = self._file.fileno(), self._name if self._replaces else self._path
+            os.link(f"{_DESCRIPTORS}/{handle}", name, src_dir_fd=handle, follow_symlinks=True)
+            if not self._replaces:
+                return
+            self._temporary = name
         self._file.close()
+        if self._replaces:
+            os.replace(self._temporary, self._path)
+            return
         try:
             os.link(self._temporary, self._path)
         except FileExistsError:
@@ -365,6 +401,26 @@ class PcapngFile(PcapngWriter):
         if self._temporary is not None:
             with contextlib.suppress(FileNotFoundError):
                 os.unlink(self._temporary)
+
+
+class PcapngFile(PcapngWriter):
+    """A new pcapng file."""
+
+    def __init__(self, path: str) -> None:
+        self._new = NewFile(path)
+        try:
+            super().__init__(cast(BinaryIO, self._new))
+        except BaseException:
+            self._new.discard()
+            raise
+
+    def close(self) -> None:
+        """Gives the file its name. A file of that name, made meanwhile, raises FileExistsError."""
+        self._new.close()
+
+    def discard(self) -> None:
+        """Removes what was written, unless the file has its name."""
+        self._new.discard()
 
 
 def _nameless_file(folder: str) -> int | None:

@@ -52,7 +52,7 @@ class Interface:
 
     def frames(self, seconds: float) -> list[bytes]:
         """The frames that arrive within so many seconds, and those that have arrived."""
-        found = []
+        found: list[bytes] = []
         end = time.monotonic() + seconds
         while True:
             left = end - time.monotonic()

@@ -2,6 +2,8 @@
 
 from __future__ import annotations
 
+import bz2
+import gzip
 import os
 import random
 import struct
@@ -68,6 +70,30 @@ class Reading(InFolder):
         self.assertGreater(faults, 20)
         for octets in (b"", b"text", struct.pack("<IHHiIII", 0xA1B2C3D4, 2, 4, 0, 0, 65535, 1)[:-1]):
             self.assertRaises(CaptureError, self.read, octets)
+
+    def test_files_one_after_another(self) -> None:
+        """Each has a header: of any order, unit of time and link type."""
+        head = [struct.pack(order + "IHHiIII", 0xA1B2C3D4, 2, 4, 0, 0, 0, kind) for order, kind in (("<", 1), (">", 9))]
+        octets = [it + struct.pack(order + "IIII", 5, 6, 60, 60) + bytes(60) for it, order in zip(head, "<>")]
+        self.assertEqual(self.read(octets[0] + octets[1] + octets[0]), ([(5_000_006_000, bytes(60)), (0, 9)] * 2)[:3])
+
+    def test_other_files(self) -> None:
+        """What to do is said; what is compressed twice is read, and a time that no pcap has is the last one or 0."""
+        capture_of = (
+            struct.pack("<IHHiIII", 0xA1B2C3D4, 2, 4, 0, 0, 0, 1) + bytes(8) + struct.pack("<II", 9, 9) + bytes(9)
+        )
+        self.assertEqual(self.read(gzip.compress(bz2.compress(capture_of))), [(0, bytes(9))])
+        for octets, says in (
+            (b"", "the file is empty"), (b"PK\3\4", "an archive"), (b"16:40:00 IP", "this is text"),
+            (gzip.compress(bytes(257) + b"ustar"), "an archive"), (bytes(99), "if Wireshark opens it"),
+            (capture_of + bytes(8) + b"\xff" * 8, "damaged, or if Wireshark opens it"),
+        ):  # fmt: skip
+            with self.assertRaisesRegex(CaptureError, says):
+                self.read(octets)
+        late = struct.pack("<IIIIIII", 6, 44, 0, 2**32 - 1, 2**32 - 1, 9, 9) + bytes(12) + struct.pack("<I", 44)
+        section = struct.pack("<IIIHHqI", 0x0A0D0D0A, 28, 0x1A2B3C4D, 1, 0, -1, 28)
+        interface = struct.pack("<IIHHII", 1, 20, 1, 0, 0, 20)
+        self.assertEqual(self.read(section + interface + late), [(2**32 * 10**9 - 1, bytes(9))])
 
     def test_announced_check_sequences(self) -> None:
         header = struct.pack("<IHHiIII", 0xA1B2C3D4, 2, 4, 0, 0, 65535, 0x4400_0001)
