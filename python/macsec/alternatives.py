@@ -60,11 +60,6 @@ def reversed_ssci(ssci: int) -> int:
     return int.from_bytes(ssci.to_bytes(4, "big"), "little")
 
 
-def names_nobody(tag: SecTag | None) -> bool:
-    """Has a tag neither SCI nor ES nor SCB?"""
-    return tag is not None and tag.sci is None and not tag.tci & 0x50
-
-
 class Alternatives:
     """The ways to change settings of one CONFIG. Each of more keys can be for an association number alone."""
 
@@ -108,7 +103,7 @@ class Alternatives:
         found["salt"] = [(Change("salt", "the salt's octets in the other order", of_key), {"salt": True})]
         cuts = [4, *range(1, 4), *range(5, _LONGEST_TRAILER + 1)] if is_alone else [4]
         found["cut"] = [trailer(it) for it in cuts]
-        if tag is not None and tag.sci is None and not names_nobody(tag):
+        if tag is not None and tag.sci is None and not tag.names_nobody:
             found["iv-sci"] = [
                 (_iv_sci(it, base, tag), {"iv_sci": it}) for it in self._iv_scis(frame)[:most] if it != base.sci
             ]
@@ -125,7 +120,7 @@ class Alternatives:
 
     def _scis(self, base: Setting, frame: bytes, tag: SecTag | None) -> list[bytes]:
         """The SCIs that the sender of a frame can have whose tag names nobody."""
-        if not names_nobody(tag):
+        if tag is None or not tag.names_nobody:
             return []
         return list(dict.fromkeys([*_ports_of(base.sci), *_ports_of(frame[6:12]), *self._shown.scis]))
 
@@ -154,7 +149,7 @@ class Alternatives:
         elif tag.sci is None and not base.key.offset:
             for port in range(WIDE):
                 sci = frame[6:12] + port.to_bytes(2, "big")
-                yield _sci(sci, base, line) if names_nobody(tag) else _iv_sci(sci, base, tag), {"iv_sci": sci}
+                yield _sci(sci, base, line) if tag.names_nobody else _iv_sci(sci, base, tag), {"iv_sci": sci}
 
 
 def _sci(sci: bytes, base: Setting, line: int | None) -> Change:
@@ -168,7 +163,7 @@ def _iv_sci(sci: bytes, base: Setting, tag: SecTag) -> Change:
 
 
 def _upper(upper: int, base: Setting, line: int | None) -> Change:
-    return Change("upper", f"upper half {upper:x} of the packet number, not {base.upper:x}", line)
+    return Change("upper", f"upper half 0x{upper:x} of the packet number, not 0x{base.upper:x}", line)
 
 
 def _ssci(ssci: int, base: Setting, line: int | None) -> Change:

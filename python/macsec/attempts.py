@@ -82,7 +82,7 @@ class Frame(NamedTuple):
     @property
     def names_nobody(self) -> bool:
         """Has the tag neither SCI nor ES nor SCB?"""
-        return self.tag.sci is None and not self.tag.tci & 0x50
+        return self.tag.names_nobody
 
 
 class Keys:
@@ -96,10 +96,11 @@ class Keys:
         self._first = 0
 
     def add(self, key: KeyArgument) -> None:
-        """Adds a key, which is the first one that is tried."""
-        self._keys.append(key)
-        self._names.append(key.name)
-        self._first = len(self._keys) - 1
+        """Adds a key, unless it is there, and tries it first from here on."""
+        if key not in self._keys:
+            self._keys.append(key)
+            self._names.append(key.name)
+        self._first = self._keys.index(key)
 
     def opened(self, name: str) -> None:
         """Notes the key that opened a frame."""

@@ -9,7 +9,7 @@ from collections.abc import Iterator, Sequence
 from typing import Optional
 
 from .altered import AGAINST_BITS, altered, cut_of, data_under, is_sealed, packet_of, too_short
-from .alternatives import SSCIS, UPPER_HALVES, WIDE, Alternatives, Shown, names_nobody, trailer
+from .alternatives import SSCIS, UPPER_HALVES, WIDE, Alternatives, Shown, trailer
 from .associations import Associations
 from .endpoint_of_config import Configuration
 from .frames import SecTag, read_tag, without_vlan
@@ -147,7 +147,8 @@ class Search:
         for asked in self._asked(plain, verdict, sender, next_number):
             found = self._by_ways(asked)
             if found:
-                return _behind(tags, self._and_late(asked, found) if verdict == Verdict.Late else found)
+                is_late = verdict == Verdict.Late or bool(tags) and asked.is_low
+                return _behind(tags, self._and_late(asked, found) if is_late else found)
         return None
 
     def _asked(self, plain: bytes, verdict: Verdict, sender: Sender, next_number: int | None) -> Iterator[_Asked]:
@@ -212,7 +213,7 @@ class Search:
             # It is not late: the receiver takes it for one of an earlier upper half.
             return found
         if self.configuration.alone(asked.frame).verdict == Verdict.Late and asked.is_low:
-            late = Change("pn", f"a lower packet number than {asked.place.lowest:x}, hex, in rxsa", asked.place.line)
+            late = Change("pn", f"a lower packet number than 0x{asked.place.lowest:x} in rxsa", asked.place.line)
             return found._replace(changes=(late, *found.changes))
         if {it.cause for it in found.changes} <= _OF_THE_SAME_NUMBERS:
             return found._replace(changes=(_REPLAY, *found.changes))
@@ -329,7 +330,7 @@ class Search:
         # With a bad SecTAG, that data can be read does not show that they were altered.
         if not is_right or self.is_spent or not asked.has_good_tag or not (tag.pn or setting.key.suite.is_extended):
             return None
-        return Found((*before, *changes, altered(setting, packet.name)))
+        return Found((*before, *changes, altered(setting, packet.name)), missing=-max(missing, 0))
 
     def _against_bits(self, asked: _Asked, setting: Setting, is_search: bool) -> Change | None:
         """Is a frame encrypted although its bits say that it is not, or the other way round?"""
@@ -484,7 +485,7 @@ class Search:
             asked.place.is_wide = True
             if self._opens(changed(base, ((change, given),)), asked.frame):
                 # A frame whose tag names nobody opens under the SCI of its IV.
-                return change, {"sci": given["iv_sci"]} if "iv_sci" in given and names_nobody(asked.tag) else given
+                return change, {"sci": given["iv_sci"]} if "iv_sci" in given and asked.tag.names_nobody else given
         self._wide_left -= asked.place.is_wide
         return None
 

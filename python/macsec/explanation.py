@@ -5,8 +5,10 @@ from __future__ import annotations
 import collections
 import dataclasses
 import itertools
+from array import array
 from typing import Callable, Counter, NamedTuple, Optional
 
+from .altered import too_short
 from .causes import Search
 from .frames import ICV_OCTETS, SecTag, ethertype, read_tag, without_vlan
 from .names import Verdict
@@ -24,7 +26,7 @@ _OF_FRAMES, _MOST_ALIKE = ("vlan", "cut"), 8
 
 
 class Seen(NamedTuple):
-    """A frame that was not opened: its record, its octets, and the whole packet number that its association expected."""
+    """A frame that was not opened: its record, its octets, and the whole packet number that was expected of it."""
 
     record: int
     frame: bytes
@@ -38,8 +40,9 @@ class Unopened:
     kinds: dict[Kind, list[Seen]] = dataclasses.field(default_factory=dict)
     # How many more frames of a kind there are than are kept.
     more: Counter[Kind] = dataclasses.field(default_factory=collections.Counter)
-    # The record of each frame that was accepted, by a hash of its octets.
-    accepted: dict[int, int] = dataclasses.field(default_factory=dict)
+    # Of each frame that was accepted a hash of its octets, and its record.
+    hashes: array[int] = dataclasses.field(default_factory=lambda: array("q"))
+    records: array[int] = dataclasses.field(default_factory=lambda: array("q"))
     first_opened: dict[tuple[str, int | None], int] = dataclasses.field(default_factory=dict)
     last_opened: dict[tuple[str, int | None], int] = dataclasses.field(default_factory=dict)
 
@@ -55,7 +58,14 @@ class Unopened:
         """Adds a frame that was delivered as it was sent."""
         self.first_opened.setdefault(sender, record)
         self.last_opened[sender] = record
-        self.accepted.setdefault(hash(frame), record)
+        self.hashes.append(hash(frame))
+        self.records.append(record)
+
+    def accepted(self) -> dict[int, int]:
+        """The first accepted record with the octets of a frame that did not open, by their hash."""
+        wanted = {hash(it.frame) for seen in self.kinds.values() for it in seen}
+        pairs = zip(reversed(self.hashes), reversed(self.records)) if wanted else ()
+        return {octets: record for octets, record in pairs if octets in wanted}
 
 
 class Group(NamedTuple):
@@ -102,15 +112,18 @@ class Explanation:
     def __init__(self, unopened: Unopened, search: Search, note: Note) -> None:
         self._unopened, self._search, self._note = unopened, search, note
         self._unknown: dict[Kind, list[Seen]] = collections.defaultdict(list)
+        self._accepted = unopened.accepted()
         # Of each sender the last record under the key of CONFIG's association, and the first one under each other key.
         self._last: dict[tuple[str, int | None], int] = dict(unopened.last_opened)
         self._firsts: dict[tuple[tuple[str, int | None], Change], int] = {}
         self._explained: dict[Kind, list[_Explained]] = collections.defaultdict(list)
         # How many octets are cut off the frames of each sender.
         self._missing: dict[tuple[str, int | None], set[int]] = collections.defaultdict(set)
-        for kind, seen, it in self._causes():
-            self._explained[kind].append(self._with_others(kind, seen, it))
-            self._missing[kind[1:]].add(it.missing)
+        causes = self._causes()
+        for kind, _, it in causes:
+            self._missing[kind[1:]] |= {it.missing} if it.missing >= 0 else set()
+        for kind, seen, it in causes:
+            self._explained[kind].append(self._with_others(kind, seen, self._cut_as_others(kind, it)))
         self.groups = [it for kind in unopened.kinds for it in self._groups(kind)]
 
     def _causes(self) -> list[tuple[Kind, Seen, Found]]:
@@ -135,7 +148,7 @@ class Explanation:
         return made
 
     def _search_widely(self, frames: list[tuple[int, Kind, Seen]], found: dict[int, Found | None]) -> None:
-        """Searches for what takes long: for one frame of each kind that nothing opens, of that with most frames first."""
+        """Searches for what takes long: for one frame of each kind that nothing opens, most frames first."""
         kinds: dict[Kind, list[Seen]] = collections.defaultdict(list)
         for record, kind, it in frames:
             known = found[record]
@@ -164,17 +177,25 @@ class Explanation:
             of_iv = setting if setting.iv_sci is None else setting._replace(sci=setting.iv_sci)
             self._note(seen.record, of_iv, found.number, octets, tag)
 
+    def _cut_as_others(self, kind: Kind, found: Found) -> Found:
+        """A frame that can lack octets does, and was not altered, if all others of its association lack as many."""
+        is_cut = self._missing[kind[1:]] == {-found.missing} and kind[1:] not in self._unopened.first_opened
+        if found.missing >= 0 or not is_cut:
+            return found
+        return found._replace(
+            changes=(*found.changes[:-1], too_short("its length", -found.missing)), missing=-found.missing
+        )
+
     def _with_others(self, kind: Kind, seen: Seen, found: Found) -> _Explained:
         """With the causes that other frames show: a key that follows another one of the same association is a rekey."""
         changes = found.changes
         expected = None if seen.next is None or found.number is None else upper_half(found.number % 2**32, seen.next)
         if not changes and found.number is not None and expected is not None and found.number >> 32 > expected:
-            text = (
-                f"upper half {found.number >> 32:x} of the packet number, not {expected:x}: none before it was accepted"
-            )
+            upper = f"upper half 0x{found.number >> 32:x} of the packet number, not 0x{expected:x}"
+            text = f"{upper}: none before it was accepted"
             changes = (Change("upper", text),)
         elif not changes and found.setting is not None:
-            earlier = self._unopened.accepted.get(hash(seen.frame))
+            earlier = self._accepted.get(hash(seen.frame))
             if earlier is not None and earlier < seen.record:
                 text = f"it repeats record {earlier}, from before the upper half of the numbers changed"
                 changes = (Change("replay", text),)
@@ -247,7 +268,7 @@ class Explanation:
         first = self._unopened.first_opened.get((sender, an))
         if first is not None and verdict in (Verdict.NotValid, Verdict.Invalid):
             return (
-                f"no change that was tried opens it; others of the association open (record {first}): altered, or under "
-                f"a key that is not given{after}"
+                f"no change that was tried opens it; others of the association open (record {first}): altered, or "
+                f"under a key that is not given{after}"
             )
         return f"no change that was tried opens it: another key or salt, or altered; give more keys by --key{after}"

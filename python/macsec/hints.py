@@ -11,7 +11,7 @@ from .names import SUITES, Suite, suite_of
 from .summary import frames_text, ranges
 from .trial import Key, KeyArgument
 
-_MALFORMED = ("BadTag", "Reserved", "Short", "Long")
+_MALFORMED = ("BadTag", "Reserved")
 _KEY_OR_SALT = "another key or salt"
 _MOST_GROUPS, _MOST_LINES = 256, 16
 _XPN_OF = {it: suite_of(it.key_octets, True) for it in SUITES if not it.is_extended}
@@ -127,18 +127,18 @@ def _tried(suite: Suite, pairs: Sequence[tuple[KeyArgument, Key]], group: _Group
 
 def _sscis(arguments: Sequence[KeyArgument], group: _Group) -> str:
     if all(it.ssci is not None for it in arguments):
-        return "their SSCIs" if len(arguments) > 1 else f"SSCI {arguments[0].ssci:x}"
+        return "their SSCIs" if len(arguments) > 1 else f"SSCI 0x{arguments[0].ssci:x}"
     if group.is_wider and any(it.ssci is None and it.upper is not None for it in arguments):
-        return f"SSCIs below {attempts.WIDE:x}"
-    return f"SSCIs 1 to {attempts.SSCIS if group.is_wide else 4}"
+        return f"SSCIs below 0x{attempts.WIDE:x}"
+    return f"SSCIs 0x1 to 0x{attempts.SSCIS if group.is_wide else 4:x}"
 
 
 def _uppers(arguments: Sequence[KeyArgument], group: _Group) -> str:
     if all(it.upper is not None for it in arguments):
-        return "their upper halves" if len(arguments) > 1 else f"upper half {arguments[0].upper:x}"
+        return "their upper halves" if len(arguments) > 1 else f"upper half 0x{arguments[0].upper:x}"
     if group.is_wider and any(it.ssci is not None and it.upper is None for it in arguments):
-        return f"upper halves below {attempts.WIDE:x}"
-    return f"upper halves below {attempts.UPPER_HALVES if group.is_wide else 4:x}"
+        return f"upper halves below 0x{attempts.WIDE:x}"
+    return f"upper halves below 0x{attempts.UPPER_HALVES if group.is_wide else 4:x}"
 
 
 def _untried(suite: Suite, pairs: Sequence[tuple[KeyArgument, Key]], group: _Group, keys: Keys) -> list[str]:

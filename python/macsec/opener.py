@@ -10,9 +10,9 @@ from typing import NamedTuple
 from .attempts import Attempt, Effort, Frame, Keys, Known, Place, usual_attempts, wide_attempts
 from .cak import Cak, KeyAgreements, mkpdus_text
 from .errors import FrameFault
-from .frames import MACSEC, has_fcs, read_tag, sender_of, without_vlan
+from .frames import MACSEC, SecTag, has_fcs, new_tuple, octets_after, read_tag, sender_of, without_vlan
 from .hints import Hints
-from .ivs import UsedIvs
+from .ivs import Sender, UsedIvs
 from .names import Suite, Verdict
 from .trial import OPENED, KeyArgument, Trial, Trials
 
@@ -25,7 +25,8 @@ _FCS = 4
 
 class Opened(NamedTuple):
     """What became of a record. `frame` is the client's, or what was captured if it is not opened. `iv_also_in` is a
-    record with the same IV under the same key and other octets."""
+    record with the same IV under the same key and other octets, of another capture as text.
+    """
 
     frame: bytes
     state: str  # "opened", "not opened", "not protected"
@@ -34,12 +35,14 @@ class Opened(NamedTuple):
     an: int | None = None
     pn: int | None = None
     key: str = ""
-    iv_also_in: int | None = None
+    iv_also_in: int | str | None = None
     note: str = ""
 
     @property
     def comment(self) -> str:
         """A line about it."""
+        if self.state == "opened" and self.iv_also_in is None and not self.note:
+            return f"macsec: {self.verdict}, SCI {self.sci}, AN {self.an}, PN 0x{self.pn:x}, {self.key}"
         if self.an is None:
             return f"macsec: {self.state}"
         number = "" if self.pn is None else f", PN 0x{self.pn:x}"
@@ -51,10 +54,14 @@ class Opened(NamedTuple):
 
 
 class Live(NamedTuple):
-    """An association that has opened frames, and how many octets are cut off at their end."""
+    """An association that has opened frames, how many octets are cut off at their end, whose IVs they use, how it is
+    shown, and a note if their tags mean another SCI than the IVs have."""
 
     trial: Trial
     cut: int
+    sender: Sender
+    shown: str
+    note: str
 
 
 class _Stream:
@@ -123,26 +130,37 @@ class Opener:
         self.last = self.ivs.last = None
         is_cut = bool(fcs) or has_fcs(frame)
         whole = frame[:-_FCS] if is_cut else frame
-        plain, tags = without_vlan(whole)
+        plain, tags = (whole, b"") if whole[12:14] == MACSEC else without_vlan(whole)
         tag = read_tag(plain)
         if tag is None:
             self._read_mka(record, whole)
             state = "not opened" if plain[12:14] == MACSEC else "not protected"
             return Opened(whole, state)
-        stream = self._streams.setdefault((tag.sci or plain[6:12], tag.sci is None, tag.an), _Stream())
+        place = tag.sci or plain[6:12], tag.sci is None, tag.an
+        stream = self._streams.get(place) or self._new_stream(place)
+        try:
+            for live in stream.live:
+                opened = self._under(record, live, stream, plain, tag, tags)
+                if opened:
+                    return opened
+            it = Frame(plain, tag)
+            # A frame that is too long with its last octets may not be so without them.
+            self._trials.check(plain if is_cut else plain[:-_FCS])
+            # What is cut off can have what a tap adds after a frame check sequence.
+            cuts = (0,) if is_cut else (0, _FCS, octets_after(frame))
+            return self._found(record, stream, it, tags, cuts) or self._failed(record, stream, whole, it)
+        except FrameFault as why:
+            shown = _shown_sci(sender_of(plain, tag), tag.names_nobody)
+            return Opened(whole, "not opened", why.name, shown, tag.an, tag.pn)
+
+    def _new_stream(self, place: tuple[bytes, bool, int]) -> _Stream:
+        """A new sender and association number."""
+        stream = self._streams[place] = _Stream()
         if len(self._streams) > _MOST_STREAMS:
             # A capture without an end can have any number of senders. One that comes again is searched for again.
             for live in self._streams.popitem(last=False)[1].live:
                 live.trial.close()
-        it = Frame(plain, tag)
-        try:
-            return self._open(record, stream, it, tags, not is_cut) or self._failed(
-                record, stream, whole, it, not is_cut
-            )
-        except FrameFault as why:
-            self._hints.add(record, it, why.name, len(self._keys), False, False, False)
-            shown = _shown_sci(sender_of(plain, tag), not tag.sci and not tag.tci & 0x50)
-            return Opened(whole, "not opened", why.name, shown, tag.an, tag.pn)
+        return stream
 
     def _read_mka(self, record: int, frame: bytes) -> None:
         """Takes a key from a frame of MKA."""
@@ -151,13 +169,9 @@ class Opener:
             self._keys.add(key)
             self._effort.add_key()
 
-    def _open(self, record: int, stream: _Stream, frame: Frame, tags: bytes, may_cut: bool) -> Opened | None:
-        """Opens a frame under an association of its stream, or under another key."""
-        for live in stream.live:
-            opened = self._under(record, live, stream, frame, tags)
-            if opened:
-                return opened
-        found = self._search(stream, frame, may_cut)
+    def _found(self, record: int, stream: _Stream, frame: Frame, tags: bytes, cuts: Sequence[int]) -> Opened | None:
+        """Opens a frame that no association of its stream opens under another key."""
+        found = self._search(stream, frame, cuts)
         if found is None:
             return None
         attempt, cut = found
@@ -171,33 +185,37 @@ class Opener:
         if self._latest.get(place) != event.key:
             self.events.append(event)
             self._latest[place] = event.key
-        return self._under(record, Live(trial, cut), stream, frame, tags)
+        sci, note = trial.sci, ""
+        if trial.sci_of_iv is not None:
+            sci, note = (trial.sci_of_iv, f"its IV has this SCI, its tag means {trial.sci.hex()}")
+        sender = self.ivs.sender(trial.key, sci, trial.ssci)
+        live = Live(trial, cut, sender, _shown_sci(sci, is_guess), note)
+        return self._under(record, live, stream, *frame, tags)
 
-    def _under(self, record: int, live: Live, stream: _Stream, frame: Frame, tags: bytes) -> Opened | None:
-        octets = frame.octets[: len(frame.octets) - live.cut] if live.cut else frame.octets
-        received = live.trial.receive(octets)
+    def _under(self, record: int, live: Live, stream: _Stream, plain: bytes, tag: SecTag, tags: bytes) -> Opened | None:
+        trial, cut, sender, shown, note = live
+        octets = plain[: len(plain) - cut] if cut else plain
+        received = trial.receive(octets)
         if received.verdict not in OPENED or received.frame is None:
             return None
-        if stream.live[:1] != [live]:
+        if not stream.live or stream.live[0] is not live:
             stream.keep(live)
         stream.failures = 0
         self.last = live
-        trial, tag = live.trial, frame.tag
         number = tag.pn
-        if trial.key.suite.is_extended:
+        if trial.is_extended:
             number = trial.packet_number(tag.pn)
             stream.upper = number >> 32
-        client = received.frame[:12] + tags + received.frame[12:]
-        sci, note = trial.sci, ""
-        if trial.sci_of_iv is not None:
-            sci, note = trial.sci_of_iv, f"its IV has this SCI, its tag means {trial.sci.hex()}"
-        again = self.ivs.add(record, trial.key, sci, trial.ssci, number, octets, tag)
-        other = again[1] if again else None
-        verdict = received.verdict.name
-        shown = _shown_sci(sci, frame.names_nobody and trial.key.suite.is_extended)
-        return Opened(client, "opened", verdict, shown, tag.an, number, trial.key.name, other, note)
+            shown = _shown_sci(sender.sci, tag.names_nobody)
+        client = received.frame[:12] + tags + received.frame[12:] if tags else received.frame
+        again = self.ivs.add(record, sender, number, octets, tag)
+        other, verdict = again[1] if again else None, received.verdict._name_
+        made: Opened = new_tuple(
+            Opened, (client, "opened", verdict, shown, tag.an, number, sender.key.name, other, note)
+        )
+        return made
 
-    def _failed(self, record: int, stream: _Stream, whole: bytes, frame: Frame, may_cut: bool) -> Opened:
+    def _failed(self, record: int, stream: _Stream, whole: bytes, frame: Frame) -> Opened:
         """A frame that no key opens: its verdict is that under the first one which it can have."""
         stream.failures += 1
         found: Verdict | None = None
@@ -211,14 +229,14 @@ class Opener:
 
     # The search.
 
-    def _search(self, stream: _Stream, frame: Frame, may_cut: bool) -> tuple[Attempt, int] | None:
-        """A setting under which a frame opens, and how many octets are cut off at its end."""
+    def _search(self, stream: _Stream, frame: Frame, cuts: Sequence[int]) -> tuple[Attempt, int] | None:
+        """A setting under which a frame opens, and how many octets of `cuts` are cut off at its end."""
         failures = stream.failures
         is_wide = not stream.live and failures < _WIDE_SEARCHES and self._wide_searches < _WIDE_SEARCHES_OF_ALL
         is_wider = is_wide and failures < _WIDER_SEARCHES
         self._wide_searches += is_wide
         self._effort.begin()
-        for cut in (0, _FCS) if may_cut else (0,):
+        for cut in dict.fromkeys(cuts):
             octets = frame.octets[: len(frame.octets) - cut] if cut else frame.octets
             if len(octets) < 14 or read_tag(octets) is None:
                 continue

@@ -15,6 +15,7 @@ from .opener import Live, Opener
 from .plan import OBSERVER_MAX, Plan, PlannedSa
 from .summary import frames_text, ranges
 from .trial import KeyArgument, own_sci
+from .unseen import Unseen
 
 
 class _Use(NamedTuple):
@@ -35,17 +36,13 @@ class Scan:
         # Senders whose tags mean another SCI than their IVs have.
         self.without_config: set[tuple[bytes, int]] = set()
         self.uses: dict[tuple[bytes, int], list[_Use]] = {}
-        self.vlan, self.fcs, self.partial = 0, 0, 0
+        self.vlan = self.fcs = 0
         self.unopened: list[int] = []
         self.other_ivs: dict[str, None] = {}
-        # Is there a record that may have a protected frame, and was not captured whole or not from Ethernet?
-        self.has_unseen = False
+        self.unseen = Unseen()
         for packet in packets:
-            if not packet.is_whole:
-                self.partial += 1
-                self.has_unseen = self.has_unseen or packet.may_be_protected
-                continue
-            self._add(packet, opener)
+            if not self.unseen.add(packet):
+                self._add(packet, opener)
         self.saks, self.hints = [str(it) for it in opener.agreements.saks], [
             line for it in opener.hints() for line in it.split("\n")
         ]
@@ -58,6 +55,8 @@ class Scan:
             self.others[ethertype(packet.frame)] += 1
             return
         opened = opener.open(packet.number, packet.frame, packet.fcs)
+        if self.unseen.add_fault(packet, opened.verdict):
+            return
         live = opener.last
         if live and live.trial.sci_of_iv is not None:
             # No CONFIG opens such a frame.
@@ -108,8 +107,8 @@ class Scan:
             found.append(f"{frames_text(self.vlan)} with a VLAN tag before the SecTAG: macsec-decrypt opens these")
         if self.fcs:
             found.append(f"{frames_text(self.fcs)} with a frame check sequence: macsec-decrypt cuts it off")
-        if self.partial:
-            found.append(f"{frames_text(self.partial)} not captured whole, or not Ethernet")
+        found += [f"{it}: macsec-decrypt and macsec-why take these out" for it in self.unseen.tunnels()]
+        found += self.unseen.hints()
         if self.unopened:
             found.append(f"not opened by any key: record {ranges(self.unopened)}")
         if self.other_ivs:

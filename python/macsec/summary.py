@@ -4,11 +4,12 @@ from __future__ import annotations
 
 import collections
 from collections import Counter
-from collections.abc import Mapping, Sequence
+from collections.abc import Sequence
 
-from .frames import SecTag, ethertype, has_fcs, read_tag, sender_of, without_padding, without_vlan
+from .frames import SecTag, ethertype, read_tag, sender_of, without_fcs, without_padding, without_vlan
+from .pairs import Pairs
 
-_HALF, _FCS = 2**31, 4
+_HALF = 2**31
 
 
 def ranges(numbers: Sequence[int], most: int = 8) -> str:
@@ -36,53 +37,73 @@ class Association:
     """The frames of one SCI and association number."""
 
     def __init__(self, sci: str, an: int) -> None:
-        self.sci, self.an, self.frames, self.repeats = sci, an, 0, 0
+        self.sci, self.an, self.repeats = sci, an, 0
+        self.place: tuple[str, int | None] = sci, an
         # Records that have a packet number of an earlier one, and other octets; each with that one.
         self.reused: dict[int, int] = {}
         # The reused ones that are known to be under another key than the earlier one.
         self.rekeyed: list[int] = []
-        self.flags: Counter[str] = collections.Counter()
         self.verdicts: Counter[str] = collections.Counter()
-        self._last = 0
-        self._seen: dict[int, tuple[int, int]] = {}
+        self._tcis: Counter[int] = collections.Counter()
+        # How many packet numbers there are, the lowest and the highest; and of the last frame with each of them a hash
+        # of its octets, and its record and 1.
+        self._count = self._first = self._last = 0
+        self._seen = Pairs()
 
     def add(self, record: int, tag: SecTag, frame: bytes, verdict: str) -> None:
-        """Counts a frame. A number that falls by more than half of all is taken for one of the next upper half."""
-        self.frames += 1
-        self.flags[tag.flags] += 1
+        """Counts a frame, without a frame check sequence. A number that falls by more than half of all is taken for one
+        of the next upper half."""
+        self._tcis[tag.tci] += 1
         self.verdicts[verdict] += 1
-        number = self._last & ~0xFFFF_FFFF | tag.pn
-        if self._seen and number + _HALF < self._last:
+        last = self._last
+        number = last & ~0xFFFF_FFFF | tag.pn
+        if self._count and number + _HALF < last:
             number += 1 << 32
-        elif number > self._last + _HALF and number >= 1 << 32:
+        elif number > last + _HALF and number >= 1 << 32:
             number -= 1 << 32
-        # A frame check sequence and padding are no other octets of the frame.
-        octets = hash(without_padding(frame[:-_FCS] if has_fcs(frame) else frame, tag))
-        earlier, before = self._seen.setdefault(number, (record, octets))
-        if before != octets:
-            self._seen[number] = record, octets
-            self.reused[record] = earlier
-        elif len(self._seen) + self.repeats + len(self.reused) < self.frames:
+        # Padding is no other octets of the frame.
+        octets = hash(without_padding(frame, tag) if tag.sl else frame)
+        earlier = self._seen.setdefault(number, octets, record + 1)
+        if earlier is None:
+            if number > last:
+                self._last = number
+            if number < self._first or not self._count:
+                self._first = number
+            self._count += 1
+        elif earlier[0] == octets:
             self.repeats += 1
-        self._last = max(self._last, number)
+        else:
+            self._seen.replace(number, octets, record + 1)
+            self.reused[record] = earlier[1] - 1
 
-    def note_keys(self, keys: Mapping[int, bytes]) -> None:
-        """Notes which of the records that reuse a number are under another key, given the keys of opened records."""
+    def note_keys(self, keys: Sequence[int]) -> None:
+        """Notes which of the records that reuse a number are under another key, given the number of the key of each
+        record that opened, and 0 for the others."""
         self.rekeyed = [
             record for record, earlier in self.reused.items()
-            if record in keys and earlier in keys and keys[record] != keys[earlier]
+            if record < len(keys) and keys[record] and keys[earlier] not in (0, keys[record])
         ]  # fmt: skip
+
+    @property
+    def frames(self) -> int:
+        """How many frames there are."""
+        return sum(self.verdicts.values())
 
     @property
     def missing(self) -> int:
         """How many numbers between the lowest and the highest were not seen."""
-        return max(self._seen) - min(self._seen) + 1 - len(self._seen)
+        return self._last - self._first + 1 - self._count
+
+    @property
+    def flags(self) -> dict[str, int]:
+        """How many SecTAGs have which bits."""
+        return {SecTag(tci, 0, 0, 0, None, 0).flags: count for tci, count in self._tcis.items()}
 
     def as_dict(self) -> dict[str, object]:
         return {
-            "sci": self.sci, "an": self.an, "frames": self.frames, "first": f"{min(self._seen) & 0xFFFFFFFF:08x}",
+            "sci": self.sci, "an": self.an, "frames": self.frames, "first": f"{self._first & 0xFFFFFFFF:08x}",
             "last": f"{self._last & 0xFFFFFFFF:08x}", "missing": self.missing, "repeated": self.repeats,
-            "reused": list(self.reused), "rekeyed": self.rekeyed, "flags": dict(self.flags), "verdicts": dict(self.verdicts),
+            "reused": list(self.reused), "rekeyed": self.rekeyed, "flags": self.flags, "verdicts": dict(self.verdicts),
         }  # fmt: skip
 
     def __str__(self) -> str:
@@ -110,17 +131,27 @@ class Summary:
         plain, _ = without_vlan(frame)
         tag = read_tag(plain)
         if tag is None:
-            kind = ethertype(frame)
-            self.others.setdefault(kind, collections.Counter())[verdict] += 1
-            return kind, None
-        sci = sender_of(plain, tag).hex() if tag.sci or tag.tci & 0x50 else f"({plain[6:12].hex()})"
-        place = sci, tag.an
-        if place not in self.associations:
-            self.associations[place] = Association(*place)
-        self.associations[place].add(record, tag, plain, verdict)
-        return place
+            return self.add_other(frame, verdict)
+        found = self.of(plain, tag)
+        found.add(record, tag, without_fcs(plain), verdict)
+        return found.place
 
-    def note_keys(self, keys: Mapping[int, bytes]) -> None:
+    def add_other(self, frame: bytes, verdict: str) -> tuple[str, int | None]:
+        """Counts a frame without a SecTAG."""
+        kind = ethertype(frame)
+        self.others.setdefault(kind, collections.Counter())[verdict] += 1
+        return kind, None
+
+    def of(self, plain: bytes, tag: SecTag) -> Association:
+        """The association of a frame without VLAN tags before its SecTAG."""
+        sci = f"({plain[6:12].hex()})" if tag.names_nobody else sender_of(plain, tag).hex()
+        place = sci, tag.an
+        found = self.associations.get(place)
+        if found is None:
+            found = self.associations[place] = Association(*place)
+        return found
+
+    def note_keys(self, keys: Sequence[int]) -> None:
         """Notes under which keys records opened: a number that comes again under another key is a rekey."""
         for each in self.associations.values():
             each.note_keys(keys)

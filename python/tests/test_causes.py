@@ -116,6 +116,7 @@ CAUSES = (
     Planted("offset 30 for 0", "linux", [(f"{ONE} 0", f"{ONE} 30")], same, "offset"),
     Planted("rxon missing", "linux", [("A rxon 0200000000010001 0\n", "")], same, "off"),
     Planted("PN too high", "linux", [("0001 0 0 1\n", "0001 0 0 9\n"), REPLAY], same, "pn"),
+    Planted("PN too high, tags", "linux", [("0001 0 0 1\n", "0001 0 0 9\n"), REPLAY], each(vlan), "vlan pn"),
     Planted("own SCI", "linux", [("02ffffffffff0001", "0200000000010001"), ("A rxsc 0200000000010001\n", ""),
             ("A rxsa 0200000000010001 0 0 1\n", ""), ("A rxon 0200000000010001 0\n", "")], same, "own-sci"),
     Planted("offset, VLAN tag and check sequence", "cak-offset", [(" 30\n", " 0\n")],
@@ -195,7 +196,7 @@ class Causes(InFolder):
     # Some searches end earlier here, so that the test does not take long.
     @mock.patch("macsec.alternatives.WIDE", 0x2000)
     def test_all(self) -> None:
-        self.assertEqual((len(CAUSES), len({it.name for it in CAUSES})), (43, 43))
+        self.assertEqual((len(CAUSES), len({it.name for it in CAUSES})), (44, 44))
         for it in CAUSES if HAS_CRYPTOGRAPHY else [it for it in CAUSES if "--cak-file" not in it.options]:
             with self.subTest(it.name):
                 status, names, notes = self.named(it)
@@ -215,6 +216,16 @@ class Causes(InFolder):
             told = main_of(main, self.put("CONFIG", text), self.put("IN", frames))[1]
             self.assertIn(f"cut: {count} octets were cut off the end", told)
             self.assertEqual(expected in told and "icvlen" in told, bool(expected), told)
+
+    def test_a_length_that_one_altered_bit_would_explain(self) -> None:
+        """Such a frame is cut if all others of its association lack as many octets, and else altered."""
+        whole, text = sealed(0x2C, True), PLAIN.replace(FAR, SENDER)
+        data = bytes.fromhex("86dd60000000006c1140") + bytes(32 + 108)
+        head = whole[0][:12] + bytes.fromhex("88e52c0000000009" + SENDER)
+        cut = seal(head + data, len(head), key=KEYS[0], sci=SENDER, pn=9)[:-8]
+        for frames, expected in ((whole[:1], True), ([it[:-8] for it in whole], False)):
+            told = main_of(main, self.put("CONFIG", text), self.put("IN", [*frames, cut]))[1]
+            self.assertEqual(("altered:" in told, "cut:" in told), (expected, not expected), told)
 
     def test_many_groups_that_differ_in_their_numbers_are_one(self) -> None:
         whole = sealed(0x2C, True) * 2

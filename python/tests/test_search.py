@@ -2,6 +2,7 @@
 
 from __future__ import annotations
 
+import base64
 import json
 import time
 from collections.abc import Sequence
@@ -155,6 +156,31 @@ class Opened(Decrypted):
         status, _ = self.shown(tagged + sealed(NONE, FAR, pn=9), KEY)
         self.assertEqual(status, 0)
 
+    def test_a_config_has_the_upper_half(self) -> None:
+        """Of the association, also of one that sends; frames of another upper half open as without it."""
+        for pn, line in (
+            (0x1234_5678_0000_0001, f"A rxsc {SENDER}\nA rxsa {SENDER} 0 0 1234567800000001 00000011"),
+            (0x20_0000_0005, f"A rxsc {SENDER}\nA rxsa {SENDER} 0 0 1234567800000001 00000011"),
+            (0x1234_5678_0000_0001, "A txsa 0 0 1234567800000000 conf"),
+        ):  # fmt: skip
+            own, ssci = (SENDER, "00000011") if "txsa" in line else (OTHER, "0000000f")
+            text = f"end A xpn128 {own} 1546 sci\nA key 0 {KEY} 0 {ssci} {SALT.hex()}\n{line}\n"
+            frames = protected(client_frames(3), suite=Suite.xpn128, pn=pn, ssci=17)
+            self.assertEqual(self.shown(frames, options=("--config", self.put("CONFIG", text)))[0], 0, line)
+            self.assertEqual([it.frame for it in capture.read(str(self.folder / "OUT"))], client_frames(3))
+
+    def test_keys_in_base64(self) -> None:
+        """Of both alphabets, with a salt, and after whose key it is."""
+        for octets in (bytes(range(16)), b"\0" + b"\xfb\xf0" * 15 + b"\x3f"):
+            suite = Suite.gcm128 if len(octets) == 16 else Suite.gcm256
+            extended = Suite.xpn128 if len(octets) == 16 else Suite.xpn256
+            for text in (base64.b64encode(octets).decode(), base64.urlsafe_b64encode(octets).decode()):
+                self.opens(protected(client_frames(3), suite=suite, key=octets), f"{SENDER}/0={text}")
+                self.opens(protected(client_frames(3), suite=extended, key=octets), f"{text}:{SALT.hex()}:00000001")
+        for text in (base64.b64encode(bytes(17)).decode(), base64.b64encode(bytes(16)).decode()[:-1], "="):
+            told = main_of(main, self.put("IN", []), self.folder / "NONE", "--key", text)
+            self.assertEqual((told[0], "--key: the key " in told[2], text in told[2]), (2, True, False), told)
+
 
 class Width(Decrypted):
     WIDTH = 0x1_0000
@@ -169,14 +195,14 @@ class Hints(Decrypted):
         return self.hint(frames, *keys).splitlines()
 
     def test_what_is_missing_is_named_and_opens_it(self) -> None:
-        wide = "SSCIs 1 to 16, upper halves below 100"
+        wide = "SSCIs 0x1 to 0x10, upper halves below 0x100"
         for frames, key, texts, better in (
             (xpn(0x300), SALTED, (f"key 1 as xpn128 with {wide}", "KEY:SALT:SSCI:UPPER", "offset 0, 30, 50"),
              f"{SALTED}:00000001"),
-            (xpn(0x800), f"{SALTED}:00000001", ("SSCI 1, upper halves below 800", "other upper halves"),
+            (xpn(0x800), f"{SALTED}:00000001", ("SSCI 0x1, upper halves below 0x800", "other upper halves"),
              f"{SALTED}:00000001:800"),
             (xpn(0, ssci=17), SALTED, (wide, "other SSCIs and upper halves"), f"{SALTED}:00000011"),
-            (xpn(7, ssci=0x800), f"{SALTED}::7", ("SSCIs below 800, upper half 7",), f"{SALTED}:00000800:7"),
+            (xpn(7, ssci=0x800), f"{SALTED}::7", ("SSCIs below 0x800, upper half 0x7",), f"{SALTED}:00000800:7"),
             (xpn(0), KEY, ("not tried: xpn128, which needs a salt (KEY:SALT)",), SALTED),
             (sealed(NONE, FAR), KEY, ("all ports of the source address", "SCIs of other addresses (SCI=KEY)"),
              f"{FAR}={KEY}"),

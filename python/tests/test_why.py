@@ -102,3 +102,5 @@ class Untouched(InFolder):
         self.assertEqual(main_of(main, text, self.put("TEXT", "no capture"))[0], 1)
         self.assertEqual(main_of(main, text, "/nowhere/IN")[0], 1)
         self.assertEqual(main_of(main, text)[0], 2)
+        told = main_of(main, self.put("IN", protected(client_frames(1))), text)
+        self.assertEqual(told, (2, "", "macsec-why: this is a capture, not a CONFIG\n"))

@@ -3,69 +3,98 @@
 from __future__ import annotations
 
 import argparse
-import collections
 import json
 import sys
+from array import array
 from collections.abc import Iterable, Sequence
+from typing import Optional
 
 from .. import capture
-from ..alternatives import names_nobody
 from ..cak import Cak, KeyAgreements
 from ..causes import Search
-from ..endpoint_of_config import Configuration
+from ..endpoint_of_config import Configuration, Refusal
 from ..errors import FrameFault, UsageError
-from ..explanation import Explanation, Seen, Unopened
-from ..frames import SecTag, ethertype, read_tag, sender_of, without_vlan
+from ..explanation import Explanation, Group, Seen, Unopened
+from ..frames import MACSEC, SecTag, ethertype, read_tag, sender_of, without_fcs, without_vlan
 from ..grammar import MOST_OCTETS
-from ..ivs import UsedIvs, UsedTwice, dicts_of, lines_of
+from ..ivs import Sender, UsedIvs, UsedTwice, dicts_of, lines_of
+from ..ledger import Ledger
 from ..names import Verdict
 from ..secy import Received
 from ..settings import Setting
-from ..summary import Summary, ranges
+from ..summary import Association, Summary
 from ..trial import key_argument, whole_number
+from ..unseen import Unseen
+from ..ways import upper_half
 from . import new_parser, run, say
 from .decrypt import keys_of_file
 from .key_agreement import add_cak_options, caks_of
 from .reading import Reading
+from .seen import add_seen_options, ledger_of, seen_in
 
 _DELIVERED_AS_SENT = (Verdict.OK, Verdict.Delayed)
+# Verdicts on frames whose packet number is below the next one that is expected.
+_BELOW = (*_DELIVERED_AS_SENT, Verdict.Unchecked, Verdict.Late)
+# How many heads of frames are known at one time.
+_MOST_HEADS = 4096
+
+
+# The addresses of a frame, and SCI, TCI and AN of its SecTAG.
+Head = tuple[bytes, Optional[bytes], int, int]
 
 
 class Ivs:
     """The keys and IVs of the frames that open: under CONFIG, or under the setting that explains them."""
 
-    def __init__(self, configuration: Configuration, search: Search, only: int | None) -> None:
-        self.keys: dict[int, bytes] = {}
-        self._configuration, self._search, self._only = configuration, search, only
-        self._used = UsedIvs()
+    def __init__(self, search: Search, only: int | None, ledger: Ledger | None = None) -> None:
+        # The number of the key of each record, 0 for others; and the names of the keys.
+        self.keys = array("I")
+        self.names: list[str] = []
+        self._search, self._only = search, only
+        self._used = UsedIvs(ledger=ledger)
         self._of_only: list[UsedTwice] = []
+        # Of each association the setting of CONFIG, and what its frames have in common once one is added.
         self._bases: dict[tuple[bytes, int], Setting | None] = {}
+        self._senders: dict[tuple[bytes, int], Sender] = {}
 
     def add(self, record: int, setting: Setting, number: int, frame: bytes, tag: SecTag) -> None:
         """Adds a frame that opens under a setting, with its whole packet number."""
-        self.keys[record] = setting.key.octets
-        found = self._used.add(record, setting.key, setting.sci, setting.ssci, number, frame, tag)
+        self._add(record, self._sender(setting), number, frame, tag)
+
+    def _sender(self, setting: Setting) -> Sender:
+        sender = self._used.sender(setting.key, setting.sci, setting.ssci)
+        if sender.number_of_key == len(self.names):
+            self.names.append(setting.key.name)
+        return sender
+
+    def _add(self, record: int, sender: Sender, number: int, frame: bytes, tag: SecTag) -> None:
+        if record >= len(self.keys):
+            self.keys.frombytes(bytes(4 * (record + 1 - len(self.keys))))
+        self.keys[record] = sender.number_of_key + 1
+        found = self._used.add(record, sender, number, frame, tag)
         if found and record == self._only:
             self._of_only = [found[0]]
 
-    def add_received(self, record: int, frame: bytes, received: Received) -> None:
-        """Adds a frame that is OK, Delayed or Late, if its ICV is valid."""
-        tag = read_tag(frame)
-        if tag is None or received.sci is None or received.an is None:
+    def add_received(self, record: int, frame: bytes, tag: SecTag, number: int, received: Received) -> None:
+        """Adds a frame that is OK, Delayed or Late, if its ICV is valid. The number is the whole packet number."""
+        if received.sci is None or received.an is None:
             return
         place = received.sci, received.an
+        sender = self._senders.get(place)
+        # The ICV of a late frame is not checked if it is dropped, nor under `validate disabled`.
+        if sender is None or received.verdict != Verdict.OK:
+            base = self._base(place)
+            is_checked = received.verdict == Verdict.OK
+            if not base or not (is_checked or base._replace(upper=number >> 32).opens(self._search.trials, frame)):
+                return
+            sender = self._senders.setdefault(place, self._sender(base))
+        self._add(record, sender, number, frame, tag)
+
+    def _base(self, place: tuple[bytes, int]) -> Setting | None:
+        """What CONFIG opens the frames of an association under."""
         if place not in self._bases:
             self._bases[place] = self._search.setting(*place)
-        base = self._bases[place]
-        if base is None:
-            return
-        number = tag.pn
-        if base.key.suite.is_extended:
-            number = whole_number(tag.pn, self._configuration.secy.rx_sa(*place).next)
-        # The ICV of a late frame is not checked if it is dropped, nor under `validate disabled`.
-        is_checked = received.verdict == Verdict.OK
-        if is_checked or base._replace(upper=number >> 32).opens(self._search.trials, frame):
-            self.add(record, base, number, frame, tag)
+        return self._bases[place]
 
     @property
     def twice(self) -> list[UsedTwice]:
@@ -83,77 +112,103 @@ class Run:
         packets: Iterable[capture.Packet],
         only: int | None,
         caks: Sequence[Cak] = (),
+        ledger: Ledger | None = None,
     ) -> None:
+        self._configuration, self._search, self._secy = (configuration, search, configuration.secy)
+        self._is_extended, self._only = configuration.is_extended, only
+        self._known: dict[Head, Association] = {}
         self.summary = Summary()
         self.agreements = KeyAgreements(caks)
-        self.ivs = Ivs(configuration, search, only)
+        self.ivs = Ivs(search, only, ledger)
         self.unopened = Unopened()
-        self.others: dict[str, list[int]] = collections.defaultdict(list)
-        # Is there a record that may have a protected frame, and that the endpoint does not see?
-        self.has_unseen = False
+        self.unseen = Unseen()
         self.only: capture.Packet | None = None
         self.only_verdict = ""
         for packet in packets:
-            self._show(search, packet)
-            verdict = self._add(configuration, search, packet, only)
+            verdict = self._add(packet)
             if packet.number == only:
                 self.only, self.only_verdict = packet, verdict
                 break
         if only is not None and self.only is None:
             raise UsageError(f"the capture has no record {only}")
 
-    def _show(self, search: Search, packet: capture.Packet) -> None:
-        """Notes what a record shows: addresses, SCIs, and keys that MKA distributes."""
-        plain, _ = without_vlan(packet.frame)
+    def _add(self, packet: capture.Packet) -> str:
+        """Gives a record to the endpoint, and notes what it is. Returns the verdict, or why the endpoint has none."""
+        record, frame = packet.number, packet.frame
+        plain = frame if frame[12:14] == MACSEC else without_vlan(frame)[0]
         tag = read_tag(plain)
-        search.shown.add(plain, tag)
+        name = self.unseen.add(packet)
+        try:
+            received = None if name else self._secy.receive(frame)
+        except FrameFault as why:
+            received, name = None, self.unseen.add_fault(packet, why.name)
+        if received is None:
+            self._show(packet, plain, tag)
+            return name
+        verdict = received.verdict
+        if tag is None:
+            self._show(packet, plain, tag)
+            of = self.summary.add_other(frame, verdict._name_)
+        else:
+            head = plain[:12], tag.sci, tag.tci, tag.an
+            found = self._known.get(head) or self._know(head, packet, plain, tag)
+            of, number = found.place, tag.pn
+            if self._is_extended and received.sci is not None:
+                number = self._whole(received, number)
+            if verdict in _DELIVERED_AS_SENT or verdict == Verdict.Late:
+                self.ivs.add_received(record, frame, tag, number, received)
+            # What is OK ends with its ICV, or its tag says where that is.
+            found.add(record, tag, plain if verdict == Verdict.OK else without_fcs(plain), verdict._name_)
+            self.note(packet, found, number, received)
+        if verdict in _DELIVERED_AS_SENT:
+            self.unopened.add_opened(of, record, frame)
+            self._search.note_opened(frame)
+        elif self._only is None or self._only == record:
+            self.unopened.add((verdict, *of), Seen(record, frame, self._expected(plain, tag)))
+        return verdict._name_
+
+    def _know(self, head: Head, packet: capture.Packet, plain: bytes, tag: SecTag) -> Association:
+        """The association of frames with a head that is new."""
+        self._show(packet, plain, tag)
+        if len(self._known) >= _MOST_HEADS:
+            self._known.clear()
+        found = self._known[head] = self.summary.of(plain, tag)
+        return found
+
+    def _show(self, packet: capture.Packet, plain: bytes, tag: SecTag | None) -> None:
+        """Notes what a record shows: addresses, SCIs, and keys that MKA distributes."""
+        self._search.shown.add(plain, tag)
         if tag is not None:
             return
         count = self.agreements.seen
         key = self.agreements.add(packet.number, packet.frame)
         if key is not None:
-            search.add_key(key, key.name)
+            self._search.add_key(key, key.name)
         if count < self.agreements.seen:
             for sci in self.agreements.scis:
-                search.shown.add_sci(sci)
+                self._search.shown.add_sci(sci)
 
-    def _add(self, configuration: Configuration, search: Search, packet: capture.Packet, only: int | None) -> str:
-        """Gives a record to the endpoint."""
-        if not packet.is_whole:
-            name = "partial" if packet.link_type == capture.ETHERNET else f"linktype {packet.link_type}"
-            self.others[name].append(packet.number)
-            self.has_unseen = self.has_unseen or packet.may_be_protected
-            return name
-        try:
-            received = configuration.secy.receive(packet.frame)
-        except FrameFault as why:
-            self.others[why.name].append(packet.number)
-            return why.name
-        verdict = received.verdict
-        if verdict in (*_DELIVERED_AS_SENT, Verdict.Late):
-            self.ivs.add_received(packet.number, packet.frame, received)
-        of = self.summary.add(packet.number, packet.frame, verdict.name)
-        if verdict in _DELIVERED_AS_SENT:
-            self.unopened.add_opened(of, packet.number, packet.frame)
-            search.note_opened(packet.frame)
-        elif only is None or only == packet.number:
-            self.unopened.add((verdict, *of), Seen(packet.number, packet.frame, _expected(configuration, packet.frame)))
-        return verdict.name
+    def _whole(self, received: Received, pn: int) -> int:
+        """The whole packet number of a frame, as its association has it or expects it."""
+        assert received.sci is not None and received.an is not None
+        following = self._secy.rx_sa(received.sci, received.an).next
+        return whole_number(pn, following) if received.verdict in _BELOW else upper_half(pn, following) << 32 | pn
 
-
-def _expected(configuration: Configuration, frame: bytes) -> int | None:
-    """The whole packet number that the association of a frame expects, or another one of its sender, if they have
-    extended ones."""
-    plain, _ = without_vlan(frame)
-    tag = read_tag(plain)
-    if tag is None or not configuration.is_extended:
+    def _expected(self, plain: bytes, tag: SecTag | None) -> int | None:
+        """The whole packet number that the association of a frame expects, or another one of its sender, if they have
+        extended ones."""
+        if tag is None or not self._is_extended:
+            return None
+        channels = self._configuration.channels()
+        sci = channels[0] if tag.names_nobody and channels else sender_of(plain, tag)
+        for an in (tag.an, *range(4)) if sci in channels else ():
+            if self._configuration.rx_sa(sci, an):
+                return self._secy.rx_sa(sci, an).next
         return None
-    channels = configuration.channels()
-    sci = channels[0] if names_nobody(tag) and channels else sender_of(plain, tag)
-    for an in (tag.an, *range(4)) if sci in channels else ():
-        if configuration.rx_sa(sci, an):
-            return configuration.secy.rx_sa(sci, an).next
-    return None
+
+    def note(self, packet: capture.Packet, found: Association, number: int, received: Received) -> None:
+        """Is called for each frame with a SecTAG that the endpoint judged, with its association and its whole packet
+        number. Here it does nothing."""
 
 
 def _record_lines(packet: capture.Packet, verdict: str) -> list[str]:
@@ -163,6 +218,8 @@ def _record_lines(packet: capture.Packet, verdict: str) -> list[str]:
     lines = [
         f"record {packet.number} {verdict}: {len(packet.frame)} octets, DA {plain[:6].hex()} SA {plain[6:12].hex()}"
     ]
+    if packet.inside:
+        lines.append(f"  inside {packet.inside}")
     if tags:
         lines.append(f"  VLAN tag {tags.hex()} before the SecTAG")
     if tag is None:
@@ -184,15 +241,16 @@ def parser() -> argparse.ArgumentParser:
         "macsec-why receiver.config link.pcap 7",
     )
     parser.add_argument("config", metavar="CONFIG", help="the configuration of `macsec validate`")
-    parser.add_argument("capture", metavar="IN", help="pcap or pcapng, also compressed by gzip; - for standard input")
+    parser.add_argument("capture", metavar="IN", help="pcap or pcapng, also compressed; - for standard input")
     parser.add_argument("record", metavar="K", type=int, nargs="?", help="a record alone, from 0")
     parser.add_argument(
-        "--key", action="append", default=[], metavar="KEY[:SALT[:SSCI[:UPPER]]]", help="one more key to try, in hex"
+        "--key", action="append", default=[], metavar="KEY[:SALT[:SSCI[:UPPER]]]", help="one more key to try"
     )
     parser.add_argument(
         "--keys", action="append", default=[], metavar="FILE", help="a file with such a key on each line"
     )
     add_cak_options(parser)
+    add_seen_options(parser)
     parser.add_argument("--json", action="store_true", help="one JSON object on each line")
     return parser
 
@@ -203,37 +261,66 @@ def main(words: Sequence[str] | None = None) -> int:
     return run("macsec-why", lambda: _why(asked))
 
 
-def _why(asked: argparse.Namespace) -> int:
-    with open(asked.config, "rb") as file:
-        configuration = Configuration(file.read(MOST_OCTETS + 1))
-    search = Search(configuration)
+def search_of(path: str, asked: argparse.Namespace) -> Search:
+    """The search under a CONFIG, and the keys of the options --key and --keys."""
+    with open(path, "rb") as file:
+        search = Search(Configuration(file.read(MOST_OCTETS + 1)))
     for place, text in enumerate(asked.key, 1):
         search.add_key(key_argument(text), f"--key {place}")
-    for path in asked.keys:
-        for place, key in enumerate(keys_of_file(path), 1):
-            search.add_key(key, f"key {place} of {path}")
+    for name in asked.keys:
+        for place, key in enumerate(keys_of_file(name), 1):
+            search.add_key(key, f"key {place} of {name}")
+    return search
+
+
+def objects_of(
+    twice: Sequence[UsedTwice], summary: Sequence[dict[str, object]], unseen: Unseen, groups: list[Group],
+    refusals: Sequence[Refusal] = (),
+) -> list[dict[str, object]]:  # fmt: skip
+    """What --json prints, an object for each line."""
+    objects = [*dicts_of(twice)]
+    objects += [{"refused": it._asdict()} for it in refusals]
+    objects += summary
+    objects += unseen.as_dicts()
+    return objects + [{"unopened": it.as_dict()} for it in groups]
+
+
+def lines_of_all(
+    twice: Sequence[UsedTwice], summary: list[str], unseen: Unseen, groups: list[Group],
+    refusals: Sequence[Refusal] = (),
+) -> list[str]:  # fmt: skip
+    """The same as text."""
+    lines = [*lines_of(twice), *(it.message for it in refusals), *summary, *unseen.lines()]
+    return lines + [line for it in groups for line in it.lines()]
+
+
+def _why(asked: argparse.Namespace) -> int:
+    search = search_of(asked.config, asked)
+    with ledger_of(asked) as ledger:
+        return _explained(asked, search, ledger)
+
+
+def _explained(asked: argparse.Namespace, search: Search, ledger: Ledger | None) -> int:
+    configuration = search.configuration
     with Reading("macsec-why", asked.capture) as reading:
-        made = Run(configuration, search, reading, asked.record, caks_of(asked))
+        packets = seen_in(ledger, asked.capture, reading)
+        made = Run(configuration, search, packets, asked.record, caks_of(asked), ledger)
         groups = Explanation(made.unopened, search, made.ivs.add).groups
     search.close()
     made.summary.note_keys(made.ivs.keys)
     twice = made.ivs.twice
+    found, refusals = (made.unseen, groups), configuration.refusals
     if asked.json:
-        objects: list[dict[str, object]] = [*dicts_of(twice)]
-        objects += [{"refused": it._asdict()} for it in configuration.refusals]
-        objects += [] if asked.record is not None else made.summary.as_dicts()
-        objects += [{"not seen": name, "records": records} for name, records in made.others.items()]
-        objects += [{"unopened": it.as_dict()} for it in groups]
-        lines = [json.dumps(it) for it in objects]
+        summary = [] if made.only else made.summary.as_dicts()
+        objects = objects_of(twice, summary, *found, refusals)
+        lines = [json.dumps(it) for it in objects + ([ledger.as_dict()] if ledger else [])]
     else:
-        lines = [*lines_of(twice), *(f"{it.message}" for it in configuration.refusals)]
-        lines += _record_lines(made.only, made.only_verdict) if made.only else made.summary.lines()
-        lines += [f"record {ranges(records)}: {name}" for name, records in made.others.items()]
-        lines += [line for it in groups for line in it.lines()]
+        text = _record_lines(made.only, made.only_verdict) if made.only else made.summary.lines()
+        lines = lines_of_all(twice, text, *found, refusals) + (ledger.lines() if ledger else [])
     say("".join(f"{it}\n" for it in lines))
     if reading.is_cut:
         return 1
-    return 3 if twice or made.has_unseen or any(it.an is not None or it.changes for it in groups) else 0
+    return 3 if twice or made.unseen.has_protected or any(it.an is not None or it.changes for it in groups) else 0
 
 
 if __name__ == "__main__":
