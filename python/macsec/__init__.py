@@ -23,13 +23,16 @@
 """
 
 from .errors import CaptureError, FrameFault, JournalFault, MacsecError, NotFound, Refused, TextFault, UsageError
+from .forging import Forged, forged
 from .journal import Journal, Step, journal_created
+from .journal_file import JournalFile
 from .names import Fate, Form, Mode, Status, Suite, Verdict
 from .sealing import seal
 from .secy import Options, Received, RxSa, SecY, Sent, TxSa, journal_compacted, journal_header, version
 
 __all__ = [
-    "CaptureError", "Fate", "Form", "FrameFault", "Journal", "JournalFault", "MacsecError", "Mode", "NotFound",
-    "Options", "Received", "Refused", "RxSa", "SecY", "Sent", "Status", "Step", "Suite", "TextFault", "TxSa",
-    "UsageError", "Verdict", "journal_compacted", "journal_created", "journal_header", "seal", "version",
+    "CaptureError", "Fate", "Forged", "Form", "FrameFault", "Journal", "JournalFault", "JournalFile", "MacsecError",
+    "Mode", "NotFound", "Options", "Received", "Refused", "RxSa", "SecY", "Sent", "Status", "Step", "Suite",
+    "TextFault", "TxSa", "UsageError", "Verdict", "forged", "journal_compacted", "journal_created", "journal_header",
+    "seal", "version",
 ]  # fmt: skip

@@ -134,6 +134,7 @@ CALLS = {
     "set_replay": (c_bool, c_uint64),
     "set_tag_form": (c_uint32,),
     "install_key": (_TO_FILL,),
+    "renew_key": (_TO_FILL,),
     "retire_key": (c_uint16,),
     "add_tx_sa": (c_uint8, c_uint16, c_uint64, c_bool),
     "enable_tx_sa": (c_uint8,),

@@ -5,7 +5,7 @@ from __future__ import annotations
 from collections.abc import Iterator
 from typing import Callable, NamedTuple
 
-from .alternatives import key_of, names_nobody
+from .alternatives import key_of
 from .endpoint_of_config import Configuration, Refusal
 from .frames import SecTag, sender_of
 from .grammar import Command
@@ -34,7 +34,7 @@ class Associations:
         named = sender_of(frame, tag)
         scis = self._configuration.channels()
         # Without an SCI, ES and SCB a receiver takes its only channel.
-        if names_nobody(tag):
+        if tag.names_nobody:
             named = scis[0] if len(scis) == 1 else named
         sa = self._configuration.rx_sa(named, tag.an)
         return Row(named, tag.an, sa) if sa else None
@@ -60,9 +60,9 @@ class Associations:
     def why_none(self, frame: bytes, tag: SecTag) -> Change:
         """Why CONFIG has no association for a frame."""
         rows, channels = self.rows(), self._configuration.channels()
-        if names_nobody(tag) and len(channels) == 1:
+        if tag.names_nobody and len(channels) == 1:
             return Change("an", f"AN {tag.an}; CONFIG has AN {', '.join(str(it.an) for it in rows) or 'none'}")
-        if names_nobody(tag) and channels:
+        if tag.names_nobody and channels:
             why = "no SCI in the SecTAG"
             return Change("channel", f"{why}: CONFIG has {len(channels)} channels; one alone is expected")
         return self._why_none(sender_of(frame, tag), tag.an, rows, channels)
@@ -129,7 +129,7 @@ class Associations:
 
     def _likely(self, frame: bytes, tag: SecTag) -> Iterator[Setting]:
         rows, channels = self.rows(), self._configuration.channels()
-        if names_nobody(tag) and channels:
+        if tag.names_nobody and channels:
             yield from filter(None, (self.setting_of(it._replace(an=tag.an)) for it in rows))
             return
         sci, an = sender_of(frame, tag), tag.an

@@ -2,27 +2,34 @@
 
 from __future__ import annotations
 
+import math
+import time
 from collections.abc import Iterable, Iterator, Sequence
 from typing import NamedTuple
 
 from .errors import MacsecError
+from .hostile import CLAUSE_OF
 from .interface import Interface
 from .secy import SecY
 
 # No frame on an Ethernet is shorter, without its check sequence.
 SHORTEST = 60
 _ADDRESSES, _HEADER = 12, 14
+# Frames that are late are sent faster, until none is later than so many seconds.
+_MOST_LATE = 0.05
 
 
 class Judgement(NamedTuple):
     """What the endpoint of the library does with a frame: its verdict, and what its client gets, or None.
 
-    `sent` is the frame as it is on the wire. `addresses` are those by which the client's frame is recognised."""
+    `sent` is the frame as it is on the wire. `addresses` are those by which the client's frame is recognised. `clause`
+    is the one that gives the verdict."""
 
     name: str
     sent: bytes
     verdict: str
     expected: bytes | None
+    clause: str = "none"
 
     @property
     def addresses(self) -> bytes:
@@ -62,7 +69,7 @@ def judged(endpoint: SecY, frames: Iterable[tuple[str, bytes]]) -> Iterator[Judg
         sent = _padded(frame)
         try:
             made = endpoint.receive(sent)
-            yield Judgement(name, sent, made.verdict.name, made.frame)
+            yield Judgement(name, sent, made.verdict.name, made.frame, CLAUSE_OF.get(made.verdict, "none"))
         except MacsecError as why:
             yield Judgement(name, sent, why.name, None)
 
@@ -79,21 +86,25 @@ def passes(frames: Sequence[Judgement]) -> Iterator[range]:
         yield range(start, len(frames))
 
 
-def tried(frames: Sequence[Judgement], link: Interface, client: Interface, seconds: float) -> tuple[list[Outcome], int]:
+def tried(
+    frames: Sequence[Judgement], link: Interface, client: Interface, seconds: float, rate: float = math.inf
+) -> tuple[list[Outcome], int]:
     """Sends frames on one interface, and collects what comes out on the other one.
 
-    The frames of a pass are sent one after another. The next pass begins so many seconds later. Returns what became of
-    each frame, and how many frames came out that are for none."""
+    The frames of a pass are sent one after another, at most so many a second as `rate` is. The next pass begins so many
+    seconds later. Returns what became of each frame, and how many frames came out that are for none."""
     came: list[list[bytes]] = [[] for _ in frames]
     owners: dict[bytes, int] = {}
     others = 0
     client.frames(0)
+    due = time.monotonic()
     for numbers in passes(frames):
         for number in numbers:
             owners[frames[number].addresses] = number
         for number in numbers:
+            others += _sort(client.frames(max(due - time.monotonic(), 0)), owners, came)
+            due = max(due, time.monotonic() - _MOST_LATE) + 1 / rate
             link.send(frames[number].sent)
-            others += _sort(client.frames(0), owners, came)
         others += _sort(client.frames(seconds), owners, came)
     return [Outcome(it, tuple(got)) for it, got in zip(frames, came)], others
 

@@ -5,6 +5,7 @@ from __future__ import annotations
 import re
 from typing import NamedTuple
 
+from .capture import is_capture
 from .errors import Refused, UsageError, error
 from .grammar import Command, parse
 from .names import SUITES, Suite, suite_of
@@ -12,7 +13,7 @@ from .secy import Received, RxSa, SecY
 
 
 class KeyLine(NamedTuple):
-    """A key that CONFIG installed."""
+    """A key that CONFIG installed. It is called by its number, or as it was called before CONFIG was made of it."""
 
     line: int
     number: int
@@ -21,10 +22,11 @@ class KeyLine(NamedTuple):
     suite: Suite
     ssci: int
     salt: bytes
+    called: str = ""
 
     @property
     def name(self) -> str:
-        return f"key {self.number}"
+        return self.called or f"key {self.number}"
 
 
 class Refusal(NamedTuple):
@@ -58,6 +60,8 @@ class Configuration:
     """A CONFIG that the library has carried out; or macsecd's file, without what is for the device alone."""
 
     def __init__(self, text: bytes) -> None:
+        if is_capture(text[:4]):
+            raise UsageError("this is a capture, not a CONFIG")
         end, self.commands, faults = parse(without_device_lines(text))
         if faults or end is None:
             raise UsageError(str(faults[0]))

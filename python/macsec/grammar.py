@@ -230,7 +230,7 @@ def _explained_arguments(before: list[str], words: list[str], status: Status) ->
         counts = " or ".join(str(len(before) + len(it)) for it in _forms_of(keyword))
         why = "; a comment needs a line of its own" if any(it.startswith("#") for it in words) else ""
         return 0, f"{len(before) + len(words)} words, {counts} expected: {usage}{why}"
-    kinds = next((it for it in _forms_of(keyword) if len(it) == len(words)), [])
+    kinds: list[str] = next((it for it in _forms_of(keyword) if len(it) == len(words)), [])
     for place, (kind, word) in enumerate(zip(kinds, words)):
         asked = ["end"] if keyword == "end" else ["A", keyword]
         asked += [word if at == place else _right(it) for at, it in enumerate(kinds)]

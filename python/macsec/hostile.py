@@ -3,7 +3,7 @@
 from __future__ import annotations
 
 from collections.abc import Iterator
-from typing import Callable, NamedTuple
+from typing import Any, Callable, NamedTuple
 
 from .names import Suite, Verdict
 from .sealing import ICV_OCTETS, seal
@@ -12,6 +12,17 @@ MACSEC = b"\x88\xe5"
 BITS = {"V": 0x80, "ES": 0x40, "SC": 0x20, "SCB": 0x10, "E": 0x08, "C": 0x04}
 # SL says the length of data that are shorter than this.
 SHORT = 48
+# What each clause of IEEE Std 802.1AE that is tried is about, and the clause that gives a frame its verdict.
+CLAUSES = {
+    "9.3": "parts of the SecTAG", "9.4": "EtherType", "9.5": "TCI", "9.7": "SL", "9.8": "PN", "9.9": "SCI",
+    "9.11": "where the ICV is", "9.12": "faults of the SecTAG", "10.6": "frames without a SecTAG",
+    "10.6.1": "the receive SA", "10.6.2": "packet numbers", "10.6.3": "the ICV", "10.6.5": "delivery",
+}  # fmt: skip
+CLAUSE_OF = {
+    Verdict.Untagged: "10.6", Verdict.NoTag: "10.6", Verdict.BadTag: "9.12", Verdict.Reserved: "9.5",
+    Verdict.NoSA: "10.6.1", Verdict.NoSAError: "10.6.1", Verdict.Late: "10.6.2", Verdict.Delayed: "10.6.5",
+    Verdict.Unchecked: "10.6.3", Verdict.Invalid: "10.6.3", Verdict.NotValid: "10.6.3", Verdict.OK: "10.6.5",
+}  # fmt: skip
 # The first octet of the destination address of a marked frame: of one station, and locally administered.
 _MARK = b"\x66"
 
@@ -51,8 +62,8 @@ class Tag(NamedTuple):
 class Shape(NamedTuple):
     """A frame to make: what its client sent, its SecTAG, how it is sealed, and what becomes of it then.
 
-    `tag` are the octets of the SecTAG. With `conf` the data are encrypted. `icv` is what is added to the ICV bit by bit,
-    or None. `pad` are octets after the ICV, and `cut` is how many of the last octets are left out.
+    `tag` are the octets of the SecTAG. With `conf` the data are encrypted. `icv` is what is added to the ICV bit by
+    bit, or None. `pad` are octets after the ICV, and `cut` is how many of the last octets are left out.
     """
 
     client: bytes
@@ -77,7 +88,7 @@ class Shape(NamedTuple):
             icv = bytes(a ^ b for a, b in zip(made[-ICV_OCTETS:], self.icv.rjust(ICV_OCTETS, b"\0")))
             made = made[:-ICV_OCTETS] + icv
         made += self.pad
-        return made[: len(made) - self.cut]
+        return made[: max(len(made) - self.cut, 0)]
 
 
 def short_length(data: int) -> int:
@@ -106,9 +117,11 @@ def marked(client: bytes, pn: int) -> bytes:
 
 
 class Hostile(NamedTuple):
-    """A frame of the list: its name, what is unusual, the verdict of this endpoint in mode strict, and the frame."""
+    """A frame of the list: its name, the clause that it tries, what is unusual, the verdict of this endpoint in mode
+    strict, and the frame."""
 
     name: str
+    clause: str
     what: str
     verdict: Verdict
     shape: Shape
@@ -122,6 +135,7 @@ class _Case(NamedTuple):
     that the SecTAG means, if it means one."""
 
     name: str
+    clause: str
     what: str
     verdict: Verdict
     change: _Change
@@ -134,7 +148,7 @@ class _Case(NamedTuple):
         return Verdict.NoSAError if is_other else self.verdict
 
 
-def _tag(**fields: object) -> _Change:
+def _tag(**fields: Any) -> _Change:
     """Other fields of the SecTAG."""
     return lambda source, tag, shape: shape._replace(tag=tag._replace(**fields).octets())
 
@@ -150,7 +164,7 @@ def _bits(text: str, conf: bool = True, keep_sci: bool = True) -> _Change:
     return change
 
 
-def _shape(**fields: object) -> _Change:
+def _shape(**fields: Any) -> _Change:
     """Another way to seal the frame, or to alter it then."""
     return lambda source, tag, shape: shape._replace(**fields)
 
@@ -178,41 +192,41 @@ def _other_number_in_iv(source: Source, tag: Tag, shape: Shape) -> Shape:
 
 
 CASES = (
-    _Case("ordinary", "an encrypted frame with the SCI", Verdict.OK, _shape()),
-    _Case("long", "SL 0 and 48 octets of data", Verdict.OK, _shape(), 48),
-    _Case("integrity", "E and C clear", Verdict.OK, _bits("SC", conf=False)),
-    _Case("c-without-e", "C set, E clear: integrity alone", Verdict.OK, _bits("SC C", conf=False)),
-    _Case("padded", "20 octets after the ICV", Verdict.OK, _shape(pad=bytes(20))),
-    _Case("one-octet", "SL 1", Verdict.OK, _shape(), 1),
-    _Case("v", "the version bit set", Verdict.BadTag, _bits("V SC E C")),
-    _Case("es-and-sc", "ES set beside an SCI", Verdict.BadTag, _bits("ES SC E C")),
-    _Case("scb-and-sc", "SCB set beside an SCI", Verdict.BadTag, _bits("SCB SC E C")),
-    _Case("sl-48", "SL 48, as many octets of data", Verdict.BadTag, _tag(sl=48), 48),
-    _Case("sl-63", "SL 63, as many octets of data", Verdict.BadTag, _tag(sl=63), 63),
-    _Case("sl-bit-6", "a reserved bit beside SL", Verdict.BadTag, _tag(sl=0x40 | 46)),
-    _Case("sl-bit-7", "a reserved bit beside SL", Verdict.BadTag, _tag(sl=0x80 | 46)),
-    _Case("sl-long", "SL 47, 46 octets of data", Verdict.BadTag, _tag(sl=47)),
-    _Case("sl-short", "SL 45, 46 octets of data", Verdict.NotValid, _tag(sl=45)),
-    _Case("sl-0", "SL 0, 46 octets of data", Verdict.BadTag, _tag(sl=0)),
-    _Case("no-data", "SL 0, no data", Verdict.BadTag, _shape(), 0),
-    _Case("e-without-c", "E set, C clear", Verdict.Reserved, _bits("SC E")),
-    _Case("encrypted-no-e", "E clear, data encrypted", Verdict.NotValid, _bits("SC")),
-    _Case("clear-with-e", "E set, data not encrypted", Verdict.NotValid, _shape(conf=False)),
-    _Case("an", "another AN", Verdict.NoSAError, _other_an),
-    _Case("sci", "another SCI, in the SecTAG and in the IV", Verdict.NoSAError, _from_other),
-    _Case("pn-0", "packet number 0", Verdict.BadTag, _number_0),
-    _Case("iv-pn", "another packet number in the IV", Verdict.NotValid, _other_number_in_iv),
-    _Case("icv", "the last bit of the ICV changed", Verdict.NotValid, _shape(icv=b"\1")),
-    _Case("icv-0", "the first bit of the ICV changed", Verdict.NotValid, _shape(icv=b"\x80" + bytes(15))),
-    _Case("icv-cut", "the last octet of the ICV left out", Verdict.BadTag, _shape(cut=1)),
-    _Case("long-and-more", "SL 0, an octet after the ICV", Verdict.NotValid, _shape(pad=b"\0"), 60),
-    _Case("tag-cut", "the frame ends within the SecTAG", Verdict.BadTag, _shape(cut=16 + 46 + 1)),
-    _Case("ethertype", "EtherType 88e6", Verdict.NoTag, _tag(ethertype=b"\x88\xe6")),
-    _Case("no-sci", "no SCI, ES and SCB clear", Verdict.OK, _bits("E C", keep_sci=False)),
-    _Case("es", "no SCI, ES set", Verdict.OK, _bits("ES E C", keep_sci=False), port=1),
-    _Case("scb", "no SCI, SCB set", Verdict.OK, _bits("SCB E C", keep_sci=False), port=0),
-    _Case("es-and-scb", "no SCI, ES and SCB set", Verdict.OK, _bits("ES SCB E C", keep_sci=False), port=0),
-    _Case("last", "an ordinary frame: after all of these it still opens", Verdict.OK, _shape()),
+    _Case("ordinary", "10.6.5", "an encrypted frame with the SCI", Verdict.OK, _shape()),
+    _Case("long", "9.7", "SL 0 and 48 octets of data", Verdict.OK, _shape(), 48),
+    _Case("integrity", "9.5", "E and C clear", Verdict.OK, _bits("SC", conf=False)),
+    _Case("c-without-e", "9.5", "C set, E clear: integrity alone", Verdict.OK, _bits("SC C", conf=False)),
+    _Case("padded", "9.7", "20 octets after the ICV", Verdict.OK, _shape(pad=bytes(20))),
+    _Case("one-octet", "9.7", "SL 1", Verdict.OK, _shape(), 1),
+    _Case("v", "9.5", "the version bit set", Verdict.BadTag, _bits("V SC E C")),
+    _Case("es-and-sc", "9.5", "ES set beside an SCI", Verdict.BadTag, _bits("ES SC E C")),
+    _Case("scb-and-sc", "9.5", "SCB set beside an SCI", Verdict.BadTag, _bits("SCB SC E C")),
+    _Case("sl-48", "9.7", "SL 48, as many octets of data", Verdict.BadTag, _tag(sl=48), 48),
+    _Case("sl-63", "9.7", "SL 63, as many octets of data", Verdict.BadTag, _tag(sl=63), 63),
+    _Case("sl-bit-6", "9.7", "a reserved bit beside SL", Verdict.BadTag, _tag(sl=0x40 | 46)),
+    _Case("sl-bit-7", "9.7", "a reserved bit beside SL", Verdict.BadTag, _tag(sl=0x80 | 46)),
+    _Case("sl-long", "9.7", "SL 47, 46 octets of data", Verdict.BadTag, _tag(sl=47)),
+    _Case("sl-short", "9.11", "SL 45, 46 octets of data", Verdict.NotValid, _tag(sl=45)),
+    _Case("sl-0", "9.7", "SL 0, 46 octets of data", Verdict.BadTag, _tag(sl=0)),
+    _Case("no-data", "9.7", "SL 0, no data", Verdict.BadTag, _shape(), 0),
+    _Case("e-without-c", "9.5", "E set, C clear", Verdict.Reserved, _bits("SC E")),
+    _Case("encrypted-no-e", "10.6.3", "E clear, data encrypted", Verdict.NotValid, _bits("SC")),
+    _Case("clear-with-e", "10.6.3", "E set, data not encrypted", Verdict.NotValid, _shape(conf=False)),
+    _Case("an", "10.6.1", "another AN", Verdict.NoSAError, _other_an),
+    _Case("sci", "10.6.1", "another SCI, in the SecTAG and in the IV", Verdict.NoSAError, _from_other),
+    _Case("pn-0", "9.8", "packet number 0", Verdict.BadTag, _number_0),
+    _Case("iv-pn", "10.6.3", "another packet number in the IV", Verdict.NotValid, _other_number_in_iv),
+    _Case("icv", "10.6.3", "the last bit of the ICV changed", Verdict.NotValid, _shape(icv=b"\1")),
+    _Case("icv-0", "10.6.3", "the first bit of the ICV changed", Verdict.NotValid, _shape(icv=b"\x80" + bytes(15))),
+    _Case("icv-cut", "9.11", "the last octet of the ICV left out", Verdict.BadTag, _shape(cut=1)),
+    _Case("long-and-more", "9.11", "SL 0, an octet after the ICV", Verdict.NotValid, _shape(pad=b"\0"), 60),
+    _Case("tag-cut", "9.3", "the frame ends within the SecTAG", Verdict.BadTag, _shape(cut=16 + 46 + 1)),
+    _Case("ethertype", "9.4", "EtherType 88e6", Verdict.NoTag, _tag(ethertype=b"\x88\xe6")),
+    _Case("no-sci", "9.9", "no SCI, ES and SCB clear", Verdict.OK, _bits("E C", keep_sci=False)),
+    _Case("es", "9.9", "no SCI, ES set", Verdict.OK, _bits("ES E C", keep_sci=False), port=1),
+    _Case("scb", "9.9", "no SCI, SCB set", Verdict.OK, _bits("SCB E C", keep_sci=False), port=0),
+    _Case("es-and-scb", "9.9", "no SCI, ES and SCB set", Verdict.OK, _bits("ES SCB E C", keep_sci=False), port=0),
+    _Case("last", "10.6.5", "an ordinary frame: after all of these it still opens", Verdict.OK, _shape()),
 )  # fmt: skip
 
 
@@ -227,7 +241,7 @@ def hostile_frames(source: Source, is_marked: bool = False) -> Iterator[Hostile]
         shape = case.change(source, tag, Shape(client, tag.octets(), pn))
         if is_marked:
             shape = shape._replace(client=marked(shape.client, shape.pn))
-        yield Hostile(case.name, case.what, case.verdict_for(source), shape)
+        yield Hostile(case.name, case.clause, case.what, case.verdict_for(source), shape)
 
 
 def unused_number(source: Source) -> Source:
@@ -241,5 +255,5 @@ def hostile_list(source: Source, is_marked: bool = False) -> list[tuple[Hostile,
     """The list with its frames. The last is the first one again."""
     made = [(it, it.shape.frame(source)) for it in hostile_frames(source, is_marked)]
     first = made[0]
-    again = Hostile("again", "the first frame again", Verdict.Late, first[0].shape)
+    again = Hostile("again", "10.6.2", "the first frame again", Verdict.Late, first[0].shape)
     return [*made, (again, first[1])]

@@ -2,16 +2,16 @@
 
 from __future__ import annotations
 
-import hashlib
 from collections.abc import Sequence
 from typing import NamedTuple
 
 from .frames import SecTag, without_padding
+from .ledger import Ledger, Use
+from .pairs import Pairs
 from .summary import ranges
 from .trial import Key
 
 MOST_LINES = 8
-_DIGEST_OCTETS = 8
 
 
 def iv_of(key: Key, sci: bytes, ssci: int, pn: int) -> bytes:
@@ -34,8 +34,19 @@ def _pn_of(key: Key, iv: int) -> int:
 
 
 def _digest(frame: bytes, tag: SecTag) -> int:
-    """What distinguishes the octets of a frame."""
-    return int.from_bytes(hashlib.blake2b(without_padding(frame, tag), digest_size=_DIGEST_OCTETS).digest(), "big")
+    """What distinguishes the octets of a frame. Each process hashes by a secret of its own."""
+    return hash(without_padding(frame, tag) if tag.sl else frame)
+
+
+class Sender(NamedTuple):
+    """What the frames of a key and a sender have in common: the number of the key, that of key and SCI, and the number
+    of the key before the IV with packet number 0."""
+
+    key: Key
+    sci: bytes
+    number_of_key: int
+    number: int
+    base: int
 
 
 class _Use(NamedTuple):
@@ -51,15 +62,20 @@ class _Use(NamedTuple):
 
 
 class UsedTwice:
-    """An IV that several frames with other octets use under one key."""
+    """An IV that several frames with other octets use under one key, `earlier` one of another capture."""
 
-    def __init__(self, first: _Use) -> None:
-        self._uses = {first.digest: first}
+    def __init__(self, first: _Use, earlier: Use | None = None) -> None:
+        self._uses, self._earlier = {first.digest: first}, earlier
 
-    def add(self, use: _Use) -> int:
-        """Adds a frame, unless it repeats one of them. Returns the record of one that has other octets."""
+    def add(self, use: _Use) -> int | str:
+        """Adds a frame, unless it repeats one of them. Returns the record of one that has other octets; of another
+        capture as text."""
         self._uses.setdefault(use.digest, use)
-        return next(it.record for it in self._uses.values() if it.digest != use.digest)
+        return next((it.record for it in self._uses.values() if it.digest != use.digest), str(self._earlier))
+
+    def other(self, record: int) -> int | str:
+        """Another record than this one; of another capture as text."""
+        return next((it for it in self.records if it != record), str(self._earlier))
 
     @property
     def records(self) -> list[int]:
@@ -69,7 +85,13 @@ class UsedTwice:
     @property
     def is_encrypted(self) -> bool:
         """Are two of the frames encrypted?"""
-        return sum(it.is_encrypted for it in self._uses.values()) > 1
+        encrypted = [it.is_encrypted for it in self._uses.values()] + [it.is_encrypted for it in self.earlier]
+        return sum(encrypted) > 1
+
+    @property
+    def earlier(self) -> list[Use]:
+        """The use in another capture, if there is one."""
+        return [self._earlier] if self._earlier else []
 
     @property
     def is_of_one_sender(self) -> bool:
@@ -80,56 +102,70 @@ class UsedTwice:
         """The records, key and SCI by their names, and the packet number. Several names are joined by `and`."""
         uses = list(self._uses.values())
         keys, scis = dict.fromkeys(it.key for it in uses), dict.fromkeys(it.sci.hex() for it in uses)
-        return {"records": self.records, "key": " and ".join(keys), "sci": " and ".join(scis), "pn": uses[0].pn}
+        earlier = {"earlier": it.as_dict() for it in self.earlier}
+        names = {"key": " and ".join(keys), "sci": " and ".join(scis), "pn": uses[0].pn}
+        return {"records": self.records, **earlier, **names}
 
     def __str__(self) -> str:
         it = self.as_dict()
         records = " and ".join(map(str, self.records)) if len(self.records) == 2 else ranges(self.records)
-        return f"IV USED TWICE: records {records}, {it['key']}, SCI {it['sci']}, PN 0x{it['pn']:x}"
+        records = f"record{'s' * (len(self.records) > 1)} {records}" + "".join(
+            f", and record {it}" for it in self.earlier
+        )
+        return f"IV USED TWICE: {records}, {it['key']}, SCI {it['sci']}, PN 0x{it['pn']:x}"
 
 
 class UsedIvs:
     """The IVs that the frames of a capture use, of each key. A frame that is repeated octet for octet is one use.
 
-    Of a capture without an end, the last ones: at most `most`.
+    Of a capture without an end, the last ones: at most `most`, fewer if they do not follow each other. A ledger has
+    those of other captures.
     """
 
-    def __init__(self, most: int | None = None) -> None:
-        self._most = most
-        # The first frame of each key and IV. A capture can have millions, so both are single numbers: the key's number
-        # and the IV; and the record, whether the frame is encrypted, the number of the key and SCI, and the digest.
-        self._first: dict[int, int] = {}
+    def __init__(self, most: int | None = None, ledger: Ledger | None = None) -> None:
+        self._ledger = ledger
+        # The first frame of each key and IV, by the key's number and the IV: a digest of its octets; and its record
+        # and 1, the number of the key and SCI, and whether it is encrypted.
+        self._first = Pairs(most)
         self._keys: dict[bytes, int] = {}
         self._senders: dict[tuple[Key, bytes], int] = {}
         self._twice: dict[int, UsedTwice] = {}
         # The IV of the last frame that was added, if it is used twice.
         self.last: UsedTwice | None = None
 
-    def add(
-        self, record: int, key: Key, sci: bytes, ssci: int, pn: int, frame: bytes, tag: SecTag
-    ) -> tuple[UsedTwice, int] | None:
-        """Adds a frame that opened under a key. `frame` is what the ICV was checked for, without VLAN tags before the
-        SecTAG; `pn` is the whole packet number. Returns its IV, and the record of a frame that used it with other
-        octets, if there is one so far."""
-        iv = int.from_bytes(iv_of(key, sci, ssci, pn), "big")
-        place = self._keys.setdefault(key.octets, len(self._keys)) << 96 | iv
-        sender = self._senders.setdefault((key, sci), len(self._senders))
-        digest = _digest(frame, tag)
-        is_encrypted = bool(tag.tci & 8)
-        first = self._first.setdefault(place, record << 97 | is_encrypted << 96 | sender << 64 | digest)
-        if self._most is not None and len(self._first) > self._most:
-            del self._first[next(iter(self._first))]
-        found = self.last = self._twice.get(place)
-        if found is None and first % 2**64 == digest:
-            return None
-        if found is None:
-            found = self.last = self._twice[place] = UsedTwice(self._use(first, iv))
-        return found, found.add(_Use(record, digest, key.name, sci, pn, is_encrypted))
+    def sender(self, key: Key, sci: bytes, ssci: int) -> Sender:
+        """A key and a sender whose frames are added."""
+        number_of_key = self._keys.setdefault(key.octets, len(self._keys))
+        number = self._senders.setdefault((key, sci), len(self._senders))
+        base = number_of_key << 96 | int.from_bytes(iv_of(key, sci, ssci, 0), "big")
+        return Sender(key, sci, number_of_key, number, base)
 
-    def _use(self, first: int, iv: int) -> _Use:
+    def add(
+        self, record: int, sender: Sender, pn: int, frame: bytes, tag: SecTag
+    ) -> tuple[UsedTwice, int | str] | None:
+        """Adds a frame of a sender that opened. `frame` is what the ICV was checked for, without VLAN tags before the
+        SecTAG; `pn` is the whole packet number. Returns its IV, and the record of a frame that used it with other
+        octets, if there is one so far; of another capture as text."""
+        key, sci, _, number, base = sender
+        place, digest, is_encrypted = base ^ pn, _digest(frame, tag), tag.tci >> 3 & 1
+        first = self._first.setdefault(place, digest, record + 1 << 32 | number << 1 | is_encrypted)
+        found = self.last = self._twice.get(place) if self._twice else None
+        earlier = None
+        if first is None and self._ledger is not None:
+            iv = (place % 2**96).to_bytes(12, "big")
+            earlier = self._ledger.add(record, key.octets, iv, without_padding(frame, tag), bool(is_encrypted))
+        if found is None and earlier is None and (first is None or first[0] == digest):
+            return None
+        use = _Use(record, digest, key.name, sci, pn, bool(is_encrypted))
+        if found is None:
+            first_use = self._use(*first, place) if first else use
+            found = self.last = self._twice[place] = UsedTwice(first_use, earlier)
+        return found, found.add(use)
+
+    def _use(self, digest: int, about: int, place: int) -> _Use:
         """The first frame of an IV."""
-        key, sci = list(self._senders)[first >> 64 & 0xFFFF_FFFF]
-        return _Use(first >> 97, first % 2**64, key.name, sci, _pn_of(key, iv), bool(first >> 96 & 1))
+        key, sci = list(self._senders)[about >> 1 & 0x7FFF_FFFF]
+        return _Use((about >> 32) - 1, digest, key.name, sci, _pn_of(key, place % 2**96), bool(about & 1))
 
     @property
     def twice(self) -> list[UsedTwice]:
@@ -156,6 +192,7 @@ def lost_by(found: Sequence[UsedTwice]) -> str:
     why = "two senders have one SSCI"
     if any(it.is_of_one_sender for it in found):
         why = "a sender began again at a used packet number, or two senders have one SCI"
+        why += " or SSCI" * any(it.earlier for it in found)
     return f"  whoever has both frames {xor}can forge frames under the key. Stop using it: {why}"
 
 

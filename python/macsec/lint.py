@@ -8,14 +8,13 @@ from __future__ import annotations
 from collections.abc import Iterator
 from typing import NamedTuple
 
+from .capture import is_capture
 from .endpoint_of_config import without_device_lines
 from .errors import Refused
 from .grammar import Command, Text, parse
 from .names import Status
 from .secy import SecY
 
-# How files begin that are no text: pcap in its four forms, pcapng, gzip.
-_CAPTURES = tuple(map(bytes.fromhex, "a1b2c3d4 d4c3b2a1 a1b23c4d 4d3cb2a1 0a0d0d0a 1f8b0800".split()))
 # The SCI of an endpoint for the other lines if the line `end` is wrong.
 _OTHER_SCI = "0200000000000001"
 
@@ -79,7 +78,7 @@ def lint(text: bytes) -> list[Finding]:
     line 1, argument 3: 'gcm-aes-128', gcm128, gcm256, xpn128 or xpn256 expected; write gcm128
     line 2, argument 4: 2 digits, 32 or 64 expected
     """
-    if text[:4] in _CAPTURES:
+    if is_capture(text[:4]):
         return [Finding("fault", 0, 0, "Word", "this is a capture, not a CONFIG")]
     made = parse(without_device_lines(text))
     found = [Finding("fault", *it) for it in made.faults] + [*_carried_out(made, text)]

@@ -5,10 +5,9 @@ from __future__ import annotations
 
 from typing import NamedTuple
 
-from .frames import vlan_octets
+from .frames import EAPOL, vlan_octets
 from .names import SUITES, Suite
 
-EAPOL = b"\x88\x8e"
 ICV_OCTETS = 16
 # The Algorithm Agility whose ICVs are AES-CMACs of 16 octets.
 AGILITY = bytes.fromhex("0080c201")
@@ -56,7 +55,7 @@ def read_mkpdu(frame: bytes) -> Mkpdu | None:
     """
     count = vlan_octets(frame)
     plain = frame[:12] + frame[12 + count :]
-    if plain[12:14] != EAPOL or len(plain) < _HEAD or plain[15] != _PACKET_TYPE:
+    if plain[12:14] not in EAPOL or len(plain) < _HEAD or plain[15] != _PACKET_TYPE:
         return None
     body = plain[_HEAD : _HEAD + int.from_bytes(plain[16:18], "big")]
     if len(body) < int.from_bytes(plain[16:18], "big") or len(body) < 4 + _BASIC_OCTETS + ICV_OCTETS:

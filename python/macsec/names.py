@@ -1,7 +1,7 @@
 """The numbers that the library gives and takes, with the names that the program `macsec` prints.
 
->>> Verdict(5).name, Verdict.NoSAError.value
-('NoSAError', 5)
+>>> print(Verdict(5), Verdict.NoSAError.value, f"{Verdict.OK} {Verdict.OK:d}")
+NoSAError 5 OK 12
 >>> Suite["xpn128"]
 <Suite.xpn128: 3>
 """
@@ -12,7 +12,17 @@ from enum import IntEnum
 from typing import Any
 
 
-class _Number(IntEnum):
+class Named(IntEnum):
+    """A number that is printed as its name; as a number where a format asks for one."""
+
+    def __str__(self) -> str:
+        return str(self._name_)
+
+    def __format__(self, spec: str) -> str:
+        return format(int(self) if spec[-1:] in tuple("bcdoxXn") else str(self), spec)
+
+
+class _Number(Named):
     """A number that a library of a later version can give without a name here: it is called `unknown`."""
 
     @classmethod
@@ -83,7 +93,7 @@ class Status(_Number):
     # end
 
 
-class Suite(IntEnum):
+class Suite(Named):
     """A cipher suite (clause 14). `default` is the suite of the endpoint, for keys alone."""
 
     # made: suites of tools/families.json
@@ -136,7 +146,7 @@ def suite_of(key_octets: int, is_extended: bool) -> Suite:
     return next(it for it in SUITES if (it.key_octets, it.is_extended) == (key_octets, is_extended))
 
 
-class Form(IntEnum):
+class Form(Named):
     """Which SecTAG a frame gets (9.5)."""
 
     auto = 0
@@ -145,7 +155,7 @@ class Form(IntEnum):
     scb = 3
 
 
-class Mode(IntEnum):
+class Mode(Named):
     """How received frames are validated (10.6)."""
 
     disabled = 0

@@ -2,6 +2,7 @@
 
 from __future__ import annotations
 
+import re
 from collections.abc import Iterator
 
 from .errors import UsageError
@@ -42,3 +43,25 @@ def frames_of_text(text: str) -> Iterator[tuple[int, bytes]]:
             yield number, bytes.fromhex(words[-1])
         except ValueError:
             raise UsageError(f"line {number}: the last word is not hex") from None
+
+
+def named_frames(text: str) -> Iterator[tuple[str, bytes]]:
+    """The frames of a list, and their names. Each line has one in hex, also with spaces and colons. Its name is what
+    follows `#`, else the comment on the line before. Lines of `macsec-forge -` are such a list too; the verdicts that
+    these name are left out.
+
+    >>> text = "02:00:00 # short\\n# icv: changed; here NotValid\\ninject 00ff\\n\\n01\\n"
+    >>> [(name, frame.hex()) for name, frame in named_frames(text)]
+    [('short', '020000'), ('icv: changed', '00ff'), ('line 5', '01')]
+    """
+    before = ""
+    for number, line in enumerate(text.split("\n"), 1):
+        left, _, comment = line.partition("#")
+        comment = re.sub(r"(^|; )here (no verdict, .*|\w+)$", "", comment.strip())
+        digits = left.strip().removeprefix("inject ").replace(":", "")
+        if digits:
+            try:
+                yield comment or before or f"line {number}", bytes.fromhex(digits)
+            except ValueError:
+                raise UsageError(f"line {number}: no frame in hex") from None
+        before = "" if digits else comment

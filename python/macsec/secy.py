@@ -28,7 +28,6 @@ _sent_of, _received_of = _SENT_MEMBERS.unpack_from, _RECEIVED_MEMBERS.unpack_fro
 _NOTHING = ctypes.create_string_buffer(1)
 _NO_SENT = bytes(_library.Sent(frame=ctypes.addressof(_NOTHING)))
 _NO_RECEIVED = bytes(_library.Received(frame=ctypes.addressof(_NOTHING)))
-_NO_SA = (None, None)
 _memmove = ctypes.memmove
 # The octets at an address, as ctypes.string_at returns them in more time. Both arguments are objects of ctypes, which
 # need no conversion.
@@ -290,8 +289,9 @@ class SecY:
                 raise error(status)
             verdict, sci, an, has_sa, is_delivered, pn = _received_of(self._received)
             client = _octets_at(*self._client) if is_delivered else None
-        sa = (sci, an) if has_sa else _NO_SA
-        made: Received = _new(Received, (_VERDICTS.get(verdict) or Verdict(verdict), client, *sa, pn or None))
+        if not has_sa:
+            sci = an = None
+        made: Received = _new(Received, (_VERDICTS.get(verdict) or Verdict(verdict), client, sci, an, pn or None))
         return made
 
     def send_uncontrolled(self, frame: Octets) -> bytes:
@@ -368,6 +368,21 @@ class SecY:
         """Installs a key (SAK, 10.7.27). SSCI, the endpoint's own, and salt are for extended packet numbers."""
         sak = sak_of(key, number=number, offset=offset, suite=suite, ssci=ssci, salt=salt)
         self._call("install_key", ctypes.byref(sak))
+
+    def renew_key(
+        self,
+        number: int,
+        key: Octets,
+        *,
+        offset: int = 0,
+        suite: Suite | int | str = Suite.default,
+        ssci: int = 0,
+        salt: Octets = bytes(12),
+    ) -> None:
+        """Installs a key as `install_key` does, also under the number of a retired key that no association uses. The
+        new key takes that key's place, and that key's octets are refused from then on."""
+        sak = sak_of(key, number=number, offset=offset, suite=suite, ssci=ssci, salt=salt)
+        self._call("renew_key", ctypes.byref(sak))
 
     def retire_key(self, number: int) -> None:
         """Retires a key that no association uses (10.7.28)."""

@@ -60,7 +60,8 @@ Option = tuple[Change, dict[str, object]]
 
 class Found(NamedTuple):
     """Why a frame does not open. `setting` opens it, and `number` is its whole packet number then; without a setting it
-    was not opened. `missing` octets were cut off. `is_partial`: is this a part of the cause, since nothing opened it?
+    was not opened. `missing` octets were cut off, or could be if that is negative. `is_partial`: is this a part of the
+    cause, since nothing opened it?
     """
 
     changes: tuple[Change, ...]

@@ -2,7 +2,9 @@
 
 from __future__ import annotations
 
+import base64
 import itertools
+import re
 from typing import NamedTuple
 
 from .errors import MacsecError, UsageError
@@ -12,6 +14,8 @@ from .secy import Received, SecY
 # Verdicts on frames that were opened: the ICV is valid.
 OPENED = (Verdict.OK, Verdict.Delayed)
 _LAST_SSCI = 0xFFFF_FFFF
+# 16 or 32 octets in base64, of either alphabet.
+_BASE64 = re.compile(r"[A-Za-z0-9+/_-]{22}==|[A-Za-z0-9+/_-]{43}=")
 _OWN_SCIS = (bytes.fromhex("02ffffffffff0001"), bytes.fromhex("02fffffffffe0001"))
 
 
@@ -49,7 +53,7 @@ class Trial:
     """An endpoint with one key and one channel, which opens frames of one association, late ones too."""
 
     def __init__(self, key: Key, sci: bytes, an: int, ssci: int = 0) -> None:
-        self.key, self.sci, self.an, self.ssci = key, sci, an, ssci
+        self.key, self.sci, self.an, self.ssci, self.is_extended = key, sci, an, ssci, key.suite.is_extended
         self.secy = SecY(own_sci(sci), key.suite)
         self.secy.set_replay(False)
         # The endpoint's own SSCI has to be another one.
@@ -137,6 +141,7 @@ class Trials:
 
     def __init__(self) -> None:
         self._kept: dict[tuple[Key, bytes, int, bool], Trial] = {}
+        self._any: SecY | None = None
 
     def opens(self, key: Key, sci: bytes, an: int, frame: bytes, ssci: int = 0, upper: int = 0) -> bool:
         """Does the frame open so, as the first one of its association?"""
@@ -150,6 +155,12 @@ class Trials:
             return trial.receive(frame).verdict
         except MacsecError:
             return None
+
+    def check(self, frame: bytes) -> None:
+        """Raises FrameFault if no endpoint takes a frame, since it is too short or too long."""
+        if self._any is None:
+            self._any = SecY(own_sci())
+        self._any.receive(frame)
 
     def _trial(self, key: Key, sci: bytes, an: int, ssci: int) -> Trial:
         place = (key, sci, an, ssci == _LAST_SSCI)
@@ -165,6 +176,9 @@ class Trials:
         for each in self._kept.values():
             each.close()
         self._kept.clear()
+        if self._any is not None:
+            self._any.close()
+            self._any = None
 
 
 class KeyArgument(NamedTuple):
@@ -204,9 +218,17 @@ def _hex(text: str, what: str, *lengths: int) -> bytes:
     return bytes.fromhex(text)
 
 
+def _key(text: str) -> bytes:
+    """A key in hex or base64."""
+    if _BASE64.fullmatch(text):
+        return base64.b64decode(text.replace("-", "+").replace("_", "/"))
+    return _hex(text, "the key", 16, 32)
+
+
 def key_argument(text: str) -> KeyArgument:
     """Reads [WHOSE=]KEY[:SALT[:SSCI[:UPPER]]], where WHOSE is SCI, SCI/AN, /AN, or the identifier of the key for
-    `ip macsec`. UPPER is the upper half of the packet number; SSCI can be empty before it.
+    `ip macsec`. KEY is hex or base64, the others are hex. UPPER is the upper half of the packet number; SSCI can be
+    empty before it.
 
     >>> key_argument("0200000000010001/3=ad7a2bd03eac835a6f620fdcb506b345").an
     3
@@ -214,12 +236,15 @@ def key_argument(text: str) -> KeyArgument:
     2
     >>> key_argument("ad7a2bd03eac835a6f620fdcb506b345:a0a1a2a3a4a5a6a7a8a9aaab::1f4").upper
     500
+    >>> key_argument("/3=rXor0D6sg1pvYg/ctQazRQ==").octets.hex()
+    'ad7a2bd03eac835a6f620fdcb506b345'
     """
-    whose, _, rest = text.rpartition("=")
-    parts = rest.split(":")
+    parts = text.split(":")
     if len(parts) > 4:
-        raise UsageError("--key: KEY, KEY:SALT, KEY:SALT:SSCI or KEY:SALT:SSCI:UPPER expected")
-    octets = _hex(parts[0], "the key", 16, 32)
+        raise UsageError("--key: KEY, KEY:SALT, KEY:SALT:SSCI or KEY:SALT:SSCI:UPPER expected, without colons in KEY")
+    # Base64 ends with the sign that ends WHOSE.
+    at = parts[0].rstrip("=").rfind("=") + 1
+    whose, octets = parts[0][: max(at - 1, 0)], _key(parts[0][at:])
     salt = _hex(parts[1], "the salt", 12) if len(parts) > 1 else None
     has_ssci = len(parts) > 3 and parts[2] or len(parts) == 3
     ssci = int.from_bytes(_hex(parts[2], "the SSCI", 4), "big") if has_ssci else None

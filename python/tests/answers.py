@@ -48,11 +48,16 @@ def receive(it: SecY, frame: str) -> str:
     return f" {int(got.verdict)} {int(has_sa)} {sci} {got.an or 0} {delivered}"
 
 
-def install_key(it: SecY, *words: str) -> str:
-    key, salt, ssci, suite, number, length, offset = words
-    chosen = {"suite": int(suite), "ssci": int(ssci), "salt": octets(salt), "offset": int(offset)}
-    it.install_key(int(number), octets(key)[: int(length)], **chosen)  # type: ignore[arg-type]
-    return ""
+def keyed(name: str) -> Callable[..., str]:
+    """The call of this name, which takes a key."""
+
+    def call(it: SecY, *words: str) -> str:
+        key, salt, ssci, suite, number, length, offset = words
+        chosen = {"suite": int(suite), "ssci": int(ssci), "salt": octets(salt), "offset": int(offset)}
+        getattr(it, name)(int(number), octets(key)[: int(length)], **chosen)
+        return ""
+
+    return call
 
 
 def shown_record(record: bytes | None) -> str:
@@ -130,7 +135,8 @@ CALLS: dict[str, Callable[..., str]] = {
     "send": send,
     "receive": receive,
     "command_line": lambda it, line: it.command(octets(line)) or "",
-    "install_key": install_key,
+    "install_key": keyed("install_key"),
+    "renew_key": keyed("renew_key"),
     "get_options": options,
     "keys_left": lambda it: f" {it.keys_left()}",
     "get_counters": lambda it: counters(it.counters(), ENDPOINT_COUNTERS),

@@ -15,7 +15,7 @@ from unittest import mock
 
 from macsec import SecY, Suite, UsageError, capture
 from macsec.cak import Cak, KeyAgreements, cak_of, caks_of_file, derived, salt_of
-from macsec.cli import config, decrypt
+from macsec.cli import config, decrypt, report
 from macsec.mka import read_mkpdu
 
 from .frames import client_frames, protected
@@ -73,6 +73,11 @@ class Member:
         body = head + basic + bytes(-len(basic) % 4) + b"".join(sets)
         start = bytes.fromhex("0180c2000003") + self.sci[:6] + b"\x88\x8e\x03\x05"
         covered = start + (len(body) + 16).to_bytes(2, "big") + body
+        return covered + self._tag_of(self._ick, covered)
+
+    def as_cisco(self, frame: bytes) -> bytes:
+        """The same MKPDU with the EtherType 876f. The ICV is over that too."""
+        covered = frame[:12] + b"\x87\x6f" + frame[14:-16]
         return covered + self._tag_of(self._ick, covered)
 
     def live(self, *others: Member, ssci: int = 0) -> bytes:
@@ -288,6 +293,32 @@ class Commands(InFolder):
         frames = [member.frame(_set(8, 0, bytes.fromhex("0012345600000000")))]
         frames += protected(client_frames(3), suite=Suite.xpn128, pn=0x12_3456_0000_0001)
         self.assertEqual(self.decrypted(self.put("IN", frames), "--key", f"{KEYS[0].hex()}:{SALT.hex()}")[0], 0)
+
+    def test_frames_before_the_one_that_has_their_key(self) -> None:
+        """A file is read twice; a pipe is not. Cisco's WAN links have another EtherType for MKA."""
+        name = "cak-256"
+        frames = frames_of(name)
+        agreement = [it for it in frames if it[12:14] == b"\x88\x8e"]
+        late = [it for it in frames if it not in agreement] + agreement
+        words = ["--cak-file", DATA / f"{name}.cak"]
+        status, shown, opened = self.decrypted(self.put("IN", late), *words)
+        self.assertEqual((status, sorted(opened)), (0, sorted(self.decrypted(DATA / f"{name}.pcap", *words)[2])))
+        self.assertGreater(min(it["sak"]["record"] for it in shown if "sak" in it), len(late) - len(agreement) - 1)
+        self.assertEqual(main_of(config.main, "--capture", self.folder / "IN", *words)[0], 0)
+        told = main_of(report.main, self.folder / "IN", "-o", self.folder / "R", *words)
+        self.assertEqual(told, (0, "", ""))
+        with open(self.folder / "IN", "rb") as file, mock.patch("sys.stdin", mock.Mock(buffer=file)):
+            self.assertEqual(self.decrypted("-", *words)[0], 3)
+
+    def test_another_ethertype(self) -> None:
+        member, key = Member(OTHER), KEYS[3]
+        sak = member.frame(member.sak(key, Suite.gcm128))
+        frames = [member.as_cisco(sak), *protected(client_frames(3), key=key)]
+        self.assertEqual(
+            self.decrypted(self.put("IN", frames), "--cak", CAK.hex())[::2], (0, [frames[0], *client_frames(3)])
+        )
+        altered = [frames[0][:13] + b"\x8e" + frames[0][14:], *frames[1:]]
+        self.assertEqual(self.decrypted(self.put("IN", altered), "--cak", CAK.hex())[0], 3)
 
     def test_hints(self) -> None:
         (cak,) = caks_of_file(str(DATA / "cak-256.cak"))

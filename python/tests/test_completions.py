@@ -21,6 +21,7 @@ TYPED = {
     "macsecd --cre": {"--create-journal"},
     "macsecctl macsec0 cou": {"counters"},
     "macsec-link rel": {"release"},
+    "macsec-link d": {"doctor"},
     "macsec-decrypt fra": {"frames.pcap"},
     "macsec-decrypt --keys key": {"keys.txt"},
     "macsec-decrypt --suite xpn1": {"xpn128"},
@@ -29,6 +30,9 @@ TYPED = {
     "macsec-config --ip-j": {"--ip-json"},
     "macsec-config --as ob": {"observer"},
     "macsec-why CONFIG fra": {"frames.pcap"},
+    "macsec-report IN IN fra": {"frames.pcap"},
+    "macsec-report IN -o OUT --ke": {"--key", "--keys"},
+    "macsec-report --config key": {"keys.txt"},
     "macsec-forge --each oc": {"octet"},
     "macsec-forge --hos": {"--hostile"},
 }  # fmt: skip

@@ -10,7 +10,7 @@ import unittest
 from typing import Any, Callable
 
 import macsec
-from macsec import SecY, Suite, Verdict, capture, device_trial, hostile, script_frames, seal
+from macsec import SecY, Suite, Verdict, capture, device_trial, hostile, random_frames, script_frames, seal
 from macsec.cli import forge
 from macsec.names import SUITES
 from macsec.number_file import NumberFile
@@ -149,8 +149,63 @@ class Command(InFolder):
 
     def test_of_what_an_end_sends(self) -> None:
         text = f"end A gcm128 {SENDER} 1546 sci\nA key 0 {KEYS[0].hex()} 0\nA txsa 1 0 1f conf\nA txon 1\n"
-        (made,) = self.forged("--config", self.put("config", text))
-        self.assertEqual(made.frame[14:20].hex(), "2d2e0000001f")
+        status, printed, _ = main_of(forge.main, "-", "--config", self.put("config", text))
+        ((_, made),) = script_frames.frames_of_text(printed)
+        self.assertEqual((status, made[14:20].hex()), (0, "2d2e0000001f"))
+
+    def test_a_config_that_receives_nothing(self) -> None:
+        """Without the lines of CONFIG from one on, that line is named; with all of them nothing is."""
+        lines = CONFIG.splitlines(keepends=True)
+        sender = "A txsa 0 0 1 conf\nA txon 0\n"
+        for count, told in ((2, "A rxsc SCI"), (3, f"A rxsa {SENDER} AN N PN"), (4, f"A rxon {SENDER} 0"), (5, None)):
+            config = self.put("config", "".join(lines[:2]) + sender + "".join(lines[2:count]))
+            status, printed, error = main_of(forge.main, "-", "--config", config, "--hostile")
+            verdicts = set(re.findall("here (\\w+)$", printed, re.M))
+            self.assertEqual((status, 'it has no line "%s"' % told in error), (0, told is not None), error)
+            self.assertEqual("OK" in verdicts, told is None)
+        refused = self.put(
+            "config", CONFIG.replace("rxon", "rxoff").replace(f"rxsa {SENDER} 0 0", f"rxsa {SENDER} 0 1")
+        )
+        _, _, error = main_of(forge.main, "-", "--config", refused, "--frames", self.put("list", "00"))
+        self.assertRegex(error, 'no line "A rxsa .*; refused: line 4: 5 NoKey')
+
+    def test_frames_of_ones_own(self) -> None:
+        """The list as lines and as a capture, judged again: the verdicts are those of the list."""
+        config = ("--config", self.put("config", CONFIG))
+        _, lines, _ = main_of(forge.main, "-", *config, "--hostile")
+        comments = re.findall("^# (.*)", lines, re.M)
+        _, again, _ = main_of(forge.main, "-", *config, "--frames", self.put("list", lines))
+        self.assertEqual(again, lines)
+        told = [it.partition("; ")[2] for it in comments]
+        frames = [it.frame for it in self.forged(*config, "--hostile")]
+        made = self.forged(*config, "--frames", self.put("in.pcap", frames))
+        self.assertEqual([it.frame for it in made], frames)
+        status, printed, _ = main_of(forge.main, "-", *config, "--frames", self.folder / "in.pcap")
+        self.assertEqual(re.findall("^# (.*)", printed, re.M), [f"record {n}; {it}" for n, it in enumerate(told)])
+        first = frames[0]
+        text = f"{first.hex(':')} # mine\n\n# of 802.3\n{bytes(60).hex(' ')}\r\n{first.hex()}\n0102\n"
+        _, printed, _ = main_of(forge.main, "-", *config, "--frames", self.put("list", text))
+        told = ["mine; here OK", "of 802.3; here NoTag", "line 5; here Late"]
+        told += ["line 6; here no verdict, shorter than a header or too long"]
+        self.assertEqual(re.findall("^# (.*)", printed, re.M), told)
+        for text, words in (("00\nxyz\n", ()), ("00", ("--seed", "1"))):
+            ended, _, error = main_of(forge.main, "-", *config, "--frames", self.put("list", text), *words)
+            self.assertEqual((ended, error.startswith("macsec-forge: ")), (2, True), error)
+
+    def test_times_by_rate(self) -> None:
+        times = [it.time for it in self.forged("--config", self.put("config", CONFIG), "--hostile", "--rate", 4)]
+        self.assertEqual({b - a for a, b in zip(times, times[1:])}, {250_000_000})
+
+    def test_at_random(self) -> None:
+        """The same text makes the same frames; each verdict is tried; no packet number has two contents."""
+        config = ("--config", self.put("config", CONFIG), "--random", 1500)
+        first, again, other = (main_of(forge.main, "-", *config, "--seed", it)[1] for it in "aab")
+        self.assertEqual((first, first == other), (again, False))
+        tried = set(re.findall("here (\\w+)$", first, re.M))
+        self.assertLessEqual({"OK", "NoTag", "BadTag", "Reserved", "NoSAError", "Late", "NotValid"}, tried)
+        used: dict[int, bytes] = {}
+        for _, shape in random_frames.random_shapes(source(), "a", 1500):
+            self.assertEqual(used.setdefault(shape.pn, shape.frame(source())), shape.frame(source()))
 
     def test_fields(self) -> None:
         base = ("--key", KEYS[0].hex(), "--sci", SENDER, "--an", 1)
@@ -176,6 +231,8 @@ class Command(InFolder):
         self.assertEqual((wrong[:-1], wrong[-1] ^ 1), (ordinary[:-1], ordinary[-1]))
         self.assertEqual((padded, cut), (ordinary + bytes(3), ordinary[:-5]))
         self.assertEqual(clear[28:-16], hostile.client_frame(source())[12:])
+        # The frame has 90 octets.
+        self.assertEqual(hostile.Shape(bytes(58), bytes(16), 5, cut=100).frame(source()), b"")
 
     def test_clients_of_a_capture(self) -> None:
         frames = client_frames(3)
@@ -211,7 +268,9 @@ class Command(InFolder):
             ((*key, "--octet", "100"), 2), ((*key, "--sl", 256), 2), ((*key, "--icv", "00" * 17), 2),
             ((*key, "--pn", "100000000"), 2), ((*key, "--tag", "0g"), 2), ((*key, "--pad", -1), 2),
             (("--capture", "nothing"), 1), (("--key", KEYS[0].hex()), 2), ((*key, "--suite", "gcm256"), 2),
-            (("--text", self.put("odd", "inject 0\n")), 2),
+            (("--text", self.put("odd", "inject 0\n")), 2), ((*key, "--random", 0), 2), ((*key, "--seed", "1"), 2),
+            ((*key, "--rate", 0), 2), ((*key, "--frames", "odd"), 2),
+            (("--config", self.folder / "config", "--frames", "no"), 1),
         ):  # fmt: skip
             ended, printed, error = main_of(forge.main, self.folder / "out", *words)
             self.assertEqual((ended, printed), (status, ""), words)

@@ -54,7 +54,7 @@ class Help(InFolder):
                 shutil.copy(CAPTURES / "observer.config", self.folder)
                 self.put("keys", f"{KEYS[0].hex()}\n")
                 self.put("macsec-setup.sh", IP_COMMANDS)
-                for it in ("clear.pcapng", "hostile.pcapng"):
+                for it in ("clear.pcapng", "hostile.pcapng", "report.html", "judged.html"):
                     (self.folder / it).unlink(missing_ok=True)
                 if "7" in words:
                     words[words.index("7")] = "1"

@@ -149,7 +149,9 @@ class Cut(InFolder):
             ("protected", link[:40], 1, 3), ("behind a VLAN tag", link[:12] + bytes.fromhex("8100000788e5"), 1, 3),
             ("cut within a VLAN tag", tagged[:15], 1, 3), ("cut within the EtherType", link[:13], 1, 3),
             ("not protected", plain[:40], 1, 0), ("not protected, with a tag", tagged[:40], 1, 0),
-            ("cooked", plain, 113, 3),
+            ("cooked, protected", bytes(14) + link[12:], 113, 3), ("cooked, plain", bytes(14) + plain[12:], 113, 0),
+            ("cooked, newer", link[12:14] + bytes(18), 276, 3), ("cooked, cut", bytes(14), 113, 3),
+            ("IP packets", bytes([0x45]) + bytes(50), 101, 0), ("of another link", plain, 147, 3),
         ):  # fmt: skip
             with self.subTest(name):
                 writer = capture.PcapngFile(str(self.folder / "IN"))

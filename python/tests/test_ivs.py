@@ -6,14 +6,21 @@ import itertools
 import json
 import os
 import subprocess
+import tracemalloc
 import unittest
+from array import array
 from collections.abc import Sequence
 from typing import NamedTuple
 from unittest import mock
 
 from macsec import Suite, capture
 from macsec.cli import decrypt, why
-from macsec.ivs import lines_of
+from macsec.explanation import Unopened
+from macsec.frames import read_tag
+from macsec.ivs import UsedIvs, lines_of
+from macsec.settings import Setting
+from macsec.summary import Summary
+from macsec.trial import Key
 
 from .frames import altered, client_frames, protected, vlan, with_fcs
 from .helpers import KEYS, LONG_KEY, OTHER, RECEIVER, SALT, SENDER, InFolder, main_of
@@ -161,6 +168,29 @@ class Runs(Case):
             self.assertRaises(AssertionError, self.named, Link(), other, {2: [1, 3]})
         self.named(Link(), other, {2: [1, 3]})
         self.named(Link(), frames + frames[1:2], {})
+
+
+class Memory(unittest.TestCase):
+    def octets_of_a_frame(self, step: int) -> float:
+        """What macsec-why keeps of a frame, of many whose packet numbers have such a distance."""
+        key, sci, count = Key(KEYS[0], Suite.gcm128), bytes.fromhex(SENDER), 4096
+        used, seen, unopened, ivs = UsedIvs(), Summary(), Unopened(), why.Ivs.__new__(why.Ivs)
+        ivs.keys, ivs.names, ivs._used, ivs._only = array("I"), [], used, None
+        tracemalloc.start()
+        for record in range(count):
+            frame = bytes(12) + b"\x88\xe5\x2c\0" + (record * step).to_bytes(4, "big") + sci + bytes(40)
+            tag = read_tag(frame)
+            assert tag is not None
+            ivs.add(record, Setting(key, sci, 0), tag.pn, frame, tag)
+            unopened.add_opened(seen.add(record, frame, "OK"), record, frame)
+        kept, _ = tracemalloc.get_traced_memory()
+        tracemalloc.stop()
+        return kept / count
+
+    def test_little_is_kept_of_a_frame(self) -> None:
+        self.assertLess(self.octets_of_a_frame(1), 150)
+        # Numbers that do not follow each other take more.
+        self.assertGreater(self.octets_of_a_frame(8), 300)
 
 
 class Frames(Case):

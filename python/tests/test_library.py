@@ -28,13 +28,15 @@ class Library(unittest.TestCase):
             function = kind.__name__.lower()
             expected = {name: number for name, number in names_in(function).items() if name != "None"}
             # A later library can have more after these.
-            found = {it.name: int(it) for it in kind}
+            found = {str(it): int(it) for it in kind}
             self.assertEqual(found, {name: number for name, number in expected.items() if number <= max(kind)})
 
     def test_forms_and_modes(self) -> None:
         for kind in (names.Form, names.Mode):
             found = re.findall(rf"MACSEC_{kind.__name__.upper()}_(\w+) = (\d+)", HEADER)
-            self.assertEqual({it.name: int(it) for it in kind}, {name.lower(): int(number) for name, number in found})
+            self.assertEqual(
+                {f"{it}": int(f"{it:d}") for it in kind}, {name.lower(): int(number) for name, number in found}
+            )
 
     def test_each_status_has_a_meaning(self) -> None:
         self.assertEqual(set(errors.MEANINGS), set(names.Status) - {names.Status.OK})

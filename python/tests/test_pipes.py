@@ -151,20 +151,22 @@ class Pipes(InFolder):
             it.close()
 
     def test_ivs_of_a_capture_without_an_end(self) -> None:
-        used, key, sci = UsedIvs(3), Key(KEYS[0], Suite.gcm128), bytes.fromhex(SENDER)
+        used = UsedIvs(24)
+        sender = used.sender(Key(KEYS[0], Suite.gcm128), bytes.fromhex(SENDER), 0)
         frames = protected(client_frames(5))
         tags = [tag for tag in map(read_tag, frames) if tag]
         for pn in range(5):
-            used.add(pn, key, sci, 0, pn, frames[pn], tags[pn])
-        found = {pn: used.add(9, key, sci, 0, pn, frames[pn - 1], tags[pn]) is not None for pn in (1, 4)}
+            used.add(pn, sender, 8 * pn, frames[pn], tags[pn])
+        found = {pn: used.add(9, sender, 8 * pn, frames[pn - 1], tags[pn]) is not None for pn in (1, 4)}
         self.assertEqual(found, {1: False, 4: True})
 
 
 class Configs(InFolder):
     def test_keys_of_a_config(self) -> None:
         found = keys_of_config((CAPTURES / "xpn.config").read_bytes())
-        told = [(it.salt, it.ssci, it.sci and it.sci.hex(), it.an, it.id) for it in found]
-        self.assertEqual(told, [(SALT, 1, SENDER, 1, "key 0"), (SALT, None, None, None, "key 0")])
+        told = [(it.salt, it.ssci, it.sci and it.sci.hex(), it.an, it.id, it.upper) for it in found]
+        of_sender = (SALT, 1, SENDER, 1, "key 0")
+        self.assertEqual(told, [(*of_sender, 2), (*of_sender, None), (SALT, None, None, None, "key 0", None)])
         found = keys_of_config((CAPTURES / "sender.config").read_bytes())
         self.assertEqual([(it.sci and it.sci.hex(), it.an) for it in found], [(SENDER, 0), (None, None)])
 
@@ -187,6 +189,8 @@ class Configs(InFolder):
         config = self.put("CONFIG", "device link a\nend B\n")
         told = main_of(decrypt.main, words[0], self.folder / "NEW", "--config", config)
         self.assertEqual((told[0], "line 2: " in told[2]), (2, True), told)
+        told = main_of(decrypt.main, words[0], self.folder / "NEW", "--keys", words[3])
+        self.assertEqual((told[0], "CONFIG:1: a CONFIG, not keys" in told[2]), (2, True), told)
         with self.assertRaises(UsageError):
             keys_of_config(b"")
 
@@ -248,7 +252,7 @@ class Extcap(InFolder):
         frames, good = f"cat {CAPTURES}/link.pcap", CAPTURES / "receiver.config"
         for script, config, said in (
             (frames, good, ()),
-            (f"{frames}; {frames}", good, ("Capturing", "macsec-decrypt: -: ")),
+            (f"{frames}; echo cut", good, ("Capturing", "macsec-decrypt: -: ")),
             ("echo no device >&2; exit 1", good, ("no device", "macsec-decrypt: -: ")),
             (f"{frames}; echo it is gone >&2; exit 1", good, ("under key 0", "it is gone")),
             (frames, self.put("CONFIG", "none"), ("Capturing", "macsec-decrypt: ")),

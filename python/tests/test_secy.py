@@ -169,4 +169,5 @@ class Life(unittest.TestCase):
         gc.collect()
         with open("/proc/self/status", encoding="ascii") as file:
             size = next(int(it.split()[1]) for it in file if it.startswith("VmSize"))
-        self.assertLess(size, 2_000_000)
+        # In kB. Threads of other tests have some; 2,000 endpoints that stay would have 38 million.
+        self.assertLess(size, 8_000_000)

@@ -24,7 +24,7 @@ from ..wpalog import lines_of, plan_of_log
 from . import new_parser, open_octets, run, say, say_octets
 from .decrypt import add_key_options, has_keys, key_arguments
 from .key_agreement import caks_of
-from .reading import Reading
+from .reading import Reading, keys_of_mka
 
 # The octets of a script of `ip`, or of what it shows, that are read.
 _MOST_TEXT = 1 << 20
@@ -160,6 +160,7 @@ def _text(plan: Plan) -> str:
 
 def _from_capture(asked: argparse.Namespace) -> int:
     keys: list[KeyArgument] = key_arguments(asked) if has_keys(asked) else []
+    keys += keys_of_mka([asked.capture], caks_of(asked))
     suite = Suite[asked.suite] if asked.suite else None
     with Reading("macsec-config", asked.capture) as reading:
         made = scan(reading, keys, suite, asked.offset, caks_of(asked))
@@ -173,7 +174,7 @@ def _from_capture(asked: argparse.Namespace) -> int:
     if reading.is_cut:
         plan.notes.append("the capture is cut, or damaged: this is of the records before that")
     say(_text(plan.peer() if asked.role == "peer" else plan))
-    return 1 if reading.is_cut else 3 if made.unopened or made.has_unseen else 0
+    return 1 if reading.is_cut else 3 if made.unopened or made.unseen.has_protected else 0
 
 
 def _lint(asked: argparse.Namespace) -> int:

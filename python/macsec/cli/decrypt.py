@@ -17,17 +17,21 @@ from ..grammar import MOST_OCTETS
 from ..ivs import MOST_LINES, UsedIvs, UsedTwice, dicts_of
 from ..ivs import lines_of as lines_of_ivs
 from ..ivs import lost_by, more_of
+from ..ledger import Ledger
 from ..names import Suite
 from ..opener import Opener
 from ..summary import frames_text
 from ..trial import KeyArgument, key_argument
+from ..tunnels import is_protected
+from ..unseen import Unseen
 from ..wpalog import keys_of, lines_of
 from . import new_parser, open_octets, run, say
 from .key_agreement import add_cak_options, caks_of
-from .reading import STDIN, Reading
+from .reading import STDIN, Reading, can_be_read_again, keys_of_mka
+from .seen import add_seen_options, ledger_of, seen_in
 
 STDOUT = "-"
-# How many IVs are kept of a capture that comes by a pipe and may have no end. 100,000 take 16 MB.
+# How many IVs are kept of a capture that comes by a pipe and may have no end. They take 8 MB.
 _MOST_IVS = 200_000
 
 
@@ -54,7 +58,7 @@ def key_arguments(asked: argparse.Namespace) -> list[KeyArgument]:
 
 
 def keys_of_file(path: str) -> list[KeyArgument]:
-    """The keys of a file, one on each line. A fault names the file and the line, and not the option of the same form."""
+    """The keys of a file, one on each line. A fault names file and line, and not the option of the same form."""
     found = []
     with open_octets(path) as file:
         for number, line in enumerate(map(str.strip, lines_of(file)), 1):
@@ -63,24 +67,23 @@ def keys_of_file(path: str) -> list[KeyArgument]:
             try:
                 found.append(key_argument(line))
             except UsageError as why:
+                if line.split()[0] in ("end", "device"):
+                    raise UsageError(f"{path}:{number}: a CONFIG, not keys: --config has keys from it") from None
                 raise UsageError(str(why).replace("--key", f"{path}:{number}", 1)) from None
     return found
 
 
-def add_key_options(parser: argparse.ArgumentParser) -> None:
-    """The options that give keys."""
+def add_key_options(parser: argparse.ArgumentParser, config: str = "a CONFIG, or macsecd's file, with keys") -> None:
+    """The options that give keys, and what the one for a CONFIG is."""
     spec = "[WHOSE=]KEY[:SALT[:SSCI[:UPPER]]]"
     parser.add_argument(
-        "--key", action="append", default=[], metavar=spec, help="a key in hex; WHOSE is SCI, SCI/AN or /AN"
+        "--key", action="append", default=[], metavar=spec, help="a key in hex or base64; WHOSE is SCI, SCI/AN or /AN"
     )
     parser.add_argument(
         "--keys", action="append", default=[], metavar="FILE", help="a file with such a key on each line"
     )
     parser.add_argument("--wpa", action="append", default=[], metavar="LOG", help="a log of wpa_supplicant -dK")
-    parser.add_argument(
-        "--config", action="append", default=[], dest="config_keys", metavar="FILE",
-        help="a CONFIG, or macsecd's file, with keys",
-    )  # fmt: skip
+    parser.add_argument("--config", action="append", default=[], dest="config_keys", metavar="FILE", help=config)
     suites = [it.name for it in Suite if it]
     parser.add_argument(
         "--suite", choices=suites, help="the suite of all keys; else by length, and extended with a salt"
@@ -102,13 +105,14 @@ def parser() -> argparse.ArgumentParser:
         "macsec-decrypt link.pcap clear.pcapng --config receiver.config",
         "tcpdump --immediate-mode -U -i eth0 -w - | macsec-decrypt - - --keys keys | tshark -l -r -",
     )
-    parser.add_argument("capture", metavar="IN", help="pcap or pcapng, also compressed by gzip; - for standard input")
+    parser.add_argument("capture", metavar="IN", help="pcap or pcapng, also compressed; - for standard input")
     parser.add_argument("out", metavar="OUT", help="a new file, or -")
     add_key_options(parser)
     parser.add_argument(
         "--offset", type=int, choices=(0, 30, 50), help="the confidentiality offset; else all are tried"
     )
     parser.add_argument("--only-opened", action="store_true", help="leave out what was not opened")
+    add_seen_options(parser)
     parser.add_argument("--json", action="store_true", help="print a JSON object for each record")
     return parser
 
@@ -121,13 +125,19 @@ def main(words: Sequence[str] | None = None) -> int:
 
 def _decrypt(asked: argparse.Namespace) -> int:
     keys = key_arguments(asked)
-    is_stream = STDIN in (asked.capture, asked.out)
-    made = _Made(asked, keys, UsedIvs(_MOST_IVS if is_stream else None))
+    with ledger_of(asked) as ledger:
+        return _opened(asked, keys, ledger)
+
+
+def _opened(asked: argparse.Namespace, keys: Sequence[KeyArgument], ledger: Ledger | None) -> int:
+    is_stream = asked.out == STDOUT or not can_be_read_again(asked.capture)
+    keys = [*keys, *keys_of_mka([asked.capture], caks_of(asked))]
+    made = _Made(asked, keys, UsedIvs(_MOST_IVS if is_stream else None, ledger), ledger)
     try:
         if made.ivs.twice and not is_stream:
             # Written again, so that each of the frames with one IV names another one, the first of them too.
             made.out.discard()
-            made = _Made(asked, keys, made.ivs)
+            made = _Made(asked, keys, made.ivs, ledger)
         made.out.close()
     finally:
         made.out.discard()
@@ -135,27 +145,32 @@ def _decrypt(asked: argparse.Namespace) -> int:
     if asked.json:
         lines = [*map(json.dumps, dicts_of(twice)), *(json.dumps({"sak": it.as_dict()}) for it in made.saks)]
         lines += [*made.records, *(json.dumps({"hint": " ".join(it.split())}) for it in made.hints)]
+        lines += [json.dumps(ledger.as_dict())] if ledger else []
     else:
         lines = made.live.rest(twice) if made.live else [*lines_of_ivs(twice), *map(str, (*made.saks, *made.events))]
-        counts = made.counts.items()
-        lines.append("; ".join(f"{frames_text(count)} {state}" for state, count in counts) or "0 frames")
-        lines += [f"hint: {it}" for it in made.hints]
+        counts = [f"{frames_text(count)} {state}" for state, count in made.counts.items()] + made.unseen.counts()
+        lines.append("; ".join(counts) or "0 frames")
+        lines += [f"{it}: OUT has the inner frames" for it in made.unseen.tunnels()]
+        lines += [*(ledger.lines() if ledger else ()), *(f"hint: {it}" for it in made.hints)]
     say("".join(f"{it}\n" for it in lines), made.text)
     if made.is_cut:
         return 1
-    return 3 if made.counts["not opened"] or made.has_unseen or twice else 0
+    return 3 if made.counts["not opened"] or made.unseen.has_protected or twice else 0
 
 
 class _Made:
     """What a run over the capture makes: OUT, which is not complete until it is closed, and what is printed. `ivs` has
     the IVs of an earlier run, or none."""
 
-    def __init__(self, asked: argparse.Namespace, keys: Sequence[KeyArgument], ivs: UsedIvs) -> None:
+    def __init__(
+        self, asked: argparse.Namespace, keys: Sequence[KeyArgument], ivs: UsedIvs, ledger: Ledger | None
+    ) -> None:
         self.ivs = ivs
         self.counts: Counter[str] = collections.Counter()
+        # How many of the frames that were opened are protected again.
+        self._again = 0
         self.records: list[str] = []
-        # Is there a record that may have a protected frame, and was not captured whole or not from Ethernet?
-        self.has_unseen = False
+        self.unseen = Unseen()
         # Where the text goes: standard output has the frames if that is OUT.
         self.text = sys.stderr if asked.out == STDOUT else sys.stdout
         self._asked = asked
@@ -165,7 +180,7 @@ class _Made:
         with Reading("macsec-decrypt", asked.capture) as reading:
             self.out = _new_file(asked.out)
             try:
-                for packet in reading:
+                for packet in seen_in(ledger, asked.capture, reading):
                     self._add(opener, packet)
             except BaseException:
                 self.out.discard()
@@ -173,20 +188,26 @@ class _Made:
             finally:
                 opener.close()
         self.is_cut = reading.is_cut
-        self.events, self.saks, self.hints = opener.events, opener.agreements.saks, opener.hints()
+        self.events, self.saks = opener.events, opener.agreements.saks
+        self.hints = opener.hints() + self.unseen.hints()
+        if self._again:
+            text = "are protected again: open OUT as IN, with their keys"
+            self.hints.append(f"{frames_text(self._again)} that opened {text}")
 
     def _add(self, opener: Opener, packet: capture.Packet) -> None:
         """Opens a record, writes it and counts it."""
-        if not packet.is_whole:
-            self.counts["not whole or not Ethernet"] += 1
-            self.has_unseen = self.has_unseen or packet.may_be_protected
+        if self.unseen.add(packet):
             if not self._asked.only_opened:
                 self.out.write(packet.time, packet.frame, packet.length, "", packet.link_type)
             return
         it = opener.open(packet.number, packet.frame, packet.fcs)
-        self.counts[it.state] += 1
+        if it.state == "opened" or not self.unseen.add_fault(packet, it.verdict):
+            self.counts[it.state] += 1
+        if it.state == "opened":
+            self._again += is_protected(it.frame)
         if self._asked.json:
-            about = {key: value for key, value in it._asdict().items() if key != "frame" and value not in (None, "")}
+            about = {**it._asdict(), "inside": packet.inside}
+            about = {key: value for key, value in about.items() if key != "frame" and value not in (None, "")}
             self._note(json.dumps({"record": packet.number, **about, "length": len(it.frame)}))
         if it.state == "opened" or not self._asked.only_opened:
             self.out.write(packet.time, it.frame, len(it.frame), it.comment)

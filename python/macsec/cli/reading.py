@@ -2,17 +2,20 @@
 
 from __future__ import annotations
 
+import contextlib
 import os
 import signal
 import sys
 import threading
 import time
-from collections.abc import Iterator
+from collections.abc import Iterator, Sequence
 from types import FrameType, TracebackType
 from typing import BinaryIO, Callable, cast
 
-from .. import capture
+from .. import capture, tunnels
+from ..cak import Cak, KeyAgreements
 from ..errors import CaptureError
+from ..trial import KeyArgument
 from . import warn
 
 STDIN = "-"
@@ -21,7 +24,8 @@ _PATIENCE, _EACH = 2.0, 0.5
 
 
 class Reading:
-    """The records of IN, a path or `-`, and how far the command is, which a terminal shows until the end.
+    """The records of IN, a path or `-`, and how far the command is, which a terminal shows until the end. A protected
+    frame, or one of MKA, takes the place of the packet of the tunnel that it is in.
 
     A fault after the first record ends them with a warning, and `is_cut` says so: the records before it are whole. From
     standard input, SIGINT ends them too, so that the keyboard ends `tcpdump -w - | macsec-why CONFIG -` and the result
@@ -47,7 +51,7 @@ class Reading:
 
     def __iter__(self) -> Iterator[capture.Packet]:
         try:
-            for packet in capture.read(self._file):
+            for packet in tunnels.opened(capture.read(self._file)):
                 self.count += 1
                 yield packet
         except CaptureError as why:
@@ -69,6 +73,24 @@ class Reading:
             return f"{text}, {100 * self._file.tell() // size} %" if size else text
         except (OSError, ValueError):
             return text
+
+
+def can_be_read_again(path: str) -> bool:
+    """Is this a file, and no pipe?"""
+    return path != STDIN and os.path.isfile(path)
+
+
+def keys_of_mka(paths: Sequence[str], caks: Sequence[Cak]) -> list[KeyArgument]:
+    """The keys that frames of MKA distribute in captures which can be read twice: so a key is known for frames before
+    the one that has it. A fault ends this: the command finds it when it reads the file again."""
+    found: list[KeyArgument] = []
+    agreements = KeyAgreements(caks)
+    for path in paths if caks and all(map(can_be_read_again, paths)) else ():
+        with open(path, "rb") as file, contextlib.suppress(CaptureError):
+            for packet in tunnels.opened(capture.read(file)):
+                key = agreements.add(packet.number, packet.frame) if packet.is_whole else None
+                found += [key] if key else []
+    return found
 
 
 def records_text(count: int) -> str:
