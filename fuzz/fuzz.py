@@ -31,6 +31,7 @@ import time
 
 sys.dont_write_bytecode = True
 import captures
+import forged
 import tables
 from inputs import ROOT, Corpus, case_of
 
@@ -54,7 +55,7 @@ OUTCOME = re.compile(
 # What 2,000 inputs of any seed meet, by its place in the report. Each is met by more than 20 of them on average.
 MET_FROM = 2_000
 EXPECTED = {
-    "kind of input": "made|run|run -|protect|validate|there and back|words".split("|"),
+    "kind of input": "made|run|run -|protect|validate|there and back|words|forged".split("|"),
     "line on standard error": [
         *("macsec: line: " + it for it in "Word Count Hex Number Ends".split()),
         *("macsec: pcap " + it for it in "CutRecord RecordLength BlockLength".split()),
@@ -173,6 +174,18 @@ def run_share(share):
     return tally
 
 
+def run_forged(options):
+    """The same of forged frames, of which the verdict is known without the rules."""
+    tally = Tally()
+    with tempfile.TemporaryDirectory() as folder:
+        for number, (case, text) in enumerate(forged.cases(options.seed), options.inputs):
+            tally.add(case)
+            answers = [(it.name, answer_of(it, case, pathlib.Path(folder))) for it in options.programs]
+            told = [(name, complaint(case, it)) for name, it in [("the rules", (0, text, b"", {})), *answers]]
+            tally.findings += [(number, name, what) for name, what in told if what]
+    return tally
+
+
 def report(options, tally, seconds):
     """Prints what was met and found. The status is 1 if something is wrong."""
     names = " and ".join(it.name for it in options.programs)
@@ -239,6 +252,7 @@ def main():
             tally.merge(of_share)
             if number % 100 == 0:
                 print(f"{number * size:,} inputs, {len(tally.findings)} findings", file=sys.stderr, flush=True)
+    tally.merge(run_forged(options))
     return report(options, tally, time.monotonic() - began)
 
 

@@ -130,6 +130,37 @@ class Rarely:
         yield from self.calls("retire_key 0; reserve_tx_floor 0; retire_key 1; reserve_tx_floor 0")
         yield from self.short_keys((2, octets), (3, mark))
 
+    def renewed(self, *keys):
+        yield from self.each("renew_key", [(it + bytes(16), self.SALT, 1, 1, number, 16, 0) for number, it in keys])
+
+    def rarely_renewed(self):
+        """A key in the place of a retired one, with a journal and without one. Only numbers that no key in use has are
+        free. The octets of each key whose place was taken are refused from then on, and no others."""
+        octets, other = [it[:16] for it in self.keys], self.SCIS[0]
+        for journal in (self.JOURNAL + journals.record((bytes(32), 9)), self.JOURNAL, None):
+            yield from self.begun(journal)
+            yield from self.renewed((0, octets[0]), (0, octets[1]), (1, octets[0]), (1, octets[1]))
+            text = "add_rx_sc other; add_rx_sa other 1 1 7 0; add_tx_sa 0 0 9 1"
+            yield from self.calls(text, other=other)
+            yield from self.enabled(journal is not None)
+            text = "send *60; retire_key 0; delete_tx_sa 0; retire_key 0"
+            yield from self.calls(text)
+            mark = self.model.ends[2].keys[0].octets
+            yield from self.renewed((0, mark), (0, octets[0]), (0, octets[1]), (0, octets[2]), (0, octets[3]))
+            yield from self.short_keys((2, octets[0]), (2, mark), (2, octets[3]))
+            yield from self.renewed((3, octets[0]), (3, mark))
+            key = f"A key 4 {octets[0].hex()} 0"
+            yield from self.answered(key, f"{key} {SUITES[2]}", f"A key 0 {octets[4].hex()} 0")
+            yield from self.calls("add_tx_sa 0 0 1 1; reserve_tx_floor 0; reserve_wanted 0 4")
+            yield from self.enabled(journal is not None)
+            text = "send *60; send *60; delete_rx_sa other 1; reserve_rx_floor other 1 1; retire_key 1"
+            yield from self.calls(text, other=other)
+            yield from self.renewed((1, octets[5]))
+            text = (
+                "reserve_rx_floor other 1 1; add_rx_sa other 1 1 1 0; keys_left; get_tx_sa 0; key_free 2; key_take 2 1"
+            )
+            yield from self.calls(text, other=other)
+
     def rarely_ahead(self):
         """A receiver with a journal: numbers that are reserved, not reserved yet, and reserved by an earlier run."""
         for suite, ahead in ((1, 0), (1, 1), (3, 1)):

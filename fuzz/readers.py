@@ -16,12 +16,14 @@ have ended in each of its ways (WAYS). The status is 1 if anything is wrong.
 from __future__ import annotations
 
 import argparse
+import bz2
 import contextlib
 import gzip
 import importlib
 import importlib.util
 import io
 import json
+import lzma
 import multiprocessing
 import os
 import pathlib
@@ -48,12 +50,12 @@ CAPTURES, LOGS = ROOT / "examples/captures", ROOT / "python/tests/data"
 KEY, SALT = "ad7a2bd03eac835a6f620fdcb506b345", "a0a1a2a3a4a5a6a7a8a9aaab"
 SECONDS, KILOBYTES = 3.0, 100_000
 # The ways that search for keys and causes, which takes some seconds, may take longer.
-SEARCHES, SECONDS_OF_SEARCH = ("decrypt", "why", "--capture", "--cak-file"), 20.0
+SEARCHES, SECONDS_OF_SEARCH = ("decrypt", "why", "report", "--capture", "--cak-file"), 20.0
 CONTROL = re.compile("[\x00-\x08\x0b-\x1f\x7f-\x9f]")
 # How the commands have to have ended among 2,000 inputs.
 WAYS = {
-    "decrypt": {0, 1, 2, 3}, "why": {0, 1, 2, 3}, "--capture": {0, 1, 3}, "--ip": {0, 2}, "--ip-json": {0, 2},
-    "--wpa": {0, 2}, "--lint": {0, 3}, "--to-ip": {0, 2}, "--next": {0, 2}, "forge": {0, 1},
+    "decrypt": {0, 1, 2, 3}, "why": {0, 1, 2, 3}, "report": {0, 1, 2, 3}, "--capture": {0, 1, 3}, "--ip": {0, 2},
+    "--ip-json": {0, 2}, "--wpa": {0, 2}, "--lint": {0, 3}, "--to-ip": {0, 2}, "--next": {0, 2}, "forge": {0, 1, 2},
     **({"--cak-file": {0, 1, 2, 3}} if HAS_CAKS else {}),
 }  # fmt: skip
 
@@ -170,6 +172,25 @@ def json_of(rng: random.Random) -> bytes:
     return octets if rng.randrange(4) else text_of(rng, octets.decode())
 
 
+def in_tunnel(rng: random.Random, frame: bytes) -> list[bytes]:
+    """A frame in ERSPAN, GRE or VXLAN, as one packet or two IP fragments, sometimes with an altered octet."""
+    protocol, head = rng.choice((
+        (47, bytes.fromhex("100088be00000001" "1000000900000001")), (47, bytes.fromhex("000088be")),
+        (47, bytes.fromhex("100022eb00000001" "200000090000000000000001" "0000000000000000")),
+        (47, bytes.fromhex("00006558")), (17, struct.pack("!HHHHII", 9, 4789, 16 + len(frame), 0, 8 << 24, 256)),
+    ))  # fmt: skip
+    data, found = head + frame, []
+    cut = rng.choice((len(data), 48))
+    for at, part in ((0, data[:cut]), (cut, data[cut:]))[: 1 + (cut < len(data))]:
+        field = at // 8 | (0x2000 if at + len(part) < len(data) else 0)
+        ip = struct.pack("!BBHHHBBHII", 0x45, 0, 20 + len(part), 7, field, 64, protocol, 0, 1, 2)
+        made = bytearray(bytes(12) + b"\x08\0" + ip + part)
+        if rng.randrange(4) == 0:
+            made[rng.randrange(len(made))] = rng.randrange(256)
+        found.append(bytes(made))
+    return found
+
+
 def short_block(rng: random.Random) -> bytes:
     """A section whose last block can be too short for its kind."""
     made = [(0x0A0D0D0A, struct.pack("<IHHq", 0x1A2B3C4D, 1, 0, -1)), (1, struct.pack("<HHI", 1, 0, 0))]
@@ -182,12 +203,15 @@ def capture_of(rng: random.Random, files: list[tuple[str, bytes]]) -> bytes:
     octets = rng.choice(files)[1]
     if rng.randrange(2):
         frames = [frame for *_, frame in captures.read_records(octets, "<") if frame is not None]
+        if rng.randrange(3) == 0:
+            frames = [part for it in frames for part in in_tunnel(rng, it)]
         octets = blocks.made_file(rng, frames, bool(rng.randrange(2)))
         if rng.randrange(3) == 0:
             return octets + short_block(rng)
     octets = altered(rng, octets)
     if rng.randrange(8) == 0:
-        octets = altered(rng, gzip.compress(octets, mtime=0))
+        compress = rng.choice((gzip.compress, bz2.compress, lzma.compress, bytes.fromhex("28b52ffd").__add__))
+        octets = altered(rng, compress(octets))
     return octets
 
 
@@ -198,6 +222,7 @@ class Corpus:
         self.agreements = [(it, it.with_suffix(".cak")) for it in sorted(LOGS.glob("cak-*.pcap"))] if HAS_CAKS else []
         self.logs = [it.read_text() for it in sorted(LOGS.glob("*.log"))]
         protected = "".join(f"{line} done\n" for line in (2, 3, 4)) + "record 0 link 74\nend OutPktsProtected 0\n"
+        self.frames = f"# of a list\n{bytes(60).hex()}\ninject {bytes(14).hex()}\n00:00 # name\n"
         self.text = protected + "end OutPktsEncrypted 1\n"
 
     def input(self, seed: str, number: int) -> Input:
@@ -219,12 +244,18 @@ class Corpus:
         if way == "why":
             words = ["why", "TEXT", "IN", *rng.choice(([], ["--json"], ["0"], ["--key", key]))]
             return Input(way, words, {"IN": capture_of(rng, self.captures), "TEXT": config})
+        if way == "report":
+            judge = rng.choice((["--config", "TEXT"], ["--key", key], ["--config", "TEXT", "--key", key]))
+            words = ["report", "IN", *rng.choice(([], ["IN"])), "-o", rng.choice(("OUT", "OUT", "-")), *judge]
+            return Input(way, words, {"IN": capture_of(rng, self.captures), "TEXT": config})
         if way == "--capture":
             words = ["config", way, "IN", "--key", key, *rng.choice(([], ["--own", "0200000000010001"]))]
             return Input(way, words, {"IN": capture_of(rng, self.captures)})
         if way == "forge":
-            words = ["forge", rng.choice(("OUT", "-")), "--capture", "IN"]
-            return Input(way, words, {"IN": capture_of(rng, self.captures)})
+            what = rng.choice((["--capture", "IN"], ["--config", "TEXT", "--frames", "IN"]))
+            is_list = what[0] == "--config" and rng.randrange(2)
+            octets = text_of(rng, self.frames) if is_list else capture_of(rng, self.captures)
+            return Input(way, ["forge", rng.choice(("OUT", "-")), *what], {"IN": octets, "TEXT": config})
         if way == "--ip":
             lines = COMMANDS.splitlines()
             text = "\n".join(lines[: rng.choice((5, 5, 7))])
