@@ -51,8 +51,8 @@ DEVICE_SOURCES := $(sort $(filter-out device/macsecctl.c,$(wildcard device/*.c))
 
 # The checks that make a program or a library first, and the others.
 OVER_PROGRAM := conformance conformance-controls peer planted stored-runs
-OVER_LIBRARY := axioms c-programs constant-time device-forged device-fuzz instructions isolated isolated-controls \
-    isolated-unit journal keys-in-memory macsecd macsecd-controls macsecd-isolated macsecd-workers pages python readers \
+OVER_LIBRARY := axioms c-programs constant-time device-forged device-fuzz doctor instructions isolated \
+    isolated-controls isolated-unit journal keys-in-memory macsecd macsecd-controls macsecd-isolated macsecd-workers pages python readers \
     two-hosts workers
 CHECKS := $(OVER_PROGRAM) $(OVER_LIBRARY) against any-order c-header controls device-analyzed device-forged-linux \
     device-installed device-kernel edits failures fuzz isolated-kinds kept-frames kernel-captures live mka needed \
@@ -69,7 +69,7 @@ try: toolchain
 	@for each in $$(sed -n 's/^\(macsec-[a-z]*\) = .*/\1/p' python/pyproject.toml); do \
 	    install -m 755 python/tried_command.sh "build/try/$$each" || exit 1; done
 	@build/unproved/macsec $(or $(ARGS),run - < examples/scripts/tour.macsec)
-	@echo "make try: nothing of this build is proved; make run proves it" >&2
+	@echo "make try: nothing of this build is proved, and its cipher is slow; make run proves and optimizes it" >&2
 
 test: toolchain
 	@tools/check --when test
@@ -100,7 +100,8 @@ install: build/macsec lib
 
 install-python:
 	install -D -m 644 -t "$(DESTDIR)$(PREFIX)/lib/macsec/python/macsec" python/macsec/*.py python/macsec/py.typed
-	install -D -m 644 -t "$(DESTDIR)$(PREFIX)/lib/macsec/python/macsec/cli" python/macsec/cli/*.py
+	for each in cli report; do install -D -m 644 -t "$(DESTDIR)$(PREFIX)/lib/macsec/python/macsec/$$each" \
+	    python/macsec/$$each/*.* || exit 1; done
 	for each in $$(sed -n 's/^\(macsec-[a-z]*\) = .*/\1/p' python/pyproject.toml); do \
 	    install -D -m 644 -t "$(DESTDIR)$(PREFIX)/share/man/man1" "man/$$each.1" && \
 	    install -D -m 755 python/installed_command.py "$(DESTDIR)$(PREFIX)/bin/$$each" || exit 1; done
@@ -128,7 +129,7 @@ fuzz: build/macsec build/macsec-rattle
 failures: build/macsec
 $(OVER_LIBRARY): build/libmacsec.a
 c-programs pages python: build/macsec
-axioms constant-time: $(BOTH)
+axioms constant-time instructions: $(BOTH)
 constant-time instructions keys-in-memory: build/$(HWCAPS)/libmacsec.a
 packages: $(BOTH) $(LIBRARIES)
 controls: build/macsec $(BOTH) build/macsec-rattle build/libmacsec.a

@@ -15,7 +15,7 @@ from house.written import table
 CITED = re.compile(r"^use (?:denote )?Rattle\.(macsec_\w+)\.specs\.(\w+)", re.M)
 # Files of definitions, as CRATE/FILE: where each part of what is proved begins.
 MACHINE = [*(f"macsec_secy/{it}" for it in ("Step", "Answers", "Rests")), "macsec_suite/KeyNumbers"]
-PROMISES = [f"macsec_link/{it}" for it in ("Step", "Beginnings", "UniqueIvs", "Origin", "Window", "Acceptance")]
+PROMISES = [f"macsec_link/{it}" for it in "Step Beginnings UniqueIvs Forgery Origin Window Acceptance".split()]
 RESTARTS = [f"macsec_reserve/{it}" for it in ("Unique", "TwoEnds", "Replay", "Crashes")]
 RESTARTS += [f"macsec_restarts/{it}" for it in ("Sent", "Delivered", "Origin", "Order", "Acceptance")]
 RESTARTS += [f"macsec_restarts/{it}" for it in ("AheadSteps", "AheadRuns", "AheadOrder")]

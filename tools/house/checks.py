@@ -5,7 +5,7 @@ from __future__ import annotations
 
 from typing import NamedTuple
 
-from house.processors import KINDS, WIDER, runs
+from house.processors import EVERY, KINDS, WIDER, runs
 from house.written import table
 
 # What a check needs, in the order in which the gate makes it: nothing but sources; the compiler of `rt`, its log, or
@@ -56,12 +56,13 @@ class Check(NamedTuple):
 
 
 BUILT = "--program {program}"
-BOTH = "--program {program} --program {rattle}"
 # The builds that this processor runs.
 LIBRARIES = "build/libmacsec.a" + (f" build/glibc-hwcaps/{WIDER}/libmacsec.a" if runs(WIDER) else "")
-BUILDS = " ".join(f"--program build/macsec-{it}" for it in KINDS if runs(it))
-# The archives for libraries that the check `instructions` must find too slow for vectors of 256 bits.
-NARROWER = f"--mistakes build/libmacsec_c.a build/libmacsec_c-{WIDER}.a " if runs(WIDER) else ""
+BUILT_PROGRAMS = [f"build/macsec-{it}" for it in KINDS if runs(it)]
+ALL_PROGRAMS = "--program {program} --program {rattle}" + (f" --program build/macsec-{WIDER}" if runs(WIDER) else "")
+BUILDS = " ".join(f"--program {it}" for it in BUILT_PROGRAMS)
+# The archives for libraries, and the program, that the check `instructions` must find too slow for vectors of 256 bits.
+NARROWER = f"--mistakes build/libmacsec_c.a build/libmacsec_c-{WIDER}.a build/macsec-{EVERY} " if runs(WIDER) else ""
 
 # fmt: off
 CHECKS: list[Check] = [
@@ -91,7 +92,7 @@ CHECKS: list[Check] = [
           "tools/edits --after build/ci.log", LOG, 1, "a log without edits", gate=""),
     Check("stored-runs", "compares the answers to stored runs and example scripts with stored ones",
           "tests/program/stored-runs", PROGRAM, 5, "a program with other answers, a run that is deleted", test=BUILT,
-          gate=BOTH, counted="^  .*: as stored$"),
+          gate=ALL_PROGRAMS, counted="^  .*: as stored$"),
     Check("conformance", "runs the table of docs/CONFORMANCE.md and the test vectors", "conformance/conformance",
           PROGRAM, 10, "the check conformance-controls", test=BUILT, gate="--json build/conformance.json"),
     Check("conformance-controls", "alters the table's evidence, which the table must report",
@@ -115,11 +116,12 @@ CHECKS: list[Check] = [
     Check("keys-in-memory", "looks for keys in the memory of a process that has retired or freed them",
           "tests/library/keys-in-memory", LIBRARY, 20, "libraries that overwrite no blocks, or no stack",
           test="{library}", gate=f"--mistakes build/libmacsec_c.a {LIBRARIES}"),
-    Check("instructions", "counts the instructions of a frame and of a key through the library for C, against limits",
-          "tests/library/instructions", LIBRARY, 30,
-          "a limit below what is counted, one far above it; a record that is asked for with each frame; "
-          "libraries without wide planes, or without vectors for them",
-          gate=f"{NARROWER}{LIBRARIES}"),
+    Check("instructions",
+          "counts the instructions of a frame and of a key through the library for C and the program, against limits",
+          "tests/library/instructions", LIBRARY, 50,
+          "a limit below what is counted, one far above it; a record that is asked for with each frame, a job that is "
+          "left to the endpoint, other keys; libraries and a program without wide planes, or without vectors for them",
+          gate=f"{NARROWER}{LIBRARIES} {' '.join(BUILT_PROGRAMS)}"),
     Check("pages", "runs the examples of the pages, and checks their links", "tools/pages", LIBRARY, 10,
           "another output, file, table or list, links to nowhere", test=f"{BUILT} --library {{shared}}", gate=""),
     Check("axioms", "compares what the proofs assume of functions in C with docs/PROVED.md", "tools/axioms", LIBRARY, 1,
@@ -143,8 +145,8 @@ CHECKS: list[Check] = [
           hand="--minutes 2 --mistakes --seed {seed}"),
     Check("macsecd", "runs the device in network namespaces", "device/tests/macsecd", ROOT_USER, 60,
           "the check macsecd-controls", gate="--short --seed {seed}", hand="--seed {seed}"),
-    Check("workers", "sends frames through the device's workers in one process, under sanitizers",
-          "device/tests/workers", LIBRARY, 20, "workers and rings with mistakes (--mistakes)",
+    Check("workers", "sends frames through the device's workers in one process, and joins frames, under sanitizers",
+          "device/tests/workers", LIBRARY, 20, "workers, rings and segments with mistakes (--mistakes)",
           test="--short --library {library} --seed {seed}", gate="--seed {seed}", hand="--mistakes --seed {seed}"),
     Check("macsecd-workers", "passes frames through the device with no worker and with one", "device/tests/macsecd",
           ROOT_USER, 20, "the checks macsecd-controls and workers",
@@ -157,6 +159,8 @@ CHECKS: list[Check] = [
           ROOT_USER, 60, "the check isolated-controls", gate="--short --seed {seed}", hand="--seed {seed}"),
     Check("two-hosts", "runs the commands of docs/TWO-HOSTS.md at two simulated hosts", "device/tests/two-hosts",
           ROOT_USER, 12, "pages with another command", gate=""),
+    Check("doctor", "plants faults at two simulated hosts, which macsec-link doctor has to name", "device/tests/doctor",
+          ROOT_USER, 30, "a doctor with a mistake", gate="--short", hand=""),
     Check("device-forged", "sends frames of macsec-forge to the device, and judges what it delivers",
           "device/tests/device-forged", ROOT_USER, 15, "devices that differ from their CONFIG", gate=""),
     Check("device-forged-linux", "sends them to Linux's own MACsec in a virtual machine",

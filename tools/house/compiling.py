@@ -53,14 +53,17 @@ def altered_library(room: pathlib.Path, archive: pathlib.Path, file: str, old: s
 MORE, FEWER = 300, 100
 
 
-def instructions_of_frame(folder: str, words_of: Callable[[int], list[str]], environment: dict | None = None) -> float:
-    """The instructions of a frame, of a program with these arguments for a number of frames."""
-    more, fewer = (instructions(folder, words_of(count), environment) for count in (MORE, FEWER))
+def instructions_of_frame(
+    folder: str, words_of: Callable[[int], list[str]], environment: dict | None = None, within: str = ""
+) -> float:  # fmt: skip
+    """The instructions of a frame, of a program with these arguments for a number of frames; or those within a call."""
+    more, fewer = (instructions(folder, words_of(count), environment, within) for count in (MORE, FEWER))
     return (more - fewer) / (MORE - FEWER)
 
 
-def instructions(folder: str, words: list[str], environment: dict[str, str] | None = None) -> int:
-    told = run(["valgrind", "--tool=callgrind", f"--callgrind-out-file={folder}/callgrind", *words], environment)
+def instructions(folder: str, words: list[str], environment: dict[str, str] | None = None, within: str = "") -> int:
+    tool = ["valgrind", "--tool=callgrind", f"--callgrind-out-file={folder}/callgrind"]
+    told = run([*tool, *([f"--toggle-collect={within}"] if within else []), *words], environment)
     found = re.search(r"Collected : (\d+)", told)
     assert found, told
     return int(found[1])

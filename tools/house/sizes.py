@@ -20,7 +20,7 @@ FILE = ROOT / "tests/sizes.tsv"
 # What .gitignore names.
 IGNORED = re.compile(r"\.git|out|build|__pycache__|.*\.egg-info")
 MAINTAINERS = "docs/(ARCHITECTURE|CHANGING|DECISIONS|MAINTAINING)"
-TRUST = "docs/(HOSTILE|LINK|PERFORMANCE|PROVED|THEOREM)"
+TRUST = "docs/(HOSTILE|LINK|PERFORMANCE|PROVED|SECRECY|THEOREM|WHO)"
 
 
 class Part(NamedTuple):
@@ -39,7 +39,7 @@ PARTS = [
     Part(
         "tests-and-tools", "program lines", "(conformance|device/tests|fuzz|integrations|python/tests|tests|tools)/.*"
     ),
-    Part("python-package", "lines", r"python/macsec/.*\.py"),
+    Part("python-package", "lines", r"python/macsec/.*\.(css|html|js|py)"),
     Part("examples", "lines", "examples/.*"),
     Part("pages-users", "words", rf"README\.md|(?!{TRUST}|{MAINTAINERS}|docs/CONFORMANCE|docs/MISTAKES)docs/[^/]*\.md"),
     Part("pages-trust", "words", rf"{TRUST}\.md"),

@@ -40,6 +40,7 @@ MAKES(32768, macsec_reserve_open_raw,
 #endif
 
 CALL(32768, macsec_install_key, (macsec_endpoint * e, const macsec_sak *key), (e, key))
+CALL(32768, macsec_renew_key, (macsec_endpoint * e, const macsec_sak *key), (e, key))
 CALL(32768, macsec_retire_key, (macsec_endpoint * e, uint16_t key), (e, key))
 CALL(32768, macsec_key_take, (macsec_key * key, const macsec_endpoint *e, uint16_t number), (key, e, number))
 CALL(32768, macsec_command_line_raw, (macsec_endpoint * e, const uint8_t *text, size_t length), (e, text, length))

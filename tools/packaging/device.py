@@ -44,6 +44,8 @@ def files(programs: list[str]) -> dict[str, tuple[bytes, int]]:
     for page in MANUALS:
         found[f"usr/share/man/man8/{page}.gz"] = (gzip.compress(installed(f"man/{page}"), 9, mtime=0), 0o644)
     found[f"{doc}/examples/macsec0.conf"] = (read(f"{HERE}/macsec0.conf"), 0o644)
+    for name in ("README.md", "alerts.yml", "test-alerts.yml", "dashboard.json"):
+        found[f"{doc}/examples/prometheus/{name}"] = (read(f"{ROOT}/integrations/prometheus/{name}"), 0o644)
     return found
 
 

@@ -90,6 +90,9 @@ def tried_in_python(where: str, do: Callable[..., str], at: str, room: str) -> N
     do("sh", "-c", f"{at}/usr/bin/macsec-config --capture {captures}/link.pcap {keys[0]} > {room}/config")
     told = call("why", f"{room}/config", f"{captures}/link.pcap")
     see(f"{where}, macsec-why opens a capture by the CONFIG of macsec-config", told.endswith(": OK 3\n"))
+    told = call("report", f"{captures}/link.pcap", "-o", "-", "--config", f"{room}/config")
+    whole = len(re.findall("</style>|</script>|</html>", told)) == 4
+    see(f"{where}, macsec-report writes a page with style, data and script", whole)
     told = call("forge", "-", "--config", f"{room}/config", "--bits", "SC,E")
     see(f"{where}, macsec-forge makes a frame that the library judges", told.startswith("# here Reserved\ninject "))
     told = do("python3", "-B", f"{doc}/examples/python/dissect.py")
