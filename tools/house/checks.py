@@ -178,8 +178,9 @@ CHECKS: list[Check] = [
           ROOT_USER, 600, "the check macsecd-controls", hand="--seed {seed}"),
     Check("macsecd-controls", "plants mistakes in the device", "device/tests/macsecd --short --controls", ROOT_USER,
           1200, "it is made of them", hand=""),
-    Check("device-analyzed", "runs the analyzers of gcc and clang over the device and the examples in C",
-          "device/tests/device-analyzed", NOTHING, 15, "memory that is read after it was freed", test=""),
+    Check("device-analyzed", "runs the analyzers of gcc and clang over the device and the examples in C, and compiles "
+          "the tests in C", "device/tests/device-analyzed", NOTHING, 15,
+          "memory that is read after it was freed, a call with too few arguments", test=""),
     Check("peer", "compares frames with Scapy's and with what tshark reads", "tests/program/peer", PROGRAM, 40,
           "another packet number", gate="--frames 80 --seed {seed}", hand=""),
     Check("against", "measures the program and the library beside OpenSSL: speeds, which have no limits",
