@@ -5,11 +5,14 @@
  * The names of the keys that a key agreement has given up last stay, so that a key which comes again soon goes on above
  * its packet numbers. Older ones are let go. For the next run each name that was given up has a note in the journal:
  * the record of another name, whose number is twice the turn at which it was given up, and 1 more once its key has come
- * again. */
+ * again. The note about a name that a key agreement has begun is BROUGHT until then. If the run ends before the name is
+ * given up, the next run gives it up. */
 #include "numbers.h"
 
 /* Octets of a record: the name, then the packet number, then the check. */
 enum { NUMBER_AT = NAME, NUMBER = 8 };
+
+enum { BROUGHT = 1 };
 
 static uint64_t number_of(const macsec_record *record) {
     uint64_t number = 0;
@@ -75,6 +78,33 @@ static bool is_old(const struct names *n, const struct name *name) {
     return is_given_up(name) && name->note / 2 + KEPT_NAMES <= n->given_up;
 }
 
+static void note_change(struct names *n, struct name *name) {
+    n->changes += !name->changed;
+    name->changed = true;
+}
+
+static void set_note(struct names *n, struct name *name, uint64_t note) {
+    name->note = note;
+    name->notes = true;
+    note_change(n, name);
+}
+
+/* The names that the last run had not given up are given up now, all as the last of them: however many there are, none
+ * leaves before others were given up in this run. One whose key has come again needs no note: it stays without one. */
+static void follow_last_run(struct names *n, macsec_journal *journal) {
+    for (size_t i = 0; i < n->count; i++)
+        n->given_up += n->at[i].note == BROUGHT;
+    for (size_t i = 0; i < n->count; i++) {
+        struct name *name = &n->at[i];
+        if (name->note == BROUGHT) {
+            set_note(n, name, 2 * n->given_up);
+        } else if (name->note % 2 != 0) {
+            (void)macsec_journal_let_go(journal, note_of(name)); /* no order is under way */
+            name->note = 0;
+        }
+    }
+}
+
 bool names_read(struct names *n, macsec_journal *journal, size_t room, size_t most) {
     macsec_record record;
     n->room = room;
@@ -95,15 +125,11 @@ bool names_read(struct names *n, macsec_journal *journal, size_t room, size_t mo
             n->given_up = n->at[i].note / 2;
     }
     remove_leaving(n);
+    follow_last_run(n, journal);
     return true;
 }
 
 /* ---- Changes ---- */
-
-static void note_change(struct names *n, struct name *name) {
-    n->changes += !name->changed;
-    name->changed = true;
-}
 
 bool names_reach(const struct name *name, uint64_t number) {
     return name->is_durable && number_of(&name->durable) >= number;
@@ -120,17 +146,19 @@ struct name *names_note(struct names *n, const macsec_record *record, uint32_t k
         return NULL;
     name->is_unused = name->is_unused || !existed;
     name->leaves = false;
+    if (!existed && n->passes[key])
+        set_note(n, name, BROUGHT);
+    else if (!existed && n->note_left)
+        n->left += LEFT_NAMES; /* that note can be about this name */
+    else if (name->key != key && (is_given_up(name) || name->note == BROUGHT))
+        set_note(n, name, (name->note + 1) | 1);
     if (name->key != key) {
         name->key = key;
         name->came_again = name->came_again || existed;
-        if (is_given_up(name)) {
-            name->note++;
-            name->notes = true;
-        }
     }
     if (!existed || number_of(record) > number_of(&name->made))
         name->made = *record;
-    if (name->notes || !names_cover(name, &name->made))
+    if (!names_cover(name, &name->made))
         note_change(n, name);
     return name;
 }
@@ -218,9 +246,7 @@ void names_give_up(struct names *n, uint32_t key) {
         detach(n, name);
         if (name->came_again || name->leaves)
             continue;
-        name->note = 2 * ++n->given_up;
-        name->notes = true;
-        note_change(n, name);
+        set_note(n, name, 2 * ++n->given_up);
     }
 }
 
@@ -251,16 +277,16 @@ size_t names_changes(struct names *n, macsec_journal *journal, macsec_record *ou
             (void)macsec_journal_let_go(journal, name->made.octets); /* no order is under way */
             (void)macsec_journal_let_go(journal, note_of(name));
             name->leaves = leaves = true;
+            n->left += name->is_durable;
+            n->note_left = n->note_left || name->note != 0;
         } else if (name->changed && count + 2 <= room) {
             count += take_changes(name, out + count);
         } else {
             n->changes += name->changed;
         }
     }
-    if (leaves) {
+    if (leaves)
         remove_leaving(n);
-        n->is_shorter = true;
-    }
     return count;
 }
 

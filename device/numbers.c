@@ -38,22 +38,21 @@ struct numbers {
     struct receive_rates rates;
     struct journal_writer *writer;
     struct counts *counts;
-    uint64_t grants;               /* how often a reservation of received packet numbers may have been reported */
-    bool begun;                    /* may frames come now? */
-    bool lacks;                    /* is it reported that there is no name for an association? */
-    macsec_record header;          /* of what an endpoint is made of */
-    uint64_t orders, done;         /* how many orders were given, and were carried out */
-    uint64_t amount;               /* of a reservation */
-    uint64_t unseen;               /* frames sent since the reservations were looked at */
-    uint64_t rate, highest;        /* frames sent since the last tick, and the highest rate */
-    double slow;                   /* how many seconds a synchronization takes */
-    unsigned ticks;                /* since the order was given */
-    unsigned age;                  /* in ticks, until it is steady */
-    bool anew;                     /* is the whole journal to be written, since the file is in doubt? */
-    bool failed;                   /* did the last order fail, and is that reported? */
-    bool waits;                    /* is no order to be given before the next tick? */
-    bool filled;                   /* is it reported that the journal fills? */
-    bool passes[MACSEC_KEY_COUNT]; /* has a key agreement brought the key of this number? */
+    uint64_t grants;        /* how often a reservation of received packet numbers may have been reported */
+    bool begun;             /* may frames come now? */
+    bool lacks;             /* is it reported that there is no name for an association? */
+    macsec_record header;   /* of what an endpoint is made of */
+    uint64_t orders, done;  /* how many orders were given, and were carried out */
+    uint64_t amount;        /* of a reservation */
+    uint64_t unseen;        /* frames sent since the reservations were looked at */
+    uint64_t rate, highest; /* frames sent since the last tick, and the highest rate */
+    double slow;            /* how many seconds a synchronization takes */
+    unsigned ticks;         /* since the order was given */
+    unsigned age;           /* in ticks, until it is steady */
+    bool anew;              /* is the whole journal to be written, since the file is in doubt? */
+    bool failed;            /* did the last order fail, and is that reported? */
+    bool waits;             /* is no order to be given before the next tick? */
+    bool filled;            /* is it reported that the journal fills? */
 };
 
 static struct numbers the_numbers;
@@ -211,13 +210,21 @@ static void accept_more(struct numbers *n, const macsec_endpoint *e) {
                 fill_up(n, e, sci, an);
 }
 
+/* Is something to be written? When frames come no more, names that have left are taken out of the file too. */
+static bool has_order(struct numbers *n) {
+    n->anew = n->anew || n->names.left > (n->begun ? LEFT_NAMES : 0);
+    return n->names.changes > 0 || n->anew;
+}
+
 /* Gives an order, if there is something to be written and none is under way. */
 static void order(struct numbers *n, macsec_endpoint *e) {
     size_t count;
-    if (n->waits || journal_writer_is_busy(n->writer) || (n->names.changes == 0 && !n->anew))
+    if (n->waits || journal_writer_is_busy(n->writer) || !has_order(n))
         return;
     accept_more(n, e);
     count = names_changes(&n->names, &n->journal.machine, n->journal.records, n->journal.room);
+    if (n->anew)
+        n->names.left = n->names.note_left = 0; /* if it fails, it is given anew */
     n->orders++;
     if (count == 0 && !n->anew) {
         n->done = n->orders; /* names have left, and nothing is to be written */
@@ -263,7 +270,6 @@ static bool take_result(struct numbers *n, macsec_endpoint *e) {
     n->grants++;
     if (n->failed)
         message("the journal can be written again");
-    n->names.is_shorter = n->names.is_shorter && !n->anew;
     n->failed = n->anew = false;
     return true;
 }
@@ -271,7 +277,7 @@ static bool take_result(struct numbers *n, macsec_endpoint *e) {
 void numbers_go_on(struct numbers *n, macsec_endpoint *e) {
     do
         order(n, e);
-    while (take_result(n, e) && !n->waits && (n->names.changes > 0 || n->anew));
+    while (take_result(n, e) && !n->waits && has_order(n));
     if (n->begun && n->names.changes == 0 && !n->anew && !journal_writer_is_busy(n->writer))
         journals_unlock(); /* a NAME that compares now sees the first records */
 }
@@ -494,11 +500,11 @@ void numbers_forget(struct numbers *n) {
 /* ---- Keys that are given up ---- */
 
 void numbers_note_key(struct numbers *n, uint16_t key, bool passes) {
-    n->passes[key] = passes;
+    n->names.passes[key] = passes;
 }
 
 void numbers_note_retired(struct numbers *n, uint16_t key, bool passes) {
-    if (passes && n->passes[key])
+    if (passes && n->names.passes[key])
         names_give_up(&n->names, key);
     else
         names_detach(&n->names, key);
@@ -536,8 +542,7 @@ static void write_last(struct numbers *n, macsec_endpoint *e) {
         journal_writer_wait(n->writer, LAST);
         n->waits = false;
         numbers_go_on(n, e);
-        n->anew = n->anew || n->names.is_shorter;
-        if (!journal_writer_is_busy(n->writer) && n->names.changes == 0 && !n->anew)
+        if (!journal_writer_is_busy(n->writer) && !has_order(n))
             return;
     }
 }

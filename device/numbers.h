@@ -16,15 +16,17 @@ struct counts;
 
 /* ---- names.c: the names in the journal, and their records ---- */
 
-/* The octets of a name; the number of no key; and how many names of keys that were given up stay in the journal. */
-enum { NAME = 32, NO_KEY = MACSEC_KEY_COUNT, KEPT_NAMES = 256 };
+/* The octets of a name; the number of no key; how many names of keys that were given up stay in the journal; and how
+ * many that have left can still be in the file before it is written anew: the next run has them if this one is killed.
+ */
+enum { NAME = 32, NO_KEY = MACSEC_KEY_COUNT, KEPT_NAMES = 256, LEFT_NAMES = 16 };
 
 struct name {
     macsec_record made;    /* the record with the greatest packet number: durable, being written, or to be written */
     macsec_record durable; /* the durable one */
     /* What a receive association has accepted, where more is reserved: of that record what follows the name. */
     uint8_t accepted[MACSEC_RECORD_LENGTH - NAME];
-    uint64_t note;  /* the number of the note about it; 0: it was never given up */
+    uint64_t note;  /* the number of the note about it, or 0 */
     uint64_t began; /* of a transmit association: the packet number that it began at last */
     uint32_t key;   /* the key's number in the endpoint, or NO_KEY */
     uint8_t sci[8]; /* of its receive association, with the association number */
@@ -42,12 +44,14 @@ struct name {
 
 struct names {
     struct name *at;
-    size_t count, room; /* how many there are, and can be read */
-    size_t most;        /* how many there can be when one is added */
-    uint32_t *slots;    /* of the hash table: 0, or 1 more than the index of a name */
-    size_t changes;     /* how many names have something to be written */
-    uint64_t given_up;  /* how many names were given up */
-    bool is_shorter;    /* have names left that can still be in the file? */
+    size_t count, room;            /* how many there are, and can be read */
+    size_t most;                   /* how many there can be when one is added */
+    uint32_t *slots;               /* of the hash table: 0, or 1 more than the index of a name */
+    size_t changes;                /* how many names have something to be written */
+    uint64_t given_up;             /* how many names were given up */
+    size_t left;                   /* how many names have left that can still be in the file */
+    bool note_left;                /* and is there a note about one of them? */
+    bool passes[MACSEC_KEY_COUNT]; /* has a key agreement brought the key of this number? */
 };
 
 /* Takes the names of a journal that has room for so many, to which names are added up to `most`. Returns false if

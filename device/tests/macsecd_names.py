@@ -8,14 +8,17 @@ import secrets
 import signal
 import time
 
-from house.reporting import report
+from house.reporting import report, until
 from journal_runs import earlier_header
 from macsecd_ahead import TICK, burst, rx_next, start_silently
-from macsecd_saves import record
-from macsecd_world import Client, End, Stream, World, ping, ping_again
+from macsecd_saves import record, retire_key, use_key
+from macsecd_world import Client, End, Packets, Stream, World, ping, ping_again
 
 # The most names that a journal has while clients make associations.
 NAMES = 257
+
+# How many names that have left a killed macsecd leaves in the file, beside the one of its last record.
+LEFT = 16
 
 # The names of a journal in which lines find none; a limit below it, since reading as many names as macsecd takes lasts
 # long in an unproved library; and for how many octets the memory may grow.
@@ -139,6 +142,57 @@ def check_used(world: World) -> None:
     b.carry_out(receives[0])
     answers = b.ask(f"A rxsa {a.sci} 1 5 1"), b.ask(f"A key 6 {keys[1]} 0", "A txsa 1 6 1 conf")
     report(all(it.startswith("ok pn") for it in answers), f"names: used numbers are used again: {answers}")
+
+
+def check_left(world: World) -> None:
+    """SIGKILL brings few names back that have left."""
+    world.start()
+    a = world.ends[0]
+    client = Client(a)
+    for number in range(100):
+        client.carry_out(*lines_of(a, 10 * number + 5))
+    names = names_of(a)
+    a.stop(signal.SIGKILL)
+    a.start()
+    report(names_of(a) <= names + LEFT + 1, f"names: {names}, and {names_of(a)} after SIGKILL")
+
+
+def kill_under(a: End, key: str, owns: bool) -> None:
+    """SIGKILL while a client, or the owner, sends under a key."""
+    client = Client(a)
+    client.carry_out(*["own"] * owns)
+    use_key(client, Packets(a.namespace, "macsec0"), 5, key)
+    a.stop(signal.SIGKILL)
+    a.start()
+
+
+def check_killed(world: World) -> None:
+    """Names of the owner's keys leave after a kill as those that were given up do. Those of keys stay that come again,
+    or that another client has brought, even if their names had left before."""
+    world.start()
+    a = world.ends[0]
+    names = names_of(a)
+    again, other, gone = (secrets.token_hex(16) for _ in range(3))
+    client = Client(a)
+    client.carry_out("own", f"A key 5 {other} 0", "A txsa 2 5 1 conf", f"open {a.sci} gcm128")
+    report(until(lambda: names_of(a) <= names), "names: of a key that has sent nothing stay")
+    client.close()
+    for key in (other, again, gone):
+        kill_under(a, key, owns=key != other)
+    client, injector = Client(a), Packets(a.namespace, "macsec0")
+    client.carry_out("own", f"A key 5 {again} 0")
+    answers = [client.ask("A txsa 2 5 1 conf")]
+    client.carry_out("A txdel 2", "A retire 5")
+    for number in range(8, 308):
+        use_key(client, injector, number, secrets.token_hex(16))
+        retire_key(client, number)
+    most = NAMES + 4  # two of the configuration, and those of the two keys that stay
+    report(names_of(a) <= most, f"names: {names_of(a)} after kills and 300 keys, and not {most}")
+    keys = [f"A key {number} {key} 0" for number, key in enumerate((again, other, gone))]
+    client.carry_out(f"open {a.sci} gcm128", *keys)
+    answers += [client.ask(f"A txsa {number} {number} 1 conf") for number in range(3)]
+    report(answers[-1] == "ok\n", f"names: of a killed run have not left: {answers}")
+    report(all(it.startswith("ok pn") for it in answers[:-1]), f"names: that have to stay have left: {answers}")
 
 
 def check_full(world: World, programs: pathlib.Path) -> None:

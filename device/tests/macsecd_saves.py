@@ -442,6 +442,18 @@ def check_many_keys(world: World, sender: pathlib.Path, keys: int, longest: floa
 # ---- Which names stay
 
 
+def use_key(by: Client, injector: Packets, number: int, key: str) -> None:
+    """A frame is sent under a key."""
+    by.carry_out(f"A key {number} {key} 0", f"A txsa 2 {number} 1 conf", "A txon 2", "port on")
+    injector.send(b"\xff" * 12 + b"\x88\xb5" + bytes(50))
+    report(until(lambda: f" {1:016x} " not in by.ask("numbers tx 2")), "given up: no frame is sent")
+
+
+def retire_key(by: Client, number: int) -> None:
+    """Ends what use_key has begun."""
+    by.carry_out("A txoff 2", "A txdel 2", f"A retire {number}")
+
+
 def check_given_up(world: World) -> None:
     """Only a key that the owner of the device has brought and retired leaves the journal."""
     world.start()
@@ -449,10 +461,8 @@ def check_given_up(world: World) -> None:
     lasting, injector = secrets.token_hex(16), Packets(a.namespace, "macsec0")
 
     def use(by: Client, number: int, key: str) -> None:
-        by.carry_out(f"A key {number} {key} 0", f"A txsa 2 {number} 1 conf", "A txon 2", "port on")
-        injector.send(b"\xff" * 12 + b"\x88\xb5" + bytes(50))
-        report(until(lambda: f" {1:016x} " not in by.ask("numbers tx 2")), "given up: no frame is sent")
-        by.carry_out("A txoff 2", "A txdel 2", f"A retire {number}")
+        use_key(by, injector, number, key)
+        retire_key(by, number)
 
     other = Client(a)
     use(other, 7, lasting)
