@@ -6,13 +6,14 @@
  * its packet numbers. Older ones are let go. For the next run each name that was given up has a note in the journal:
  * the record of another name, whose number is twice the turn at which it was given up, and 1 more once its key has come
  * again. The note about a name that a key agreement has begun is BROUGHT until then. If the run ends before the name is
- * given up, the next run gives it up. */
+ * given up, the next run gives it up. While more than one part in PARTS of the journal are names, new ones get no such
+ * note, since the room is for names. */
 #include "numbers.h"
 
 /* Octets of a record: the name, then the packet number, then the check. */
 enum { NUMBER_AT = NAME, NUMBER = 8 };
 
-enum { BROUGHT = 1 };
+enum { BROUGHT = 1, PARTS = 32 };
 
 static uint64_t number_of(const macsec_record *record) {
     uint64_t number = 0;
@@ -146,7 +147,7 @@ struct name *names_note(struct names *n, const macsec_record *record, uint32_t k
         return NULL;
     name->is_unused = name->is_unused || !existed;
     name->leaves = false;
-    if (!existed && n->passes[key])
+    if (!existed && n->passes[key] && n->count <= n->room / PARTS)
         set_note(n, name, BROUGHT);
     else if (!existed && n->note_left)
         n->left += LEFT_NAMES; /* that note can be about this name */
