@@ -31,7 +31,8 @@ void budget_begin(struct budget *b) {
     b->used = now(CLOCK_THREAD_CPUTIME_ID);
 }
 
-/* Where other programs have the processor, the client owes nothing for that; but it does for a wait for the journal. */
+/* Where other programs have the processor, the client owes nothing for that in a brief request. A long one delays
+ * frames for all of its time, as a wait for the journal does. */
 void budget_end(struct device *d, int client, bool waited) {
     struct budget *b = &d->budget;
     struct account *it = account_of(b, d->control.user[client]);
@@ -40,7 +41,7 @@ void budget_end(struct device *d, int client, bool waited) {
         return;
     if (waited)
         used = took < used + 1000 * HANDOVER_WAITS ? took : used + 1000 * HANDOVER_WAITS;
-    it->paid = (it->paid > b->began ? it->paid : b->began) + 2 * used + (used > BRIEF ? TIMES * (used - BRIEF) : 0);
+    it->paid = (it->paid > b->began ? it->paid : b->began) + 2 * used + (used > BRIEF ? TIMES * (took - BRIEF) : 0);
     it->paid = it->paid < end + MOST ? it->paid : end + MOST;
 }
 

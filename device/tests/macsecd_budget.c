@@ -28,6 +28,7 @@ static const struct row {
     { "1 ms", 0, 1000, 1000, false, 480, 505 },
     { "10 ms", 0, 10000, 10000, false, 480, 505 },
     { "1 ms, and the processor is elsewhere", 0, 200000, 1000, false, 980, 1000 },
+    { "0.1 s, and the processor is elsewhere as long", 0, 200000, 100000, false, 9, 12 },
     { "a minute", 0, 60000000, 60000000, false, 480, 700 },
     { "0.1 s of the owner", OWNER, 100000, 100000, true, 1000, 1000 },
 };

@@ -161,6 +161,7 @@ CONTROLS: dict[str, list[tuple[str, str, str]]] = {
                  "        if (endpoint_command(d, line, length).status != 0)\n            __builtin_trap();")],
     "budget": [("budget.c", "TIMES = 100,", "TIMES = 0,"),
                ("budget.c", "2 * used +", "used +"),
+               ("budget.c", "TIMES * (took - BRIEF)", "TIMES * (used - BRIEF)"),
                ("budget.c", "    if (waited)\n", "    if (false)\n"),
                ("budget.c", "        if (it->user == user)\n", "        if (true)\n"),
                ("control.c", "        close_client(d, index); /* else", "        return true; /* else")],
