@@ -1,7 +1,7 @@
 //! Each law is about definitions only: the contract of a function that does nothing.
 
-ghost use Rattle.macsec_secrecy.specs.Restarts.{AreHistories, AreHistoriesOfCrashes, LinkSaysNothing, LinkSaysNothingForgetting};
-ghost use Rattle.macsec_secrecy.specs.Restarts.{NoInputTwice, NoInputTwiceForgetting};
+ghost use Rattle.macsec_secrecy.specs.Restarts.{AreHistories, AreHistoriesOfCrashes, LinkSaysNothing};
+ghost use Rattle.macsec_secrecy.specs.Restarts.{LinkSaysNothingForgetting, NoInputTwice, NoInputTwiceForgetting};
 ghost use Rattle.macsec_secrecy.specs.Under.{SealedForgettingUnderHasAll, SealedUnderHasAllRuns};
 
 use macsec_reserve::laws::{repeats_no_iv_at_both, repeats_no_iv_forgetting};
@@ -18,8 +18,8 @@ pub fn no_input_twice()
     repeats_no_iv_forgetting();
 }
 
-/// Over all runs of two ends, the link says nothing of the encrypted octets but how many there are; and over all runs of
-/// one end that forgets retired keys.
+/// Over all runs of two ends, the link says nothing of the encrypted octets but how many there are, if the function of
+/// blocks is not known; and over all runs of one end that forgets retired keys.
 pub fn link_says_nothing()
     ensures durable { LinkSaysNothing AreHistories }
     ensures crashes { LinkSaysNothing AreHistoriesOfCrashes }

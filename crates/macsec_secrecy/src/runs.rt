@@ -1,6 +1,8 @@
 //! Each law is about definitions only: the contract of a function that does nothing.
 
-ghost use Rattle.macsec_secrecy.specs.Runs.{FramesAreAlike, LinkFramesShow, LinkSaysNothing, NoInputTwice, NumberOfInputs};
+ghost use Rattle.macsec_secrecy.specs.Complete.{EncryptedOctetsMayDiffer};
+ghost use Rattle.macsec_secrecy.specs.Runs.{FramesAreAlike, LinkFramesShow, LinkSaysNothing, NoInputTwice};
+ghost use Rattle.macsec_secrecy.specs.Runs.{NumberOfInputs};
 ghost use Rattle.macsec_secrecy.specs.Under.{SealedUnderHasAll};
 
 use macsec_link::laws::promises;
@@ -15,13 +17,16 @@ pub fn no_input_twice()
 }
 
 /// A link frame is what is authenticated only, the ciphertext and the tag; and which octets of the client frame are
-/// encrypted. Client frames that agree in length, addresses and the octets that stay clear are alike.
+/// encrypted. Client frames that agree in length, addresses and the octets that stay clear are alike, whatever their
+/// encrypted octets are.
 pub fn link_frames_show()
     ensures frames { LinkFramesShow }
     ensures alike { FramesAreAlike }
+    ensures free { EncryptedOctetsMayDiffer }
 {}
 
-/// In each run, the link says nothing of the encrypted octets but how many there are.
+/// In each run, the link says nothing of the encrypted octets but how many there are, if the function of blocks is not
+/// known.
 pub fn link_says_nothing()
     ensures { LinkSaysNothing }
 {
