@@ -1,7 +1,9 @@
 -- What counts as sealed over restarts: all that both ends have sealed.
-use Rattle.std.specs.Prelude.{List, map, Bool, Contains}
+use Rattle.std.specs.Prelude.{◌⊎◌, List, map, Bool, Contains}
 use Rattle.std.specs.List.{All}
+use Rattle.macsec_suite.specs.CipherUses.{CipherUse}
 use Rattle.macsec_commands.specs.declared.event.End.{End}
+use Rattle.macsec_commands.specs.declared.event.End.TheVariants.{A, B}
 use Rattle.macsec_reserve.specs.Histories.{Run, sealed_in_all}
 use Rattle.macsec_restarts.specs.ForgettingOrder.{sent_in_all_forgetting}
 use Rattle.macsec_restarts.specs.Happenings.{Happening, runs_of}
@@ -19,3 +21,14 @@ abbrev pub SealedForgettingHasAll : Type 0
 SealedForgettingHasAll = (ahead other : Bool) (runs others : List Run)
     → All (Contains (sealed_forgetting ahead other runs others)) (map seal_of (sent_in_all_forgetting ahead runs))
     × All (Contains (sealed_forgetting ahead other runs others)) (map seal_of (sent_in_all_forgetting other others))
+
+-- and nothing else
+abbrev pub SealedSoFarHasNoOther : Type 0
+SealedSoFarHasNoOther = (before : List Happening) (u : CipherUse) → Contains (sealed_so_far before) u
+    → Contains (sealed_in_all (runs_of A before)) u ⊎ Contains (sealed_in_all (runs_of B before)) u
+
+abbrev pub SealedForgettingHasNoOther : Type 0
+SealedForgettingHasNoOther = (ahead other : Bool) (runs others : List Run) (u : CipherUse)
+    → Contains (sealed_forgetting ahead other runs others) u
+    → Contains (map seal_of (sent_in_all_forgetting ahead runs)) u
+    ⊎ Contains (map seal_of (sent_in_all_forgetting other others)) u

@@ -7,7 +7,8 @@ ghost use Rattle.macsec_forgery.specs.Restarts.{FewKeysForgeOverRestarts, Forger
 ghost use Rattle.macsec_forgery.specs.Restarts.{GenuineOrForgedOverRestarts, OrderAheadOrForged};
 ghost use Rattle.macsec_forgery.specs.Restarts.{OrderForgettingOrForged, OrderOrForgedOverRestarts};
 ghost use Rattle.macsec_forgery.specs.Restarts.{OriginOrForgedOverRestarts};
-ghost use Rattle.macsec_forgery.specs.Under.{SealedForgettingHasAll, SealedSoFarHasAll};
+ghost use Rattle.macsec_forgery.specs.Under.{SealedForgettingHasAll, SealedForgettingHasNoOther};
+ghost use Rattle.macsec_forgery.specs.Under.{SealedSoFarHasAll, SealedSoFarHasNoOther};
 ghost use Rattle.macsec_secrecy.specs.Restarts.{AreHistories, AreHistoriesOfCrashes};
 
 use macsec_reserve::laws::repeats_no_iv_at_both;
@@ -46,7 +47,7 @@ pub fn order_or_forged()
     comes_in_order_once_forgetting();
 }
 
-/// At most as many hash keys have a forgery as the longest message has blocks: one more than the longest link frame
+/// At most as many hash keys have this forgery as the longest message has blocks: one more than the longest link frame
 /// has, and at most 579 in any history.
 pub fn few_keys_forge()
     ensures within { FewKeysForgeOverRestarts }
@@ -68,7 +69,8 @@ pub fn every_key_is_possible()
 }
 
 /// Two ends that forget retired keys: what they sealed allows every hash key, no input of AES is used twice under a
-/// key, except the block of zeros, and the link says nothing of the encrypted octets but how many there are.
+/// key, except the block of zeros, and the link says nothing of the encrypted octets but how many there are, if the
+/// function of blocks is not known.
 pub fn two_ends_forget()
     ensures possible { OfAllForgetting AllowsEveryKey }
     ensures inputs { OfAllForgetting UsesNoInputTwice }
@@ -78,8 +80,10 @@ pub fn two_ends_forget()
     no_iv_at_both_forgetting();
 }
 
-/// What was sealed so far is all that each end has sealed, in any of its runs.
+/// What was sealed so far is all that each end has sealed, in any of its runs, and nothing else.
 pub fn sealed_so_far_has_all()
     ensures so_far { SealedSoFarHasAll }
     ensures forgetting { SealedForgettingHasAll }
+    ensures so_far_alone { SealedSoFarHasNoOther }
+    ensures forgetting_alone { SealedForgettingHasNoOther }
 {}

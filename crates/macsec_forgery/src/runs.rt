@@ -35,7 +35,8 @@ pub fn few_keys_forge_in_whole_run()
     reads_by_grammar();
 }
 
-/// The hash key of a forged use's key is one of at most 579, of all 2^128, if no IV is used twice.
+/// The hash key of a forged use's key is one of the at most 579, of all 2^128, that this use needs, if no IV is used
+/// twice.
 pub fn one_of_few_keys()
     ensures { OneOfFewKeys }
 {
