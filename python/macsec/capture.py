@@ -31,6 +31,8 @@ _STARTS = {struct.pack(order + "I", it): (order, unit) for order in "<>" for it,
 _VERSIONS = (b"\2\0\4\0", b"\0\2\0\4")
 # The head of an enhanced packet block, and of a comment.
 _HEAD, _COMMENT = struct.Struct("<7I"), struct.Struct("<HH")
+# What comes after the last options, and after octets of which so many are more than a multiple of four.
+_NO_MORE, _PADDING = bytes(4), (b"", bytes(3), bytes(2), bytes(1))
 
 
 class Packet(NamedTuple):
@@ -130,12 +132,12 @@ def _read_pcap(file: BinaryIO, start: bytes) -> Iterator[Packet]:
     if start not in _STARTS:
         raise CaptureError(_other_file(start, file))
     head, unit, fcs, link_type = _header(start + _exactly(file, 20, "its header"))
-    number = 0
+    number, read = 0, file.read
     while True:
-        octets = file.read(16)
-        if not octets:
-            return
+        octets = read(16)
         if len(octets) < 16:
+            if not octets:
+                return
             raise CaptureError(f"the file ends within record {number}")
         seconds, fraction, captured, length = head.unpack(octets)
         if not captured and octets[:4] in _STARTS and octets[4:8] in _VERSIONS:
@@ -144,7 +146,7 @@ def _read_pcap(file: BinaryIO, start: bytes) -> Iterator[Packet]:
             continue
         if captured > MOST_OCTETS:
             raise CaptureError(f"record {number} has {captured} octets: damaged, or {_BY_EDITCAP}")
-        frame = file.read(captured)
+        frame = read(captured)
         if len(frame) < captured:
             raise CaptureError(f"the file ends within record {number}")
         time = seconds * 10**9 + fraction * unit
@@ -289,10 +291,13 @@ class PcapngWriter:
             # if_tsresol: nanoseconds.
             self._put(1, struct.pack("<HHIHHBxxxI", link_type, 0, 0, 9, 1, 9, 0))
         octets, captured = comment.encode(), len(frame)
-        options = _COMMENT.pack(1, len(octets)) + octets + bytes(-len(octets) % 4 + 4) if comment else b""
-        size = 32 + captured + -captured % 4 + len(options)
+        before, after = _PADDING[captured & 3], _PADDING[len(octets) & 3]
+        size = 32 + captured + len(before)
+        if comment:
+            size += 8 + len(octets) + len(after)
         head = _HEAD.pack(6, size, self._interfaces[link_type], time >> 32, time & 0xFFFF_FFFF, captured, length)
-        self._write(b"".join((head, frame, bytes(-captured % 4), options, head[4:8])))
+        option = (_COMMENT.pack(1, len(octets)), octets, after, _NO_MORE) if comment else ()
+        self._write(b"".join((head, frame, before, *option, head[4:8])))
 
     def close(self) -> None:
         """Writes what is buffered. The file stays open."""
@@ -337,7 +342,7 @@ class NewFile:
             if handle is None:
                 self._temporary = self._name
                 handle = os.open(self._temporary, os.O_CREAT | os.O_EXCL | os.O_WRONLY | os.O_CLOEXEC, 0o600)
-            self._file = os.fdopen(handle, "wb")
+            self._file = os.fdopen(handle, "wb", _PIECE)
         except BaseException as why:
             self._remove()
             if isinstance(why, OSError):

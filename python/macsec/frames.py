@@ -18,6 +18,8 @@ VLAN = {
 ICV_OCTETS = 16
 # EtherType, TCI and AN, SL, PN, and SCI.
 _tag_of = struct.Struct(">2sBBI8s").unpack_from
+# The packet number of a frame with a SecTAG after its addresses, in a tuple.
+pn_of = struct.Struct(">16xI").unpack_from
 # The checksum of octets that end with their own one.
 _CRC_OF_ALL = 0x2144_DF1C
 # Link types, and where the network's protocol begins in their frames: LINUX_SLL, LINUX_SLL2; NULL, LOOP, PPP; IP.
@@ -62,6 +64,11 @@ def read_tag(frame: bytes) -> SecTag | None:
         return None
     tag: SecTag = new_tuple(SecTag, (octet & 0xFC, octet & 3, sl, pn, sci if end == 28 else None, end))
     return tag
+
+
+def head_of(frame: bytes) -> bytes:
+    """What frames of one sender have in common if their tags have SCIs: source address, SecTAG without packet number."""
+    return frame[6:16] + frame[20:28]
 
 
 def sender_of(frame: bytes, tag: SecTag) -> bytes:

@@ -2,6 +2,7 @@
 
 from __future__ import annotations
 
+import dataclasses
 from collections.abc import Sequence
 from typing import NamedTuple
 
@@ -38,7 +39,8 @@ def _digest(frame: bytes, tag: SecTag) -> int:
     return hash(without_padding(frame, tag) if tag.sl else frame)
 
 
-class Sender(NamedTuple):
+@dataclasses.dataclass(eq=False)
+class Sender:
     """What the frames of a key and a sender have in common: the number of the key, that of key and SCI, and the number
     of the key before the IV with packet number 0."""
 
@@ -146,11 +148,12 @@ class UsedIvs:
         """Adds a frame of a sender that opened. `frame` is what the ICV was checked for, without VLAN tags before the
         SecTAG; `pn` is the whole packet number. Returns its IV, and the record of a frame that used it with other
         octets, if there is one so far; of another capture as text."""
-        key, sci, _, number, base = sender
-        place, digest, is_encrypted = base ^ pn, _digest(frame, tag), tag.tci >> 3 & 1
-        first = self._first.setdefault(place, digest, record + 1 << 32 | number << 1 | is_encrypted)
+        place, digest, is_encrypted = sender.base ^ pn, _digest(frame, tag), tag.tci >> 3 & 1
+        first = self._first.setdefault(place, digest, record + 1 << 32 | sender.number << 1 | is_encrypted)
         found = self.last = self._twice.get(place) if self._twice else None
-        earlier = None
+        if first is None and found is None and self._ledger is None:
+            return None
+        earlier, key, sci = None, sender.key, sender.sci
         if first is None and self._ledger is not None:
             iv = (place % 2**96).to_bytes(12, "big")
             earlier = self._ledger.add(record, key.octets, iv, without_padding(frame, tag), bool(is_encrypted))

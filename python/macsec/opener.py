@@ -3,21 +3,22 @@ number. The library judges each frame; this chooses what it is asked."""
 
 from __future__ import annotations
 
+import dataclasses
 from collections import OrderedDict
 from collections.abc import Iterator, Sequence
-from typing import NamedTuple
+from typing import Any, Callable, NamedTuple
 
 from .attempts import Attempt, Effort, Frame, Keys, Known, Place, usual_attempts, wide_attempts
 from .cak import Cak, KeyAgreements, mkpdus_text
 from .errors import FrameFault
-from .frames import MACSEC, SecTag, has_fcs, new_tuple, octets_after, read_tag, sender_of, without_vlan
+from .frames import MACSEC, SecTag, has_fcs, head_of, new_tuple, octets_after, pn_of, read_tag, sender_of, without_vlan
 from .hints import Hints
 from .ivs import Sender, UsedIvs
 from .names import Suite, Verdict
 from .trial import OPENED, KeyArgument, Trial, Trials
 
 # How many associations of a sender, and how many senders with their association numbers, are kept.
-_MOST_LIVE, _MOST_STREAMS = 8, 65_536
+_MOST_LIVE, _MOST_STREAMS, _MOST_HEADS = 8, 65_536, 4096
 # How many frames of an association that never opened, and of all, are searched widely; and for how many that is more.
 _WIDE_SEARCHES, _WIDE_SEARCHES_OF_ALL, _WIDER_SEARCHES = 3, 20, 1
 _FCS = 4
@@ -41,27 +42,31 @@ class Opened(NamedTuple):
     @property
     def comment(self) -> str:
         """A line about it."""
-        if self.state == "opened" and self.iv_also_in is None and not self.note:
-            return f"macsec: {self.verdict}, SCI {self.sci}, AN {self.an}, PN 0x{self.pn:x}, {self.key}"
-        if self.an is None:
-            return f"macsec: {self.state}"
-        number = "" if self.pn is None else f", PN 0x{self.pn:x}"
-        what = self.verdict if self.state == "opened" else f"{self.state} ({self.verdict})"
-        key = f", {self.key}" if self.key else ""
-        twice = "" if self.iv_also_in is None else f"; IV USED TWICE: also in record {self.iv_also_in}"
-        note = f"; {self.note}" if self.note else ""
-        return f"macsec: {what}, SCI {self.sci}, AN {self.an}{number}{key}{twice}{note}"
+        _, state, verdict, sci, an, pn, key, iv_also_in, note = self
+        if an is None:
+            return f"macsec: {state}"
+        what = verdict if state == "opened" else f"{state} ({verdict})"
+        whose = f"macsec: {what}, SCI {sci}, AN {an}{'' if pn is None else f', PN {hex(pn)}'}{', ' if key else ''}{key}"
+        if iv_also_in is None and not note:
+            return whose
+        twice = "" if iv_also_in is None else f"; IV USED TWICE: also in record {iv_also_in}"
+        return f"{whose}{twice}{'; ' if note else ''}{note}"
 
 
-class Live(NamedTuple):
+@dataclasses.dataclass(eq=False)
+class Live:
     """An association that has opened frames, how many octets are cut off at their end, whose IVs they use, how it is
-    shown, and a note if their tags mean another SCI than the IVs have."""
+    shown, a note if their tags mean another SCI than the IVs have, and what judges its frames."""
 
     trial: Trial
     cut: int
     sender: Sender
     shown: str
     note: str
+    judged: Callable[[bytes], Sequence[Any]]
+
+    def __post_init__(self) -> None:
+        self.an, self.is_extended = self.trial.an, self.trial.is_extended
 
 
 class _Stream:
@@ -111,6 +116,8 @@ class Opener:
     ) -> None:
         self._keys = Keys(keys, suite, offset)
         self._streams: OrderedDict[tuple[bytes, bool, int], _Stream] = OrderedDict()
+        # The stream of frames with a head, and the tag of the first one of them.
+        self._heads: dict[bytes, tuple[SecTag, _Stream]] = {}
         self._trials = Trials()
         self._effort = Effort(len(keys))
         self._wide_searches = 0
@@ -121,29 +128,37 @@ class Opener:
         self._known = Known(self.agreements.scis, {}, self.agreements.uppers)
         self.ivs = ivs or UsedIvs()
         self.events: list[Event] = []
-        # How the last frame was opened, or None.
+        # How the last frame was opened, or None; and its tag, if what was captured is no longer than what opened.
         self.last: Live | None = None
+        self.tag: SecTag | None = None
         self._latest: dict[tuple[str, int], str] = {}
 
     def open(self, record: int, frame: bytes, fcs: int = 0) -> Opened:
         """Opens a frame, whose last octets can be announced as a frame check sequence."""
-        self.last = self.ivs.last = None
+        self.last = self.ivs.last = self.tag = None
         is_cut = bool(fcs) or has_fcs(frame)
-        whole = frame[:-_FCS] if is_cut else frame
-        plain, tags = (whole, b"") if whole[12:14] == MACSEC else without_vlan(whole)
-        tag = read_tag(plain)
-        if tag is None:
-            self._read_mka(record, whole)
-            state = "not opened" if plain[12:14] == MACSEC else "not protected"
-            return Opened(whole, state)
-        place = tag.sci or plain[6:12], tag.sci is None, tag.an
-        stream = self._streams.get(place) or self._new_stream(place)
+        whole = plain = frame[:-_FCS] if is_cut else frame
+        tags = b""
+        known = self._heads.get(head_of(whole))
+        if known is not None:
+            tag, stream = known
+            (pn,) = pn_of(whole)
+        else:
+            plain, tags = (whole, b"") if whole[12:14] == MACSEC else without_vlan(whole)
+            read = read_tag(plain)
+            if read is None:
+                self._read_mka(record, whole)
+                state = "not opened" if plain[12:14] == MACSEC else "not protected"
+                return Opened(whole, state)
+            tag, pn = read, read.pn
+            stream = self._stream(plain, tag)
         try:
             for live in stream.live:
-                opened = self._under(record, live, stream, plain, tag, tags)
+                opened = self._under(record, live, stream, plain, tag, pn, tags)
                 if opened:
+                    self.tag = tag if plain is frame and not live.cut else None
                     return opened
-            it = Frame(plain, tag)
+            it = Frame(plain, tag._replace(pn=pn))
             # A frame that is too long with its last octets may not be so without them.
             self._trials.check(plain if is_cut else plain[:-_FCS])
             # What is cut off can have what a tap adds after a frame check sequence.
@@ -151,15 +166,21 @@ class Opener:
             return self._found(record, stream, it, tags, cuts) or self._failed(record, stream, whole, it)
         except FrameFault as why:
             shown = _shown_sci(sender_of(plain, tag), tag.names_nobody)
-            return Opened(whole, "not opened", why.name, shown, tag.an, tag.pn)
+            return Opened(whole, "not opened", why.name, shown, tag.an, pn)
 
-    def _new_stream(self, place: tuple[bytes, bool, int]) -> _Stream:
-        """A new sender and association number."""
-        stream = self._streams[place] = _Stream()
+    def _stream(self, plain: bytes, tag: SecTag) -> _Stream:
+        """The stream of a frame whose head is new."""
+        place = tag.sci or plain[6:12], tag.sci is None, tag.an
+        stream = self._streams.get(place) or _Stream()
+        self._streams[place] = stream
+        if len(self._streams) > _MOST_STREAMS or len(self._heads) > _MOST_HEADS:
+            self._heads.clear()
         if len(self._streams) > _MOST_STREAMS:
             # A capture without an end can have any number of senders. One that comes again is searched for again.
             for live in self._streams.popitem(last=False)[1].live:
                 live.trial.close()
+        if tag.sci:
+            self._heads[head_of(plain)] = tag, stream
         return stream
 
     def _read_mka(self, record: int, frame: bytes) -> None:
@@ -189,29 +210,33 @@ class Opener:
         if trial.sci_of_iv is not None:
             sci, note = (trial.sci_of_iv, f"its IV has this SCI, its tag means {trial.sci.hex()}")
         sender = self.ivs.sender(trial.key, sci, trial.ssci)
-        live = Live(trial, cut, sender, _shown_sci(sci, is_guess), note)
-        return self._under(record, live, stream, *frame, tags)
+        # The first frame has opened: what a trial has to note by `receive` is noted.
+        judged = trial.secy.judged if trial.sci_of_iv is None else trial.receive
+        live = Live(trial, cut, sender, _shown_sci(sci, is_guess), note, judged)
+        return self._under(record, live, stream, *frame, frame.tag.pn, tags)
 
-    def _under(self, record: int, live: Live, stream: _Stream, plain: bytes, tag: SecTag, tags: bytes) -> Opened | None:
-        trial, cut, sender, shown, note = live
+    def _under(
+        self, record: int, live: Live, stream: _Stream, plain: bytes, tag: SecTag, pn: int, tags: bytes
+    ) -> Opened | None:
+        """Opens a frame under an association. The packet number is not that of `tag`, which can be an earlier one's."""
+        cut, sender, shown, number = live.cut, live.sender, live.shown, pn
         octets = plain[: len(plain) - cut] if cut else plain
-        received = trial.receive(octets)
-        if received.verdict not in OPENED or received.frame is None:
+        verdict, frame, _, _, _ = live.judged(octets)
+        if verdict not in OPENED or frame is None:
             return None
         if not stream.live or stream.live[0] is not live:
             stream.keep(live)
         stream.failures = 0
         self.last = live
-        number = tag.pn
-        if trial.is_extended:
-            number = trial.packet_number(tag.pn)
+        if live.is_extended:
+            number = live.trial.packet_number(pn)
             stream.upper = number >> 32
             shown = _shown_sci(sender.sci, tag.names_nobody)
-        client = received.frame[:12] + tags + received.frame[12:] if tags else received.frame
+        client = frame[:12] + tags + frame[12:] if tags else frame
         again = self.ivs.add(record, sender, number, octets, tag)
-        other, verdict = again[1] if again else None, received.verdict._name_
+        other, name = again[1] if again else None, sender.key.name
         made: Opened = new_tuple(
-            Opened, (client, "opened", verdict, shown, tag.an, number, sender.key.name, other, note)
+            Opened, (client, "opened", verdict._name_, shown, live.an, number, name, other, live.note)
         )
         return made
 

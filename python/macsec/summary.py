@@ -10,6 +10,8 @@ from .frames import SecTag, ethertype, read_tag, sender_of, without_fcs, without
 from .pairs import Pairs
 
 _HALF = 2**31
+# How many heads of frames are known at one time.
+MOST_HEADS = 4096
 
 
 def ranges(numbers: Sequence[int], most: int = 8) -> str:
@@ -43,21 +45,23 @@ class Association:
         self.reused: dict[int, int] = {}
         # The reused ones that are known to be under another key than the earlier one.
         self.rekeyed: list[int] = []
-        self.verdicts: Counter[str] = collections.Counter()
-        self._tcis: Counter[int] = collections.Counter()
+        self.verdicts: dict[str, int] = collections.defaultdict(int)
+        self._tcis: dict[int, int] = collections.defaultdict(int)
         # How many packet numbers there are, the lowest and the highest; and of the last frame with each of them a hash
         # of its octets, and its record and 1.
         self._count = self._first = self._last = 0
         self._seen = Pairs()
 
-    def add(self, record: int, tag: SecTag, frame: bytes, verdict: str) -> None:
+    def add(self, record: int, tag: SecTag, pn: int, frame: bytes, verdict: str) -> None:
         """Counts a frame, without a frame check sequence. A number that falls by more than half of all is taken for one
-        of the next upper half."""
+        of the next upper half. `tag` can have another packet number."""
         self._tcis[tag.tci] += 1
         self.verdicts[verdict] += 1
         last = self._last
-        number = last & ~0xFFFF_FFFF | tag.pn
-        if self._count and number + _HALF < last:
+        number = last & ~0xFFFF_FFFF | pn
+        if number == last + 1:
+            pass
+        elif self._count and number + _HALF < last:
             number += 1 << 32
         elif number > last + _HALF and number >= 1 << 32:
             number -= 1 << 32
@@ -108,7 +112,7 @@ class Association:
 
     def __str__(self) -> str:
         it = self.as_dict()
-        verdicts = ", ".join(f"{name} {count}" for name, count in self.verdicts.most_common())
+        verdicts = ", ".join(f"{name} {count}" for name, count in Counter(self.verdicts).most_common())
         rekeyed = set(self.rekeyed)
         others = [record for record in self.reused if record not in rekeyed]
         reused = f"; a number again with other octets in record {ranges(others)}" if others else ""
@@ -125,6 +129,8 @@ class Summary:
     def __init__(self) -> None:
         self.associations: dict[tuple[str, int], Association] = {}
         self.others: dict[str, Counter[str]] = {}
+        # The association of an address and a SecTAG, without packet number and SL.
+        self._known: dict[bytes, Association] = {}
 
     def add(self, record: int, frame: bytes, verdict: str) -> tuple[str, int | None]:
         """Counts a frame, and returns what it is of: an SCI and an association number, or an EtherType."""
@@ -133,7 +139,7 @@ class Summary:
         if tag is None:
             return self.add_other(frame, verdict)
         found = self.of(plain, tag)
-        found.add(record, tag, without_fcs(plain), verdict)
+        found.add(record, tag, tag.pn, without_fcs(plain), verdict)
         return found.place
 
     def add_other(self, frame: bytes, verdict: str) -> tuple[str, int | None]:
@@ -144,11 +150,13 @@ class Summary:
 
     def of(self, plain: bytes, tag: SecTag) -> Association:
         """The association of a frame without VLAN tags before its SecTAG."""
-        sci = f"({plain[6:12].hex()})" if tag.names_nobody else sender_of(plain, tag).hex()
-        place = sci, tag.an
-        found = self.associations.get(place)
+        head = plain[6:15] + (tag.sci or b"")
+        found = self._known.get(head)
         if found is None:
-            found = self.associations[place] = Association(*place)
+            sci = f"({plain[6:12].hex()})" if tag.names_nobody else sender_of(plain, tag).hex()
+            if len(self._known) >= MOST_HEADS:
+                self._known.clear()
+            found = self._known[head] = self.associations.setdefault((sci, tag.an), Association(sci, tag.an))
         return found
 
     def note_keys(self, keys: Sequence[int]) -> None:

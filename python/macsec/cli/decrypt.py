@@ -166,7 +166,7 @@ class _Made:
         self, asked: argparse.Namespace, keys: Sequence[KeyArgument], ivs: UsedIvs, ledger: Ledger | None
     ) -> None:
         self.ivs = ivs
-        self.counts: Counter[str] = collections.Counter()
+        self.counts: dict[str, int] = collections.defaultdict(int)
         # How many of the frames that were opened are protected again.
         self._again = 0
         self.records: list[str] = []
@@ -201,16 +201,18 @@ class _Made:
                 self.out.write(packet.time, packet.frame, packet.length, "", packet.link_type)
             return
         it = opener.open(packet.number, packet.frame, packet.fcs)
-        if it.state == "opened" or not self.unseen.add_fault(packet, it.verdict):
-            self.counts[it.state] += 1
-        if it.state == "opened":
-            self._again += is_protected(it.frame)
+        frame, state = it[:2]
+        is_opened = state == "opened"
+        if is_opened or not self.unseen.add_fault(packet, it.verdict):
+            self.counts[state] += 1
+        if is_opened:
+            self._again += is_protected(frame)
         if self._asked.json:
             about = {**it._asdict(), "inside": packet.inside}
             about = {key: value for key, value in about.items() if key != "frame" and value not in (None, "")}
-            self._note(json.dumps({"record": packet.number, **about, "length": len(it.frame)}))
-        if it.state == "opened" or not self._asked.only_opened:
-            self.out.write(packet.time, it.frame, len(it.frame), it.comment)
+            self._note(json.dumps({"record": packet.number, **about, "length": len(frame)}))
+        if is_opened or not self._asked.only_opened:
+            self.out.write(packet.time, frame, len(frame), it.comment)
         if self.live:
             self.live.add(opener)
 

@@ -7,7 +7,6 @@ import json
 import sys
 from array import array
 from collections.abc import Iterable, Sequence
-from typing import Optional
 
 from .. import capture
 from ..cak import Cak, KeyAgreements
@@ -15,14 +14,13 @@ from ..causes import Search
 from ..endpoint_of_config import Configuration, Refusal
 from ..errors import FrameFault, UsageError
 from ..explanation import Explanation, Group, Seen, Unopened
-from ..frames import MACSEC, SecTag, ethertype, read_tag, sender_of, without_fcs, without_vlan
+from ..frames import MACSEC, SecTag, ethertype, pn_of, read_tag, sender_of, without_fcs, without_vlan
 from ..grammar import MOST_OCTETS
 from ..ivs import Sender, UsedIvs, UsedTwice, dicts_of, lines_of
 from ..ledger import Ledger
 from ..names import Verdict
-from ..secy import Received
 from ..settings import Setting
-from ..summary import Association, Summary
+from ..summary import MOST_HEADS, Association, Summary
 from ..trial import key_argument, whole_number
 from ..unseen import Unseen
 from ..ways import upper_half
@@ -32,15 +30,14 @@ from .key_agreement import add_cak_options, caks_of
 from .reading import Reading
 from .seen import add_seen_options, ledger_of, seen_in
 
-_DELIVERED_AS_SENT = (Verdict.OK, Verdict.Delayed)
+_OK = Verdict.OK
+_DELIVERED_AS_SENT = (_OK, Verdict.Delayed)
 # Verdicts on frames whose packet number is below the next one that is expected.
 _BELOW = (*_DELIVERED_AS_SENT, Verdict.Unchecked, Verdict.Late)
-# How many heads of frames are known at one time.
-_MOST_HEADS = 4096
-
-
-# The addresses of a frame, and SCI, TCI and AN of its SecTAG.
-Head = tuple[bytes, Optional[bytes], int, int]
+# Verdicts on frames of which an IV is noted, if their ICV is valid.
+_IF_VALID = (*_DELIVERED_AS_SENT, Verdict.Late)
+# An association of CONFIG.
+Place = tuple[bytes, int]
 
 
 class Ivs:
@@ -54,8 +51,8 @@ class Ivs:
         self._used = UsedIvs(ledger=ledger)
         self._of_only: list[UsedTwice] = []
         # Of each association the setting of CONFIG, and what its frames have in common once one is added.
-        self._bases: dict[tuple[bytes, int], Setting | None] = {}
-        self._senders: dict[tuple[bytes, int], Sender] = {}
+        self._bases: dict[Place, Setting | None] = {}
+        self._senders: dict[Place, Sender] = {}
 
     def add(self, record: int, setting: Setting, number: int, frame: bytes, tag: SecTag) -> None:
         """Adds a frame that opens under a setting, with its whole packet number."""
@@ -75,22 +72,19 @@ class Ivs:
         if found and record == self._only:
             self._of_only = [found[0]]
 
-    def add_received(self, record: int, frame: bytes, tag: SecTag, number: int, received: Received) -> None:
+    def add_received(self, record: int, frame: bytes, tag: SecTag, number: int, verdict: Verdict, place: Place) -> None:
         """Adds a frame that is OK, Delayed or Late, if its ICV is valid. The number is the whole packet number."""
-        if received.sci is None or received.an is None:
-            return
-        place = received.sci, received.an
         sender = self._senders.get(place)
         # The ICV of a late frame is not checked if it is dropped, nor under `validate disabled`.
-        if sender is None or received.verdict != Verdict.OK:
+        is_checked = verdict is _OK
+        if sender is None or not is_checked:
             base = self._base(place)
-            is_checked = received.verdict == Verdict.OK
             if not base or not (is_checked or base._replace(upper=number >> 32).opens(self._search.trials, frame)):
                 return
             sender = self._senders.setdefault(place, self._sender(base))
         self._add(record, sender, number, frame, tag)
 
-    def _base(self, place: tuple[bytes, int]) -> Setting | None:
+    def _base(self, place: Place) -> Setting | None:
         """What CONFIG opens the frames of an association under."""
         if place not in self._bases:
             self._bases[place] = self._search.setting(*place)
@@ -116,7 +110,8 @@ class Run:
     ) -> None:
         self._configuration, self._search, self._secy = (configuration, search, configuration.secy)
         self._is_extended, self._only = configuration.is_extended, only
-        self._known: dict[Head, Association] = {}
+        # By addresses and SecTAG, without packet number: the first tag of frames with an SCI, and their association.
+        self._known: dict[bytes, tuple[SecTag, Association]] = {}
         self.summary = Summary()
         self.agreements = KeyAgreements(caks)
         self.ivs = Ivs(search, only, ledger)
@@ -134,32 +129,35 @@ class Run:
 
     def _add(self, packet: capture.Packet) -> str:
         """Gives a record to the endpoint, and notes what it is. Returns the verdict, or why the endpoint has none."""
-        record, frame = packet.number, packet.frame
-        plain = frame if frame[12:14] == MACSEC else without_vlan(frame)[0]
-        tag = read_tag(plain)
-        name = self.unseen.add(packet)
+        record, _, frame = packet[:3]
+        known, name = self._known.get(frame[:16] + frame[20:28]), self.unseen.add(packet)
+        if known is None:
+            plain = frame if frame[12:14] == MACSEC else without_vlan(frame)[0]
+            tag = read_tag(plain)
+        else:
+            plain, tag = frame, known[0]
         try:
-            received = None if name else self._secy.receive(frame)
+            received = None if name else self._secy.judged(frame)
         except FrameFault as why:
             received, name = None, self.unseen.add_fault(packet, why.name)
         if received is None:
             self._show(packet, plain, tag)
             return name
-        verdict = received.verdict
+        verdict, _, sci, an, _ = received
         if tag is None:
             self._show(packet, plain, tag)
             of = self.summary.add_other(frame, verdict._name_)
         else:
-            head = plain[:12], tag.sci, tag.tci, tag.an
-            found = self._known.get(head) or self._know(head, packet, plain, tag)
-            of, number = found.place, tag.pn
-            if self._is_extended and received.sci is not None:
-                number = self._whole(received, number)
-            if verdict in _DELIVERED_AS_SENT or verdict == Verdict.Late:
-                self.ivs.add_received(record, frame, tag, number, received)
+            found = known[1] if known else self._know(packet, plain, tag)
+            (pn,) = pn_of(plain)
+            of, number, place = found.place, pn, None if sci is None or an is None else (sci, an)
+            if self._is_extended and place is not None:
+                number = self._whole(verdict, place, pn)
+            if place is not None and verdict in _IF_VALID:
+                self.ivs.add_received(record, frame, tag, number, verdict, place)
             # What is OK ends with its ICV, or its tag says where that is.
-            found.add(record, tag, plain if verdict == Verdict.OK else without_fcs(plain), verdict._name_)
-            self.note(packet, found, number, received)
+            found.add(record, tag, pn, plain if verdict is _OK else without_fcs(plain), verdict._name_)
+            self.note(packet, found, number, verdict, place)
         if verdict in _DELIVERED_AS_SENT:
             self.unopened.add_opened(of, record, frame)
             self._search.note_opened(frame)
@@ -167,12 +165,14 @@ class Run:
             self.unopened.add((verdict, *of), Seen(record, frame, self._expected(plain, tag)))
         return verdict._name_
 
-    def _know(self, head: Head, packet: capture.Packet, plain: bytes, tag: SecTag) -> Association:
-        """The association of frames with a head that is new."""
+    def _know(self, packet: capture.Packet, plain: bytes, tag: SecTag) -> Association:
+        """The association of frames whose head is new, or that have no SCI."""
         self._show(packet, plain, tag)
-        if len(self._known) >= _MOST_HEADS:
+        found = self.summary.of(plain, tag)
+        if len(self._known) >= MOST_HEADS:
             self._known.clear()
-        found = self._known[head] = self.summary.of(plain, tag)
+        if tag.sci is not None:
+            self._known[plain[:16] + tag.sci] = tag, found
         return found
 
     def _show(self, packet: capture.Packet, plain: bytes, tag: SecTag | None) -> None:
@@ -188,11 +188,10 @@ class Run:
             for sci in self.agreements.scis:
                 self._search.shown.add_sci(sci)
 
-    def _whole(self, received: Received, pn: int) -> int:
+    def _whole(self, verdict: Verdict, place: Place, pn: int) -> int:
         """The whole packet number of a frame, as its association has it or expects it."""
-        assert received.sci is not None and received.an is not None
-        following = self._secy.rx_sa(received.sci, received.an).next
-        return whole_number(pn, following) if received.verdict in _BELOW else upper_half(pn, following) << 32 | pn
+        following = self._secy.rx_sa(*place).next
+        return whole_number(pn, following) if verdict in _BELOW else upper_half(pn, following) << 32 | pn
 
     def _expected(self, plain: bytes, tag: SecTag | None) -> int | None:
         """The whole packet number that the association of a frame expects, or another one of its sender, if they have
@@ -206,9 +205,11 @@ class Run:
                 return self._secy.rx_sa(sci, an).next
         return None
 
-    def note(self, packet: capture.Packet, found: Association, number: int, received: Received) -> None:
+    def note(
+        self, packet: capture.Packet, found: Association, number: int, verdict: Verdict, place: Place | None
+    ) -> None:
         """Is called for each frame with a SecTAG that the endpoint judged, with its association and its whole packet
-        number. Here it does nothing."""
+        number, and the one of CONFIG or None. Here it does nothing."""
 
 
 def _record_lines(packet: capture.Packet, verdict: str) -> list[str]:

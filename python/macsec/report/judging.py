@@ -19,7 +19,6 @@ from ..ledger import Ledger
 from ..names import Verdict
 from ..opener import Opened, Opener
 from ..plan import OBSERVER_MAX, Plan, PlannedSa
-from ..secy import Received
 from ..settings import Setting
 from ..summary import Association, Summary, frames_text
 from ..trial import OPENED, Trial, own_sci
@@ -109,15 +108,17 @@ class ByConfig(Run):
         self._has_window = search.configuration.secy.options().replay
         super().__init__(search.configuration, search, packets, None, caks, ledger)
 
-    def note(self, packet: Packet, found: Association, number: int, received: Received) -> None:
+    def note(
+        self, packet: Packet, found: Association, number: int, verdict: Verdict, place: tuple[bytes, int] | None
+    ) -> None:
         """Draws a frame."""
         row = self._rows.get(found)
         if row is None:
             row = self._rows[found] = self.drawn.row((found.sci, found.an, ""))
-        time, verdict = packet.time, received.verdict
-        if time >= row.due and verdict in _DELIVERED and received.sci is not None and received.an is not None:
-            self._note_opened(packet, row, received.sci, received.an)
-        row.add(packet.number, time, number, verdict)
+        record, time = packet[:2]
+        if time >= row.due and place is not None and verdict in _DELIVERED:
+            self._note_opened(packet, row, *place)
+        row.add(record, time, number, verdict)
 
     def _note_opened(self, packet: Packet, row: Row, sci: bytes, an: int) -> None:
         """Notes the window after a frame that was delivered, and the key of the association."""
@@ -209,27 +210,35 @@ class _ByKeys:
                 self._add(packet, opener.open(packet.number, packet.frame, packet.fcs), opener)
 
     def _add(self, packet: Packet, it: Opened, opener: Opener) -> None:
-        if self.unseen.add_fault(packet, it.verdict):
+        _, state, name, sci, an, pn, key, _, _ = it
+        if self.unseen.add_fault(packet, name):
             return
-        if it.an is None or it.pn is None:
-            self.summaries[""].add(packet.number, packet.frame, it.state)
+        number, time, frame = packet[:3]
+        if an is None or pn is None:
+            self.summaries[""].add(number, frame, state)
             return
         # A frame that does not open is likely under the key of those before it.
-        place = it.sci.strip("()"), it.an
+        place = sci.strip("()"), an
         before = self._keys.get(place, "")
-        key, verdict = it.key or before, _VERDICTS[it.verdict]
-        of = self.summaries[key].add(packet.number, packet.frame, it.verdict)
-        self.drawn.row((of[0], it.an, key)).add(packet.number, packet.time, it.pn, verdict)
-        if it.state != "opened":
-            self.unopened.add((verdict, *of), Seen(packet.number, packet.frame))
+        key, verdict = key or before, _VERDICTS[name]
+        summary, tag = self.summaries[key], opener.tag
+        if tag is None:
+            of = summary.add(number, frame, name)
+        else:
+            found = summary.of(frame, tag)
+            found.add(number, tag, pn & 0xFFFF_FFFF, frame, name)
+            of = found.place
+        self.drawn.row((of[0], an, key)).add(number, time, pn, verdict)
+        if state != "opened":
+            self.unopened.add((verdict, *of), Seen(number, frame))
             return
-        self.unopened.first_opened.setdefault(of, packet.number)
-        self.unopened.last_opened[of] = packet.number
+        self.unopened.first_opened.setdefault(of, number)
+        self.unopened.last_opened[of] = number
         if key != before:
             self._keys[place] = key
-            self.events.add(packet, of[0], it.an, key)
+            self.events.add(packet, of[0], an, key)
             if opener.last and opener.last.trial.sci_of_iv is None and len(self.uses) < _MOST_PLANNED:
-                self.uses[opener.last.trial.sci, it.an] = opener.last.trial, it.pn
+                self.uses[opener.last.trial.sci, an] = opener.last.trial, pn
 
     def configuration(self) -> Configuration:
         """The CONFIG of an observer that has the keys which opened frames, by the names that they were given."""
