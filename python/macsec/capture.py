@@ -2,11 +2,13 @@
 
 from __future__ import annotations
 
+import collections
 import contextlib
 import errno
 import os
 import secrets
 import struct
+from collections import Counter
 from collections.abc import Iterable, Iterator
 from typing import BinaryIO, NamedTuple, cast
 
@@ -19,6 +21,8 @@ MOST_OCTETS = 262_144
 # interfaces of a section, and how many blocks without a packet can follow each other.
 MOST_BLOCK, MOST_OPTIONS, MOST_INTERFACES, MOST_WITHOUT_PACKET = 16 << 20, 1000, 4096, 1 << 16
 _PIECE = 1 << 16
+# The last time of pcap, in 2106.
+_LAST = (10**9 << 32) - 1
 # Where a process finds its open files.
 _DESCRIPTORS = "/proc/self/fd"
 # The blocks that have a packet: obsolete, simple and enhanced.
@@ -71,18 +75,19 @@ class Packet(NamedTuple):
         return network is None or may_be_protected(bytes(12) + network[0].to_bytes(2, "big"))
 
 
-def read(source: str | BinaryIO) -> Iterator[Packet]:
+def read(source: str | BinaryIO, counts: Counter[str] | None = None) -> Iterator[Packet]:
     """The records of a capture file, which is named or open. A fault raises CaptureError after the records before it.
+    A time that pcap has not is the first or the last one, which is counted as `outside`.
 
     Of an open file no more is read than is needed for the next record, so that it can be a pipe.
     """
     if isinstance(source, str):
         with open(source, "rb") as named:
-            yield from read(named)
+            yield from read(named, counts)
         return
     with uncompressed(source, source.read(4)) as (file, start):
         if start == _PCAPNG:
-            yield from _read_pcapng(file, start)
+            yield from _read_pcapng(file, start, collections.Counter() if counts is None else counts)
         else:
             yield from _read_pcap(file, start)
 
@@ -187,7 +192,7 @@ def _interface(body: bytes, order: str) -> _Interface:
     return _Interface(link_type, snap, units, offset, (options.get(13) or b"\0")[0])
 
 
-def _read_pcapng(file: BinaryIO, start: bytes) -> Iterator[Packet]:
+def _read_pcapng(file: BinaryIO, start: bytes, counts: Counter[str]) -> Iterator[Packet]:
     order, interfaces, number, without = "<", cast(list[_Interface], []), 0, 0
     while start:
         if len(start) < 4:
@@ -206,7 +211,11 @@ def _read_pcapng(file: BinaryIO, start: bytes) -> Iterator[Packet]:
             if kind == 1:
                 interfaces.append(_interface(body, order))
             elif kind in _PACKETS:
-                yield _packet(number, kind, body, order, interfaces)
+                packet = _packet(number, kind, body, order, interfaces)
+                if not 0 <= packet.time <= _LAST:
+                    counts["outside"] += 1
+                    packet = packet._replace(time=min(max(packet.time, 0), _LAST))
+                yield packet
                 number, without = number + 1, 0
         except (struct.error, IndexError):
             raise CaptureError(f"record {number}: its block is at fault") from None
@@ -241,8 +250,7 @@ def _packet(number: int, kind: int, body: bytes, order: str, interfaces: list[_I
     else:
         which, high, low, captured, length = struct.unpack_from(order + ("IIIII" if kind == 6 else "HxxIIII"), body)
         of, at = interfaces[which], 20
-        # A time before 1970 or after 2106 is the first or the last one between.
-        time = min(max((high << 32 | low) * 10**9 // of.units + of.offset * 10**9, 0), (10**9 << 32) - 1)
+        time = (high << 32 | low) * 10**9 // of.units + of.offset * 10**9
         options = at + (captured + 3) // 4 * 4
     if captured > MOST_OCTETS or at + captured > len(body):
         raise CaptureError(f"record {number} has more octets than its block")

@@ -18,7 +18,7 @@ from collections.abc import Callable, Sequence
 from unittest import mock
 
 from macsec import capture
-from macsec.cli import config, decrypt, forge, reading, why
+from macsec.cli import config, decrypt, forge, reading, report, why
 from macsec.wpalog import keys_of, lines_of
 
 from .frames import client_frames, protected
@@ -164,6 +164,22 @@ class Cut(InFolder):
                 self.assertEqual(main_of(config.main, "--capture", path, "--key", KEY)[0], status)
                 path.unlink()
                 out.unlink()
+
+    def test_times_that_pcap_has_not_are_counted(self) -> None:
+        """The nearest time is taken, in OUT too, and each command says so once."""
+        octets, said = SECTION, "2 records with a time outside 1970 to 2106: the nearest one is taken"
+        for frame, at, offset in zip(protected(client_frames(3)), (1, 1 << 53, 1), (0, 0, -5)):
+            which = struct.pack("<5I", 0, at >> 32, at & 0xFFFF_FFFF, len(frame), len(frame))
+            octets += SECTION + block(1, struct.pack("<HHIHHq", 1, 0, 0, 14, 8, offset))
+            octets += block(6, which + frame + bytes(-len(frame) % 4))
+        path, out, page = self.put("IN", octets), self.folder / "OUT", self.folder / "PAGE"
+        of = self.put("CONFIG", CONFIG), path
+        for words in ((decrypt.main, path, out, "--key", KEY), (why.main, *of), (why.main, *of, "--json")):
+            status, text, error = main_of(*words)
+            self.assertEqual((status, text.count(said), error), (0, 1, ""), text)
+        self.assertEqual([it.time for it in capture.read(str(out))], [1000, (10**9 << 32) - 1, 0])
+        self.assertEqual(main_of(report.main, path, "-o", page, "--key", KEY)[0], 0)
+        self.assertEqual(page.read_text().count(f"IN: {said}"), 1)
 
     def test_a_capture_is_no_configuration(self) -> None:
         path = self.put("IN", protected(client_frames(3)))

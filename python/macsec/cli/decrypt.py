@@ -189,7 +189,7 @@ class _Made:
                 opener.close()
         self.is_cut = reading.is_cut
         self.events, self.saks = opener.events, opener.agreements.saks
-        self.hints = opener.hints() + self.unseen.hints()
+        self.hints = opener.hints() + self.unseen.hints() + reading.times
         if self._again:
             text = "are protected again: open OUT as IN, with their keys"
             self.hints.append(f"{frames_text(self._again)} that opened {text}")

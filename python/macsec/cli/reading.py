@@ -2,12 +2,14 @@
 
 from __future__ import annotations
 
+import collections
 import contextlib
 import os
 import signal
 import sys
 import threading
 import time
+from collections import Counter
 from collections.abc import Iterator, Sequence
 from types import FrameType, TracebackType
 from typing import BinaryIO, Callable, cast
@@ -35,6 +37,7 @@ class Reading:
     def __init__(self, command: str, path: str) -> None:
         self.is_cut = False
         self.count = 0
+        self._counts: Counter[str] = collections.Counter()
         self._command, self._path, self._is_read = command, path, False
         self._progress: _Progress | None = None
         self._file = cast(BinaryIO, _Stdin()) if path == STDIN else open(path, "rb")
@@ -51,7 +54,7 @@ class Reading:
 
     def __iter__(self) -> Iterator[capture.Packet]:
         try:
-            for packet in tunnels.opened(capture.read(self._file)):
+            for packet in tunnels.opened(capture.read(self._file, self._counts)):
                 self.count += 1
                 yield packet
         except CaptureError as why:
@@ -62,6 +65,12 @@ class Reading:
                 self._progress.clear()
             warn(self._command, f"{self._path}: {why}; {records_text(self.count)} before that")
         self._is_read = True
+
+    @property
+    def times(self) -> list[str]:
+        """How many records have other times here than in the file."""
+        count = self._counts["outside"]
+        return [f"{records_text(count)} with a time outside 1970 to 2106: the nearest one is taken"] * bool(count)
 
     def _done(self) -> str:
         """How far it is."""

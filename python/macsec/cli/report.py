@@ -64,6 +64,7 @@ class _Captures:
         self._paths, self._ledger = paths, ledger
         self.sources: list[Source] = []
         self.is_cut = False
+        self.times: list[str] = []
         self.start: int | None = None
 
     def __iter__(self) -> Iterator[capture.Packet]:
@@ -75,6 +76,7 @@ class _Captures:
                         self.start = packet.time
                     yield packet._replace(number=before + packet.number) if before else packet
             self.is_cut = self.is_cut or reading.is_cut
+            self.times += [f"{os.path.basename(path)}: {it}" for it in reading.times]
             self.sources.append(Source(os.path.basename(path), reading.count))
             before += reading.count
 
@@ -104,6 +106,7 @@ def _drawn(asked: argparse.Namespace, ledger: Ledger | None) -> int:
         opener = Opener(keys, Suite[asked.suite] if asked.suite else None, ivs=ivs, caks=caks)
         judged = by_keys(opener, captures)
         opener.close()
+    judged.lines.extend(captures.times)
     if ledger is not None:
         judged.objects.append(ledger.as_dict())
         judged.lines.extend(ledger.lines())

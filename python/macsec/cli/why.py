@@ -314,10 +314,11 @@ def _explained(asked: argparse.Namespace, search: Search, ledger: Ledger | None)
     if asked.json:
         summary = [] if made.only else made.summary.as_dicts()
         objects = objects_of(twice, summary, *found, refusals)
+        objects += [{"hint": it} for it in reading.times]
         lines = [json.dumps(it) for it in objects + ([ledger.as_dict()] if ledger else [])]
     else:
         text = _record_lines(made.only, made.only_verdict) if made.only else made.summary.lines()
-        lines = lines_of_all(twice, text, *found, refusals) + (ledger.lines() if ledger else [])
+        lines = lines_of_all(twice, text, *found, refusals) + reading.times + (ledger.lines() if ledger else [])
     say("".join(f"{it}\n" for it in lines))
     if reading.is_cut:
         return 1
