@@ -84,6 +84,10 @@ static int explain(const char *path, const char *name, const struct journal_faul
     const char *wrong = journals_fault(path);
     if (wrong != NULL)
         return message_wrong("the journal %s %s", path, wrong);
+    if (strcmp(fault->step, "lock") == 0 && fault->error == EWOULDBLOCK) {
+        message("%s is locked: another macsecd has this journal", path);
+        return ENDS_FAILED;
+    }
     report(path, fault);
     if (strcmp(fault->step, "open") != 0 || fault->error != ENOENT)
         return ENDS_FAILED;

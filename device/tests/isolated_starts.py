@@ -121,7 +121,7 @@ def check_starts(options: Options) -> None:
         check_inside(a)
         a.start()
         link_expect(a, "release while macsecd runs", 1, "macsecd runs", "release")
-        expect(a, "a second macsecd", 1, "lock")
+        expect(a, "a second macsecd", 1, "is locked: another macsecd has this journal")
         a.stop()
         ended = a.attempt(str(a.macsec_link), "isolate")
         report(ended.returncode == 2 and "usage" in ended.stderr, f"starts: macsec-link without a name: {ended}")
