@@ -35,8 +35,9 @@ _STARTS = {struct.pack(order + "I", it): (order, unit) for order in "<>" for it,
 _VERSIONS = (b"\2\0\4\0", b"\0\2\0\4")
 # The head of an enhanced packet block, and of a comment.
 _HEAD, _COMMENT = struct.Struct("<7I"), struct.Struct("<HH")
-# What comes after the last options, and after octets of which so many are more than a multiple of four.
-_NO_MORE, _PADDING = bytes(4), (b"", bytes(3), bytes(2), bytes(1))
+# What comes after octets of which so many are more than a multiple of four, and after an option that is the last one.
+_PADDING = (b"", bytes(3), bytes(2), bytes(1))
+_ENDS = tuple(it + bytes(4) for it in _PADDING)
 
 
 class Packet(NamedTuple):
@@ -299,13 +300,12 @@ class PcapngWriter:
             # if_tsresol: nanoseconds.
             self._put(1, struct.pack("<HHIHHBxxxI", link_type, 0, 0, 9, 1, 9, 0))
         octets, captured = comment.encode(), len(frame)
-        before, after = _PADDING[captured & 3], _PADDING[len(octets) & 3]
-        size = 32 + captured + len(before)
-        if comment:
-            size += 8 + len(octets) + len(after)
+        count = len(octets)
+        padding = _PADDING[captured & 3]
+        options = b"".join((_COMMENT.pack(1, count), octets, _ENDS[count & 3])) if comment else b""
+        size = 32 + captured + len(padding) + len(options)
         head = _HEAD.pack(6, size, self._interfaces[link_type], time >> 32, time & 0xFFFF_FFFF, captured, length)
-        option = (_COMMENT.pack(1, len(octets)), octets, after, _NO_MORE) if comment else ()
-        self._write(b"".join((head, frame, before, *option, head[4:8])))
+        self._write(b"".join((head, frame, padding, options, head[4:8])))
 
     def close(self) -> None:
         """Writes what is buffered. The file stays open."""
