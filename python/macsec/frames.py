@@ -67,7 +67,7 @@ def read_tag(frame: bytes) -> SecTag | None:
 
 
 def head_of(frame: bytes) -> bytes:
-    """What frames of one sender have in common if their tags have SCIs: source address, SecTAG without packet number."""
+    """What frames of a sender have in common if their tags have SCIs: source address, SecTAG without packet number."""
     return frame[6:16] + frame[20:28]
 
 
