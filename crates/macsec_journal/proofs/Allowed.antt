@@ -182,7 +182,7 @@ library_reported (endpoint_input input ∷ inputs) a name =
 
 -- ---- one input more
 
-library-append : (inputs : List KeepingInput) (input : KeepingInput) (a : Ahead) →
+pub library-append : (inputs : List KeepingInput) (input : KeepingInput) (a : Ahead) →
     library_after a (inputs ++ input ∷ []) ≡ library_step (library_after a inputs) input
 library-append [] input a = refl
 library-append (first ∷ inputs) input a = library-append inputs input (library_step a first)

@@ -1,14 +1,15 @@
 -- What the disk can do.
 use Rattle.std.proofs.{
-  Common.{◌≡◌, ℕ, ◌%◌, ◌≤◌, Bool, true, false, ◌||◌, if◌then◌else◌, List, [], ◌∷◌, ◌++◌, length, nat_le, refl, ap, sym},
-  Common.{◌∙◌, arith, append_assoc, All, inl, inr, subst, Option, None, Some},
-  lemmas.{Bool.lt-leb, List.Elements.{All-cons, All-nil, All-weaker}},
+  Common.{◌≡◌, ◌≢◌, ℕ, ◌%◌, ◌≤◌, Bool, true, false, ◌||◌, if◌then◌else◌, List, [], ◌∷◌, ◌++◌, length, nat_le, refl},
+  Common.{ap, sym, ◌∙◌, arith, append_assoc, All, codes, inl, inr, subst, take, Option, None, Some},
+  lemmas.{Bool.lt-leb, List.append_cancel_left, List.Elements.{All-append, All-cons, All-nil, All-weaker}},
 }
 use Rattle.macsec_reserve.specs.Journal.{header}
 use Rattle.macsec_journal.specs.{
   Damage.IsDamaged,
-  Disk.{Piece, Stands, end_of, folder_left, is_apart, sector_ceiling, sector_floor},
-  Harms.{CanHarm, ShareSector, at_call},
+  Disk.{Piece, Stands, apart_from, end_of, folder_left, is_apart, sector_ceiling, sector_floor},
+  Format.{check_of_file, entries_digest, file_title},
+  Harms.{CanHarm, IsCollision, ShareSector, at_call},
   Machine.{appended, whole},
   World.{Process, World, ends, happens_by},
   declared.step.Step.TheVariants.Appending,
@@ -28,6 +29,13 @@ dropped : (p q : Piece) → ShareSector p q → (octets : List ℕ) → All (Sta
     (if is_apart p q then q ∷ [] else [])
 dropped p q it octets = subst (λ (b : Bool). All (Stands octets) (if b then q ∷ [] else [])) (sym (near p q it))
     (any_left octets)
+
+-- and is not there after a write to its sector
+replaced : (p q : Piece) → ShareSector p q → (octets : List ℕ) → Stands octets p → All (Stands octets)
+    (apart_from p (q ∷ []) ++ p ∷ [])
+replaced p q it octets stands =
+    All-append (Stands octets) (apart_from p (q ∷ [])) (p ∷ []) (dropped p q it octets)
+    (All-cons (Stands octets) p [] stands (any_left octets))
 
 more_follows : (octets more : List ℕ) (p : Piece) → Stands octets p → Stands (octets ++ more) p
 more_follows octets more p it = record {
@@ -51,14 +59,46 @@ sector_damaged before was now behind sector within records = record {
   records = records;
 }
 
+-- the texts that are digested differ too
+same_digest : (salt one other : List ℕ) → one ≢ other → entries_digest salt one ≡ entries_digest salt other →
+    IsCollision
+same_digest salt one other differ same = record {
+  one = codes "macsec journal: table" ++ salt ++ one;
+  other = codes "macsec journal: table" ++ salt ++ other;
+  differ = λ is. differ (append_cancel_left salt one other (append_cancel_left (codes "macsec journal: table")
+      (salt ++ one) (salt ++ other) is));
+  same = ap (λ (digest : List ℕ). take 24 digest) same;
+}
+
+same_check : (one other : List ℕ) → one ≢ other → check_of_file one ≡ check_of_file other → IsCollision
+same_check one other differ same = record {
+  one = codes "macsec journal: header" ++ file_title ++ one;
+  other = codes "macsec journal: header" ++ file_title ++ other;
+  differ = λ is. differ (append_cancel_left file_title one other (append_cancel_left (codes "macsec journal: header")
+      (file_title ++ one) (file_title ++ other) is));
+  same = same;
+}
+
 crash_leaves : (now : Option Process) (w : World) (n : ℕ) → (happens_by w now (ends n)).folder ≡ folder_left n w.folder
 crash_leaves None w n = refl
 crash_leaves (Some p) w n = refl
 
 pub can_harm : CanHarm
 can_harm = record {
+  shares = λ x y.
+      record {
+        octet = 0;
+        in_piece = (omega arith, omega arith);
+        other = 4095;
+        in_other = (omega arith, omega arith);
+        sector = refl;
+      };
+  calls = λ w p ok. (tt, refl);
   tears = λ j f p. dropped (appended j) p;
   overwrites = λ j f p. dropped (appended j) p;
+  tears_fresh = λ j f p. dropped (appended j) p;
+  tears_fresh_new = λ j f p. dropped (whole j) p;
+  replaces = λ j f p. replaced (appended j) p;
   forgets = λ j f. any_left;
   ends = λ j f. any_left;
   reads = λ j f. any_left (appended (at_call Appending j)).octets;
@@ -66,6 +106,8 @@ can_harm = record {
       left;
   leads_back = λ j f. refl;
   leads_back_later = λ j f. refl;
+  leads_further = λ j f n. refl;
+  fails_further = λ j f n. refl;
   renames = λ j f. (1, omega arith, refl);
   tears_new = λ j f p. dropped (whole j) p;
   forgets_new = λ j f. any_left;
@@ -91,4 +133,6 @@ can_harm = record {
         count = inl count;
         entries = λ so. absurd (entries so);
       };
+  collides = same_digest;
+  collides_salt = same_check;
 }

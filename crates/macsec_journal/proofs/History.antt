@@ -1,24 +1,34 @@
 -- Histories that can happen.
 use Rattle.std.proofs.{
-  Common.{◌≡◌, ◌+◌, ℕ, inl, Bool, true, false, if◌then◌else◌, not, ◌||◌, List, [], ◌∷◌, ◌++◌, length, replicate, None},
-  Common.{Option, Some, refl, ap, sym, subst},
+  Common.{◌≡◌, ◌+◌, ◌<◌, ◌≤◌, ℕ, inl, Bool, true, false, if◌then◌else◌, not, ◌||◌, List, [], ◌∷◌, ◌++◌, length},
+  Common.{replicate, None},
+  Common.{◌^◌, ◌∙◌, Option, Some, refl, ap, sym, subst},
   Common.{All, append-nil, append_assoc, arith, length-append},
-  lemmas.List.{Elements.{All-append, All-cons, All-filter, All-nil}, length-replicate},
+  lemmas.List.{Elements.{All-append, All-cons, All-contains, All-filter, All-get_or, All-nil}, length-replicate},
+  lemmas.Slice.Eq.bytes_eq-Decides,
 }
+use Rattle.macsec_gcm.specs.Octets.{same_octets}
 use Rattle.macsec_reserve.specs.{
   Crashes.IsReservation,
   Entries.{reduced, with_all},
-  Journal.salt_of,
+  Histories.reported,
+  Journal.{highest, is_journal, salt_of},
+  Keeping.now_durable,
   declared.reservation.Reservation.Reservation,
 }
+use Rattle.macsec_secy.specs.Step.{Input}
+use Rattle.macsec_ahead.specs.Ahead.{Ahead, opening_with}
 use Rattle.macsec_journal.proofs.{
+  Allowed.library-append,
   Pieces.{file_long, whole_guards},
   Written.file_read,
 }
 use Rattle.macsec_journal.specs.{
-  Disk.{IsLeft, Piece, Stands, apart_from, is_apart},
-  Format.{file_of, fits, read_in, twice},
-  History.{CanHappenSo, WithFailure, WithoutFailure, both_written, calls_before, five_runs, lost_and_ordered_again},
+  Disk.{File, IsLeft, Piece, Stands, apart_from, candidates, is_apart},
+  Format.{file_of, fits, is_readable, read_in, twice},
+  History.{CanHappenSo, Has, MeansSo, WithFailure, WithoutFailure, all_kinds, both_written, calls_before, five_runs},
+  History.lost_and_ordered_again,
+  Laws.{AppendsWithin, AreBegunWith, HasKeptNames, HasKeptNamesForgetting, IsKept, IsShort},
   History.{one_run, opened_and_let_go, ordered_again, then_on},
   History.three_runs,
   Machine.{begun, for_endpoint, is_full, with_order, without},
@@ -227,6 +237,68 @@ appends h =
     (subst (λ (read : List Reservation). Leads (begun_in h h.salt read) (then_on h) (OneRun h)) (sym (nothing_read h))
     (appends_so h))
 
+-- ---- what a process has
+
+has : (h : WithFailure) (input : Input) (r : Reservation) (name : List ℕ) → Has h.limit (read_in h.octets ++ h.rs)
+    (after_all (created h.form h.salt) (all_kinds h input r name)).now
+has h input r name =
+    let w : World = created h.form h.salt in
+    let p : Process = opened_by h.limit h.config h.octets w.gone in
+    subst (λ (full : Bool). Has h.limit (read_in h.octets ++ h.rs) (after_all (record w {
+      now = Some (record p {
+        journal = if full then p.journal else with_order h.rs true p.journal;
+        asked = p.asked ++ h.rs;
+      });
+    }) (answers true ∷ takes input ∷ answers false ∷ reports r ∷ lets_go name ∷ opens h.config ∷ [])).now) (sym h.more)
+    (refl, refl, refl, refl)
+
+-- ---- what the laws say
+
+is_short : (limit : ℕ) (octets : List ℕ) → is_journal octets ≡ false → length octets ≤ limit → IsShort limit octets
+is_short limit octets new within = subst (λ (b : Bool). length octets + 128 ≤ limit + (if b then 0 else 128)) (sym new)
+    (omega (arith, within))
+
+begins_with : (f : File) (limit : ℕ) (octets : List ℕ) → AreBegunWith f → limit < 2 ^ 32 → is_journal octets ≡ false →
+    length octets ≤ limit → IsLeft f octets → (is_readable octets ≡ true) ×
+    (fits limit (length (reduced (read_in octets))) ≡ true)
+begins_with f limit octets are small new within left =
+    let so = are limit octets (omega (arith, small)) (is_short limit octets new within) left in (so.readable, so.short)
+
+is_kept : (gone : List (List ℕ)) (name : List ℕ) → All (λ (x : List ℕ). same_octets x name ≡ false) gone → IsKept gone
+    name
+is_kept gone name differ in_it =
+    let contrary : true ≡ false = sym ((bytes_eq-Decides name name).1 refl) ∙ All-contains
+    (λ (x : List ℕ). same_octets x name ≡ false) gone name differ in_it in absurd cc
+
+-- a number that was reported, and none
+never : (n : ℕ) → n ≡ 0 → 0 < n → ⊥
+never n none some = absurd (omega (arith, none, some))
+
+unused : (b later : Begun) → ((name : List ℕ) → highest (reported b.run) name ≡ 0) → HasKeptNames b later ×
+    HasKeptNamesForgetting b later
+unused b later none = (
+  λ name own some in_it. never (highest (reported b.run) name) (none name) some,
+  λ name own some in_it. never (highest (reported b.run) name) (none name) some,
+)
+
+means : MeansSo
+means = record {
+  at_any_moment = λ w input config. (tt, tt);
+  at_rest = λ w p rs anew name rests are. ((rests, are), rests);
+  once_shown = λ w r is. is;
+  on_disk = λ w lost rs n octets within is left.
+      All-get_or (λ (f : File). (octets' : List ℕ) → IsLeft f octets' → (name : List ℕ) → IsKept lost name →
+      highest rs name ≤ highest (read_in octets') name) (candidates w.folder) n w.folder.named within is octets left;
+  accepts = λ run r. ap (λ (a : Ahead). a.taken) (library-append run.inputs (now_durable r) (opening_with true run));
+  begins_with = begins_with;
+  within = λ j it. (omega (arith, it.file), λ is. subst (λ s. AppendsWithin s j) is it.records);
+  nothing = λ said name none. omega (arith, none name);
+  covered = λ salt told f octets damaged harm covers left new at.
+      covers octets damaged harm left new (omega (arith, at));
+  kept = is_kept;
+  unused = unused;
+}
+
 pub can_happen_so : CanHappenSo
 can_happen_so = record {
   fails = λ h. let so = fails h in record { can = so.can; told = so.leads.0; gone = so.leads.1; past = so.leads.2 };
@@ -242,4 +314,6 @@ can_happen_so = record {
       let so = let_go_so h name in
       record { can = so.can; told = so.leads.0; gone = so.leads.1; past = so.leads.2 };
   leaves = λ h. (appends h).leads.1;
+  has = has;
+  means = means;
 }

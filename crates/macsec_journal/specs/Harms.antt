@@ -1,6 +1,8 @@
 -- What this disk can do. Disks, kernels and file systems do these, so a model that leaves one out proves too much.
-use Rattle.std.specs.Prelude.{◌≡◌, ◌≢◌, ◌<◌, ◌≤◌, ◌/◌, ◌%◌, ℕ, List, [], ◌∷◌, ◌++◌, length, take, true, false, Contains}
+use Rattle.std.specs.Prelude.{◌≡◌, ◌≢◌, ◌<◌, ◌≤◌, ◌/◌, ◌%◌, ℕ, suc, List, [], ◌∷◌, ◌++◌, length, take}
+use Rattle.std.specs.Prelude.{Bool, true, false, Contains, Some, slice_index_or}
 use Rattle.std.specs.List.{All}
+use Rattle.sha2.specs.Sha256.{sha256}
 use Rattle.macsec_commands.specs.declared.config.EndConfig.{EndConfig}
 use Rattle.macsec_reserve.specs.Entries.{reduced}
 use Rattle.macsec_reserve.specs.Journal.{header, reserved_in, salt_of}
@@ -8,12 +10,13 @@ use Rattle.macsec_journal.specs.declared.step.Step.{Step}
 use Rattle.macsec_journal.specs.declared.step.Step.TheVariants.{Appending, Syncing, Filling, SyncingNew, Renaming}
 use Rattle.macsec_journal.specs.declared.step.Step.TheVariants.{SyncingFolder}
 use Rattle.macsec_journal.specs.Damage.{IsDamaged, IsNoChance}
-use Rattle.macsec_journal.specs.Disk.{File, Folder, IsLeft, Piece, candidates, empty_file, end_of, folder_left}
+use Rattle.macsec_journal.specs.Disk.{File, Folder, IsLeft, Piece, Stands, candidates, empty_file, end_of, folder_left}
 use Rattle.macsec_journal.specs.Disk.{given_up}
-use Rattle.macsec_journal.specs.Format.{counted_octets, entries_digest, fits, has_header, is_readable, read_in}
-use Rattle.macsec_journal.specs.Format.{slot_of_count}
+use Rattle.macsec_journal.specs.Format.{check_of_file, counted_octets, entries_digest, fits, has_header, is_readable}
+use Rattle.macsec_journal.specs.Format.{read_in, slot_of_count}
 use Rattle.macsec_journal.specs.Machine.{Journal, appended, call_after, whole}
-use Rattle.macsec_journal.specs.World.{CanHappen, Event, World, begins, created, earlier, ends, happens}
+use Rattle.macsec_journal.specs.World.{CanHappen, Event, Process, World, answers, begins, created, earlier, ends}
+use Rattle.macsec_journal.specs.World.{happens}
 
 -- a file that has this piece on the disk, and nothing else
 abbrev pub with_piece : Piece → Folder → Folder
@@ -25,6 +28,10 @@ with_empty_file f = record f { named = empty_file }
 -- the same for the new file beside it
 abbrev pub with_new : List Piece → Folder → Folder
 with_new ps f = record f { new = record { firm = ps; fresh = [] } }
+
+-- two files in which this piece is not synchronized yet
+abbrev pub with_fresh : Piece → Folder → Folder
+with_fresh p f = record f { named = record { firm = []; fresh = p ∷ [] }; new = record { firm = []; fresh = p ∷ [] } }
 
 -- an octet of one piece is in the same sector as an octet of the other piece. A sector has 4,096 octets
 pub record ShareSector (p q : Piece) : Type 0 where
@@ -46,13 +53,35 @@ IsLost f = (octets : List ℕ) → IsLeft f octets
 abbrev pub crash_to : ℕ → Event
 crash_to n = ends n
 
+-- two texts of which SHA-256 has the same first 24 octets
+pub record IsCollision : Type 0 where
+  pub one : List ℕ
+  pub other : List ℕ
+  pub differ : one ≢ other
+  pub same : take 24 (sha256 one) ≡ take 24 (sha256 other)
+
 pub record CanHarm : Type 0 where
+  -- the first octet and the last one of 4,096 are in one sector
+  pub shares : (x y : ℕ) → ShareSector (record { at = 0; octets = x ∷ [] }) (record { at = 4095; octets = y ∷ [] })
+  -- each call can succeed and fail, whatever happened before, and does this to the folder
+  pub calls : (w : World) (p : Process) (ok : Bool) → CanHappen (record w { now = Some p }) (answers ok) ×
+      ((happens (record w { now = Some p }) (answers ok)).folder ≡ call_after ok p.journal w.folder)
   -- a write that fails can damage each piece of which it touches a sector, and so can one that succeeds, until it is
   -- synchronized
   pub tears : (j : Journal) (f : Folder) (p : Piece) → ShareSector (appended j) p → IsLost
       (call_after false (at_call Appending j) (with_piece p f)).named
   pub overwrites : (j : Journal) (f : Folder) (p : Piece) → ShareSector (appended j) p → IsLost
       (call_after true (at_call Appending j) (with_piece p f)).named
+  -- a later synchronization saves neither the octets of a write that failed, nor those in its sectors that were written
+  -- before it and not synchronized
+  pub tears_fresh : (j : Journal) (f : Folder) (p : Piece) → ShareSector (appended j) p → IsLost
+      (call_after true (at_call Syncing j) (call_after false (at_call Appending j) (with_fresh p f))).named
+  pub tears_fresh_new : (j : Journal) (f : Folder) (p : Piece) → ShareSector (whole j) p → IsLost
+      (call_after true (at_call SyncingNew j) (call_after false (at_call Filling j) (with_fresh p f))).new
+  -- octets that were written over may be gone
+  pub replaces : (j : Journal) (f : Folder) (p : Piece) → ShareSector (appended j) p → (octets : List ℕ) → Stands octets
+      (appended j) →
+      IsLeft (call_after true (at_call Syncing j) (call_after true (at_call Appending j) (with_fresh p f))).named octets
   -- what a failed synchronization left is lost, although a later one succeeds
   pub forgets : (j : Journal) (f : Folder) →
       IsLost (call_after true (at_call Syncing j) (call_after false (at_call Syncing j)
@@ -76,6 +105,13 @@ pub record CanHarm : Type 0 where
   pub leads_back_later : (j : Journal) (f : Folder) →
       (folder_left 2 (call_after true (at_call SyncingFolder j) (folder_left 0
       (call_after true (at_call Renaming j) f)))).named ≡ given_up f.named
+  -- after a rename, done or failed, a crash leads the name back to each file to which it could lead it before
+  pub leads_further : (j : Journal) (f : Folder) (n : ℕ) →
+      (folder_left (suc n) (call_after true (at_call Renaming j) f)).named
+      ≡ given_up (slice_index_or (candidates f) n f.new)
+  pub fails_further : (j : Journal) (f : Folder) (n : ℕ) →
+      (folder_left (suc (suc n)) (call_after false (at_call Renaming j) f)).named
+      ≡ given_up (slice_index_or f.back n f.named)
   -- a rename that returned an error was done
   pub renames : (j : Journal) (f : Folder) → Contains (candidates (call_after false (at_call Renaming j) f)) f.new
   -- so is the new file, by a write or a synchronization that fails, or by the end of its process: a later
@@ -106,3 +142,7 @@ pub record CanHarm : Type 0 where
   pub shows : (octets damaged : List ℕ) → has_header damaged ≡ false → reserved_in (slot_of_count damaged) ≡ [] →
       entries_digest (salt_of octets) (counted_octets damaged) ≢ entries_digest (salt_of octets) (counted_octets octets)
       → IsNoChance octets damaged
+  -- other entries have the same digest, and another salt the same check, only by a collision of SHA-256
+  pub collides : (salt one other : List ℕ) → one ≢ other → entries_digest salt one ≡ entries_digest salt other →
+      IsCollision
+  pub collides_salt : (one other : List ℕ) → one ≢ other → check_of_file one ≡ check_of_file other → IsCollision
