@@ -27,8 +27,9 @@ def packed(numbers: Sequence[int], before: int = 0) -> dict[str, object]:
     >>> unpacked(packed([7, 3, 2**64 - 1])), unpacked(packed([300, 100, 428]))
     ([7, 3, 18446744073709551615], [300, 100, 428])
     """
-    differences: list[int] = list(map(operator.sub, numbers, itertools.chain((before,), numbers)))
-    width = min(8, max(map(abs, differences), default=0).bit_length() // 8 + 1)
+    differences = list(map(operator.sub, numbers, itertools.chain((before,), numbers)))
+    largest = max(max(differences, default=0), -min(differences, default=0))
+    width = min(8, largest.bit_length() // 8 + 1)
     columns = array("Q", map(operator.and_, differences, itertools.repeat(_MASK)))
     if sys.byteorder == "big":
         columns.byteswap()
