@@ -10,7 +10,7 @@ import random
 import subprocess
 import time
 from concurrent.futures import ThreadPoolExecutor
-from typing import NamedTuple
+from typing import Callable, NamedTuple
 
 import journal_runs as runs
 from house.reporting import MANY, report, until, wrong
@@ -53,19 +53,44 @@ def make(options: runs.Options, numbers: pathlib.Path, number: int) -> Made:
         return Made(program, kind, (folder / "journal").read_bytes(), frames)
 
 
-def damage(made: Made, rng: random.Random) -> bool:
-    """Changes an octet, or all that follow on it in its sector, and lets a run begin. Is the journal refused? Most
-    octets of a journal fill a sector, so half of the changes are among the first of one."""
+def octets_changed(made: Made, rng: random.Random) -> tuple[bytes, str]:
+    """A journal in which an octet has changed, or all that follow on it in its sector. Most octets of a journal fill a
+    sector, so half of the changes are among the first of one."""
     octets = bytearray(made.octets)
     at = rng.randrange(len(octets))
     at -= at % runs.SECTOR // 128 * 128 if rng.random() < 0.5 else 0
     length = rng.choice((1, min(len(octets), at // runs.SECTOR * runs.SECTOR + runs.SECTOR) - at))
     octets[at : at + length] = bytes(it ^ rng.randrange(1, 256) for it in octets[at : at + length])
+    return bytes(octets), f"octets {at} to {at + length} of {len(octets)} are damaged"
+
+
+def records_changed(made: Made, rng: random.Random) -> tuple[bytes, str]:
+    """A journal in which two records are exchanged, or one is doubled, left out or replaced by another."""
+    records = [made.octets[it : it + runs.RECORD] for it in range(0, len(made.octets), runs.RECORD)]
+    full = [it for it, record in enumerate(records) if it and any(record)]
+    one, other = rng.choice(full), rng.choice(full)
+    kind = rng.choice(("exchanged", "doubled", "left out", "the same"))
+    if kind == "exchanged":
+        records[one], records[other] = records[other], records[one]
+    elif kind == "doubled":
+        records.insert(other, records[one])
+    elif kind == "left out":
+        del records[one]
+    else:
+        records[other] = records[one]
+    return b"".join(records), f"records {one} and {other} of {len(records)} are {kind}"
+
+
+def damage(made: Made, rng: random.Random, change: Callable[[Made, random.Random], tuple[bytes, str]]) -> bool:
+    """Lets a run begin with a changed journal. Is it refused?"""
+    if len(wrong) >= MANY:
+        return False
+    octets, changed = change(made, rng)
     with runs.work_folder() as folder:
         (folder / "journal").write_bytes(octets)
         ended = runs.run(made.program, words_of(made.kind, folder, 1 << 16, 8))
         frames = runs.frames_of(folder / "capture")
-    what = f"octets {at} to {at + length} of {len(octets)} are damaged ({made.program.name} {made.kind})"
+    what = f"{changed} ({made.program.name} {made.kind})"
     refused = ended.status != 0
     report(not refused or any(it in ended.error for it in REFUSALS), f"{what}: {ended}")
     report(not frames if refused else made.frames.isdisjoint(frames), f"{what}: frames again: {ended}")
@@ -102,18 +127,20 @@ def cut(program: pathlib.Path, rng: random.Random) -> bool:
 def check_damage(options: runs.Options) -> None:
     """Damaged journals and cut journals."""
     numbers, jobs = options.numbers, []
-    journals, each, cuts = (12, 15, 60) if options.short else (250, 20, 500)
+    journals, each, others, cuts = (12, 15, 5, 60) if options.short else (250, 20, 2, 500)
     with ThreadPoolExecutor(len(os.sched_getaffinity(0))) as pool:
         made = list(pool.map(lambda it: make(options, numbers, it), range(journals)))
-        for at, number in itertools.product(range(journals), range(each)):
-            rng = random.Random(f"{options.seed} octet {number} of {at}")
-            jobs.append(pool.submit(lambda at=at, rng=rng: len(wrong) < MANY and damage(made[at], rng)))
-        refused = sum(it.result() for it in jobs)
+        for change, times in ((octets_changed, each), (records_changed, others)):
+            for at, number in itertools.product(range(journals), range(times)):
+                rng = random.Random(f"{options.seed} {change.__name__} {number} of {at}")
+                jobs.append(pool.submit(damage, made[at], rng, change))
+        refused = [it.result() for it in jobs]
+    octets, records = sum(refused[: journals * each]), sum(refused[journals * each :])
     # One after another: a program that waits for a processor between a look and an append does not see a cut.
     rngs = [random.Random(f"{options.seed} cut {it}") for it in range(cuts)]
     noticed = sum(map(cut, itertools.cycle((numbers, options.program)), rngs))
     report(noticed > cuts * 3 / 4, f"of {cuts} journals that were cut only {noticed} were written again")
     print(
-        f"damage: of {len(jobs)} journals with another octet {refused} were refused; {noticed} of {cuts} that were cut "
-        "were written again"
+        f"damage: of {journals * each} journals with another octet {octets} were refused, of {journals * others} with "
+        f"another record {records}; {noticed} of {cuts} that were cut were written again"
     )
