@@ -97,20 +97,25 @@ def damage(made: Made, rng: random.Random, change: Callable[[Made, random.Random
     return refused
 
 
-def cut(program: pathlib.Path, rng: random.Random) -> bool:
+def cut(disk: pathlib.Path, program: pathlib.Path, rng: random.Random, waits: bool) -> bool:
     """Cuts the journal of a process, which goes on, and is killed some time after it has written to it again. Was it
-    written as a whole? A journal that is cut in the moment of an append has a hole then, and the next run may refuse
-    it."""
-    what = f"a journal that was cut ({program.name})"
+    written as a whole? It is cut while the process `waits` in a synchronization, so that the next look finds it; or at
+    any moment, also between a look and an append: it has a hole then, and the next run may refuse it."""
+    what = f"a journal that was cut ({program.name}, waits: {waits})"
     with runs.work_folder() as folder:
-        journal, capture = folder / "journal", folder / "capture"
+        journal, capture, pause = folder / "journal", folder / "capture", folder / "pause"
         runs.run(program, ["create", str(journal)])
         words = words_of("send", folder, 1 << 22, 0 if program.name == "journal" else 1 << 40)
-        with subprocess.Popen([str(program), *words], stderr=subprocess.DEVNULL) as process:
-            report(until(runs.has_frames(capture, rng.randrange(24, 5000))), f"{what}: nothing is sent")
+        where = {"LD_PRELOAD": str(disk), "PAUSE": f"fdatasync:{rng.randrange(3, 20)}:{pause}"} if waits else {}
+        with subprocess.Popen(
+            [str(program), *words], env={**os.environ, **where}, stderr=subprocess.DEVNULL
+        ) as process:
+            begun = pause.exists if waits else runs.has_frames(capture, rng.randrange(24, 5000))
+            report(until(begun), f"{what}: it does not begin")
             length = rng.randrange(journal.stat().st_size)
             os.truncate(journal, length)
             inode = journal.stat().st_ino
+            pause.unlink(missing_ok=True)
             is_other = lambda: journal.stat().st_ino != inode
             report(until(lambda: is_other() or journal.stat().st_size > length), f"{what} is not written again")
             noticed = is_other()
@@ -136,11 +141,12 @@ def check_damage(options: runs.Options) -> None:
                 jobs.append(pool.submit(damage, made[at], rng, change))
         refused = [it.result() for it in jobs]
     octets, records = sum(refused[: journals * each]), sum(refused[journals * each :])
-    # One after another: a program that waits for a processor between a look and an append does not see a cut.
-    rngs = [random.Random(f"{options.seed} cut {it}") for it in range(cuts)]
-    noticed = sum(map(cut, itertools.cycle((numbers, options.program)), rngs))
-    report(noticed > cuts * 3 / 4, f"of {cuts} journals that were cut only {noticed} were written again")
+    noticed = {True: 0, False: 0}
+    for number, program in zip(range(cuts), itertools.cycle((numbers, numbers, options.program, options.program))):
+        waits = number % 2 == 0
+        noticed[waits] += cut(options.disk, program, random.Random(f"{options.seed} cut {number}"), waits)
+    report(noticed[True] == cuts // 2, f"of {cuts // 2} journals that were cut only {noticed[True]} were written again")
     print(
         f"damage: of {journals * each} journals with another octet {octets} were refused, of {journals * others} with "
-        f"another record {records}; {noticed} of {cuts} that were cut were written again"
+        f"another record {records}; of {cuts} that were cut {noticed[True]} and {noticed[False]} were written again"
     )

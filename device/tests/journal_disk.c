@@ -11,7 +11,8 @@
  * captured before. The octets follow. Then nothing is synchronized really: what a power failure leaves is for the
  * reader of the log.
  *
- * PAUSE is a file that flock creates when it is called for the first time. It waits until the file is removed. */
+ * PAUSE is CALL:NUMBER:FILE, where CALL is fdatasync or flock. The call of this number makes the file, and begins when
+ * the file is removed. */
 #define _GNU_SOURCE
 #include <dlfcn.h>
 #include <errno.h>
@@ -79,6 +80,24 @@ static int is_refused(int call) {
     return *fault_of(call) != '\0';
 }
 
+/* Waits, if it is the call for that. */
+static void pause_in(int call) {
+    const char *item = getenv("PAUSE");
+    const struct timespec moment = { 0, 1000000 };
+    char name[16];
+    unsigned long number;
+    int at = 0;
+    if (item == NULL)
+        return;
+    if (sscanf(item, "%15[^:]:%lu:%n", name, &number, &at) != 2 || at == 0)
+        abort();
+    if (strcmp(name, calls[call].name) != 0 || calls[call].made + 1 != number)
+        return;
+    close(open(item + at, O_WRONLY | O_CREAT, 0600));
+    for (int it = 0; it < 10000 && access(item + at, F_OK) == 0; it++)
+        nanosleep(&moment, NULL);
+}
+
 /* ---- The log ---- */
 
 static unsigned long written; /* how often a capture was written, at first its header */
@@ -106,7 +125,10 @@ static ino_t inode_of(int file) {
 
 /* Synchronizes a file or folder, if that is not for the reader of the log. */
 static int synchronize(int call, int file, int (*real)(int)) {
-    int refused = is_refused(call), error = errno;
+    int refused, error;
+    pause_in(call);
+    refused = is_refused(call);
+    error = errno;
     note(call, inode_of(file), 0, NULL, 0, !refused);
     errno = error;
     if (!refused && getenv("LOG") == NULL)
@@ -176,12 +198,6 @@ int unlinkat(int folder, const char *name, int flags) {
 }
 
 int flock(int file, int operation) {
-    const char *pause = getenv("PAUSE");
-    const struct timespec moment = { 0, 1000000 };
-    if (pause != NULL && calls[FLOCK].made == 0) {
-        close(open(pause, O_WRONLY | O_CREAT, 0600));
-        for (int it = 0; it < 10000 && access(pause, F_OK) == 0; it++)
-            nanosleep(&moment, NULL);
-    }
+    pause_in(FLOCK);
     return is_refused(FLOCK) ? -1 : REAL(flock)(file, operation);
 }
