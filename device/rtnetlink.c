@@ -108,7 +108,7 @@ static bool read_error(const struct nlmsghdr *header) {
     if (header->nlmsg_len < NLMSG_LENGTH(sizeof *error) || error->error == 0 || error->error == -ENOBUFS ||
         error->error == -ENOMEM)
         return true;
-    errno = -error->error;
+    errno = error->error < -INT32_MAX ? EPROTO : -error->error; /* the lowest number has no negation */
     message_of_errno("LINK is gone");
     return false;
 }
