@@ -40,7 +40,7 @@ pub use pieces::{Opener, Sealer, Unlocked};
 
 /// A GCM key: the schedule of the AES key, and the powers of the hash subkey. Contracts see it as the octets of the AES
 /// key.
-#[derive(Drop)]
+#[derive(Clone, Drop)]
 pub struct GcmKey {
     schedule: LaneSchedule,
     powers: KeyPowers,
@@ -71,8 +71,8 @@ impl GcmKey {
         GcmKey { schedule, powers }
     }
 
-    /// Says whether key streams are to be made 16 blocks at once, for processors with vectors of 256 bits, or eight after
-    /// eight. This changes no result.
+    /// Says whether key streams are to be made 16 blocks at once, for processors with vectors of 256 bits, or eight
+    /// after eight. This changes no result.
     pub fn prefer_wide(&mut self, wide: bool)
         ensures { self.new ≡ self.old }
     {

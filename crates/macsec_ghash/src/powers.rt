@@ -17,7 +17,7 @@ pub const TABLES_LEN: usize = 2_176;
 
 /// Eight powers of a key, from the eighth down to the key itself, as tables of their products with nibbles. Contracts
 /// see them as the key. They are kept because computing them takes seven products.
-#[derive(Drop)]
+#[derive(Clone, Drop)]
 pub struct KeyPowers {
     key: Block,
     pub(crate) tables: [u8; TABLES_LEN],

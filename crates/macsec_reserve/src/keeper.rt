@@ -1,6 +1,8 @@
 //! The keeping endpoint.
 
-ghost use Rattle.std.specs.Prelude.{◌≡◌, ◌≤◌, ◌+◌, ◌++◌, ◌==◌, ◌&&◌, List, ℕ, true, drop, length, map, option_and_then, option_map, Some, None, Err, IfErr, IfSome, is_some, ◌-◌, ◌^◌, min, IfOk, OnErr, nat_lt, nat_le, vec_capacity, vec_len, if◌then◌else◌};
+ghost use Rattle.std.specs.Prelude.{◌≡◌, ◌≤◌, ◌+◌, ◌++◌, ◌==◌, ◌&&◌, List, ℕ, true, drop, length, map, option_and_then};
+ghost use Rattle.std.specs.Prelude.{option_map, Some, None, Err, IfErr, IfSome, is_some, ◌-◌, ◌^◌, min, IfOk, OnErr};
+ghost use Rattle.std.specs.Prelude.{nat_lt, nat_le, vec_capacity, vec_len, if◌then◌else◌};
 ghost use Rattle.std.specs.Borrow.{sem};
 ghost use Rattle.macsec_aes.specs.Keys.{key_bytes};
 ghost use Rattle.macsec_tx.specs.Rows.{IsEnabled};
@@ -18,12 +20,15 @@ ghost use Rattle.macsec_tag.specs.Limits.{max_frame_len};
 ghost use Rattle.macsec_suite.specs.KeyRows.{key_row};
 ghost use Rattle.macsec_reserve.specs.Forgetting.{as_taken, can_forget, fingerprint_of, forgetting, forgetting_step};
 ghost use Rattle.macsec_reserve.specs.Journal.{highest, sending_name};
-ghost use Rattle.macsec_reserve.specs.Keeping.{begins_at, endpoint_input, endpoint_output, is_below_floor, keeping_step, may_go, now_durable, rx_floor, tx_floor, uses_reserved, wanted_for, wanted_last, was_reserved};
+ghost use Rattle.macsec_reserve.specs.Keeping.{begins_at, endpoint_input, endpoint_output, is_below_floor};
+ghost use Rattle.macsec_reserve.specs.Keeping.{keeping_step, may_go, now_durable, rx_floor, tx_floor, uses_reserved};
+ghost use Rattle.macsec_reserve.specs.Keeping.{wanted_for, wanted_last, was_reserved};
 ghost use Rattle.macsec_reserve.specs.Limited.{limited_keeping_step};
 ghost use Rattle.macsec_reserve.specs.Names.{IsAtHand, entry_of, name_or_none, name_row, names_after, place_named};
 ghost use Rattle.macsec_suite.specs.Refusals.{refusal_of};
 ghost use Rattle.macsec_secy.specs.Renewing.{renewal_refusal};
-ghost use Rattle.macsec_reserve.specs.Renewing.{forgetting_refusal, is_given_up, forgetting_after_renewing, keeping_after_renewing};
+ghost use Rattle.macsec_reserve.specs.Renewing.{forgetting_refusal, is_given_up, forgetting_after_renewing};
+ghost use Rattle.macsec_reserve.specs.Renewing.{keeping_after_renewing};
 ghost use Rattle.macsec_reserve.specs.Replay.{row_name, saved_for};
 ghost use Rattle.macsec_reserve.specs.Rests.{RestsAs};
 
@@ -88,7 +93,13 @@ impl Model for Keeper {
 
     ghost Value = { Keeping };
 
-    ghost view = { λ k. record { secy = k.secy.value; keeps = k.keeps; salt = k.salt; before = k.before.items; granted = k.granted.items } };
+    ghost view = { λ k. record {
+      secy = k.secy.value;
+      keeps = k.keeps;
+      salt = k.salt;
+      before = k.before.items;
+      granted = k.granted.items;
+    } };
 
     // The endpoint's keys have these names, it is sound, and there is capacity for all keys that it can have.
     ghost invariant = { λ k. IsKept k.secy.value k.salt k.names.items (vec_capacity k.names) (vec_capacity k.granted)
@@ -179,6 +190,27 @@ impl Keeper {
         })
     }
 
+    /// A second keeper that is equal to this one: with its endpoint, names and reservations. Of two such keepers only
+    /// one may send or receive from then on, or an IV is used twice.
+    pub fn try_clone(&self, alloc: Global) -> Result<Keeper, AllocError>
+        ensures { IfOk result (λ k. k ≡ self.now) }
+    {
+        let secy = boxed_clone(alloc, &self.secy)?;
+        let mut granted = Vec::with_capacity(alloc, KEY_COUNT)?;
+        granted.extend_from_slice(self.granted.as_slice())?;
+        let mut names = Vec::with_capacity(alloc, KEY_COUNT)?;
+        names.extend_from_slice(self.names.as_slice())?;
+        Ok(Keeper {
+            secy,
+            keeps: self.keeps,
+            salt: self.salt,
+            before: self.before.clone()?,
+            granted,
+            names,
+            at_hand: self.at_hand,
+        })
+    }
+
     /// Says whether key streams are to be made 16 blocks at once, as `Secy::prefer_wide`.
     pub fn prefer_wide(&mut self, wide: bool)
         ensures { self.new ≡ self.old }
@@ -252,8 +284,8 @@ impl Keeper {
         self.keeps
     }
 
-    /// The highest packet number that an earlier run may have used to send under the key of this number. It is 0 if there
-    /// is none, and `None` if there is no such key. A transmit association begins above it.
+    /// The highest packet number that an earlier run may have used to send under the key of this number. It is 0 if
+    /// there is none, and `None` if there is no such key. A transmit association begins above it.
     pub fn tx_floor(&self, key: KeyNumber) -> Option<u64>
         ensures { result ≡ tx_floor self.now key }
     {
@@ -280,7 +312,8 @@ impl Keeper {
 
     /// Transmits a client frame, as `Secy::send`, unless that uses a packet number that is not reserved.
     pub fn send<'a>(&'a mut self, frame: &'a [u8]) -> Result<KeptSent<'a>, FrameFault>
-        ensures* after { sem 𝓛 (RestsAs self.entry (keeping_step self.old (endpoint_input (client_frame frame.now))).1) }
+        ensures* after { sem 𝓛 (RestsAs self.entry (keeping_step self.old (endpoint_input
+            (client_frame frame.now))).1) }
         ensures output { output_of_kept result ≡ (keeping_step self.old (endpoint_input (client_frame frame.now))).0 }
         ensures sound { IsSound (keeping_step self.old (endpoint_input (client_frame frame.now))).1.secy }
     {
@@ -297,7 +330,8 @@ impl Keeper {
     /// Plans a client frame, as `Secy::plan_send`, unless that uses a packet number that is not reserved.
     pub fn plan_send<'a>(&mut self, frame: &'a [u8]) -> Result<KeptPlan<'a>, FrameFault>
         ensures after { self.new ≡ (keeping_step self.old (endpoint_input (client_frame frame.now))).1 }
-        ensures output { PlansKept result self.new.secy.keys frame.now (keeping_step self.old (endpoint_input (client_frame frame.now))).0 }
+        ensures output { PlansKept result self.new.secy.keys frame.now (keeping_step self.old (endpoint_input
+            (client_frame frame.now))).0 }
         ensures sound { IsSound self.new.secy }
     {
         let enabled = self.secy.enabled_sa();
@@ -320,7 +354,8 @@ impl Keeper {
         requires room { max_frame_len ≤ length out.old }
         requires opened { OpensFrame opened.now self.old.secy.keys frame.now out.old }
         ensures after { self.new ≡ (keeping_step self.old (endpoint_input (link_frame frame.now))).1 }
-        ensures output { endpoint_output (output_of_received result) ≡ (keeping_step self.old (endpoint_input (link_frame frame.now))).0 }
+        ensures output { endpoint_output (output_of_received result)
+            ≡ (keeping_step self.old (endpoint_input (link_frame frame.now))).0 }
         ensures sound { IsSound self.new.secy }
     {
         self.secy.finish_receive(frame, opened, out)
@@ -328,7 +363,8 @@ impl Keeper {
 
     /// Transmits a client frame of the uncontrolled port, as `Secy::send_uncontrolled`.
     pub fn send_uncontrolled<'a>(&self, frame: &'a [u8]) -> Result<&'a [u8], FrameFault>
-        ensures output { endpoint_output (output_of_frame result) ≡ (keeping_step self.now (endpoint_input (uncontrolled_frame frame.now))).0 }
+        ensures output { endpoint_output (output_of_frame result)
+            ≡ (keeping_step self.now (endpoint_input (uncontrolled_frame frame.now))).0 }
         ensures after { (keeping_step self.now (endpoint_input (uncontrolled_frame frame.now))).1 ≡ self.now }
     {
         self.secy.send_uncontrolled(frame)
@@ -337,7 +373,8 @@ impl Keeper {
     /// Receives a link frame, as `Secy::receive`.
     pub fn receive<'a>(&'a mut self, frame: &'a [u8]) -> Result<Received<'a>, FrameFault>
         ensures* after { sem 𝓛 (RestsAs self.entry (keeping_step self.old (endpoint_input (link_frame frame.now))).1) }
-        ensures output { endpoint_output (output_of_received result) ≡ (keeping_step self.old (endpoint_input (link_frame frame.now))).0 }
+        ensures output { endpoint_output (output_of_received result)
+            ≡ (keeping_step self.old (endpoint_input (link_frame frame.now))).0 }
         ensures sound { IsSound (keeping_step self.old (endpoint_input (link_frame frame.now))).1.secy }
     {
         self.secy.receive(frame)
@@ -354,7 +391,8 @@ impl Keeper {
         requires room { max_frame_len ≤ length out.old }
         requires opened { OpensFrame opened.now self.old.secy.keys frame.now out.old }
         ensures after { self.new ≡ (limited_keeping_step self.old limits.now frame.now).1 }
-        ensures output { output_of_placed result frame.now out.new ≡ (limited_keeping_step self.old limits.now frame.now).0 }
+        ensures output { output_of_placed result frame.now out.new
+            ≡ (limited_keeping_step self.old limits.now frame.now).0 }
         ensures within { IsPlacedWithin result (length out.new) }
         ensures before { IsSound self.old.secy }
     {
@@ -376,7 +414,8 @@ impl Keeper {
     /// Carries out a management command, as `Secy::command`. If an association would begin at a packet number that an
     /// earlier run may have used, the command is refused with `PnFloor`, before any other refusal.
     pub fn command(&mut self, command: &Command) -> Result<(), Refusal>
-        ensures output { endpoint_output (output_of_command result) ≡ (keeping_step self.old (endpoint_input (operator_command command.now))).0 }
+        ensures output { endpoint_output (output_of_command result)
+            ≡ (keeping_step self.old (endpoint_input (operator_command command.now))).0 }
         ensures after { self.new ≡ (keeping_step self.old (endpoint_input (operator_command command.now))).1 }
         ensures sound { IsSound self.new.secy }
     {
@@ -396,12 +435,13 @@ impl Keeper {
 
     /// Carries out a management command, as `command`, and forgets a key that it retires: of the key's octets only a
     /// fingerprint stays, by which they are still refused. It refuses as `command` does, except that a new association
-    /// under a forgotten key can be refused with `KeyRetired` in place of `PnFloor`. `tx_floor` and `rx_floor` no longer
-    /// find what an earlier run reserved under a forgotten key.
+    /// under a forgotten key can be refused with `KeyRetired` in place of `PnFloor`. `tx_floor` and `rx_floor` no
+    /// longer find what an earlier run reserved under a forgotten key.
     ///
     /// Do not pass what was opened under a key to `finish_receive` once the key is forgotten.
     pub fn command_forgetting(&mut self, command: &Command) -> Result<(), Refusal>
-        ensures output { endpoint_output (output_of_command result) ≡ (forgetting_step self.old (endpoint_input (operator_command command.now))).0 }
+        ensures output { endpoint_output (output_of_command result)
+            ≡ (forgetting_step self.old (endpoint_input (operator_command command.now))).0 }
         ensures after { self.new ≡ (forgetting_step self.old (endpoint_input (operator_command command.now))).1 }
         ensures sound { IsSound self.new.secy }
     {
@@ -421,12 +461,13 @@ impl Keeper {
         }
     }
 
-    /// Installs a key, as `Secy::renew_key`: also under the number of a retired key that no association uses. What earlier
-    /// runs reserved stays known by the names of the keys, so a transmit association under the new key begins above what was
-    /// reserved under its octets. Nothing is reserved for the new key; what is reserved for every other key stays.
+    /// Installs a key, as `Secy::renew_key`: also under the number of a retired key that no association uses. What
+    /// earlier runs reserved stays known by the names of the keys, so a transmit association under the new key begins
+    /// above what was reserved under its octets. Nothing is reserved for the new key; what is reserved for every other
+    /// key stays.
     ///
-    /// The name of the key that was there is given up, for which 40 octets are needed: `AllocError` means that there is no
-    /// memory for them, and changes nothing.
+    /// The name of the key that was there is given up, for which 40 octets are needed: `AllocError` means that there is
+    /// no memory for them, and changes nothing.
     pub fn renew_key(&mut self, key: &NewKey) -> Result<Result<(), Refusal>, AllocError>
         ensures refusal { IfOk result (λ answer. refusal_of answer ≡ renewal_refusal self.old.secy key.now) }
         ensures after { IfOk result (λ answer. self.new ≡ keeping_after_renewing key.now self.old) }
@@ -466,8 +507,8 @@ impl Keeper {
         }
     }
 
-    /// Installs a key, as `renew_key`. It also refuses octets that are given up, and, as `command_forgetting` does, those of
-    /// a forgotten key.
+    /// Installs a key, as `renew_key`. It also refuses octets that are given up, and, as `command_forgetting` does,
+    /// those of a forgotten key.
     pub fn renew_forgetting(&mut self, key: &NewKey) -> Result<Result<(), Refusal>, AllocError>
         ensures refusal { IfOk result (λ answer. refusal_of answer ≡ forgetting_refusal self.old key.now) }
         ensures after { IfOk result (λ answer. self.new ≡ forgetting_after_renewing self.old key.now) }
@@ -644,6 +685,19 @@ fn boxed_endpoint(alloc: Global, config: EndConfig) -> Result<Box<Secy, Global>,
         return Err(NewFault::Memory);
     };
     Ok(secy)
+}
+
+/// A second endpoint that is equal to this one, on the heap.
+fn boxed_clone(alloc: Global, secy: &Secy) -> Result<Box<Secy, Global>, AllocError>
+    ensures equal { IfOk result (λ made. made.value ≡ secy.now) }
+    ensures sound { IfOk result (λ made. IsSound made.value) }
+{
+    // A copy that is moved would take far more of the stack.
+    let Ok(mut made) = boxed_endpoint(alloc, secy.config()) else {
+        return Err(AllocError);
+    };
+    made.try_copy_from(alloc, secy)?;
+    Ok(made)
 }
 
 /// What is reserved for a key.

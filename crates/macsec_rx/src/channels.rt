@@ -1,6 +1,7 @@
 //! The receive SCs and their SAs, and the commands on them.
 
-ghost use Rattle.std.specs.Prelude.{◌≡◌, ◌≤◌, [], ◌∷◌, ◌++◌, length, true, map, slice_get, slice_set, false, IfOk, IfSome, IsSomeAnd, MatchOption, None, OnErr, OnOk, Some, option_map};
+ghost use Rattle.std.specs.Prelude.{◌≡◌, ◌≤◌, [], ◌∷◌, ◌++◌, length, true, map, slice_get, slice_set, false, IfOk};
+ghost use Rattle.std.specs.Prelude.{IfSome, IsSomeAnd, MatchOption, None, OnErr, OnOk, Some, option_map};
 ghost use Rattle.macsec_suite.specs.Refusals.{first_refusal, refusal_of};
 ghost use Rattle.macsec_rx.specs.Channels.{is_at, no_channels, rx_row, with_rx};
 ghost use Rattle.macsec_rx.specs.Index.{row_of_found};
@@ -8,8 +9,10 @@ ghost use Rattle.macsec_rx.specs.Limits.{max_row_count};
 ghost use Rattle.macsec_rx.specs.Rows.{AreChannels, IsRxRow};
 ghost use Rattle.macsec_commands.specs.Scis.{IsSci};
 ghost use Rattle.macsec_rx.specs.Judge.{in_use, only_channel, port_of, row_accepting, rows_accepting, sci_of};
-ghost use Rattle.macsec_rx.specs.Commands.{HaveRxKeys, channels_narrowed, has_channel, row_narrowed, rx_low_refusals, rx_row_refusals, rx_sa_refusals, rx_sc_del_refusals};
-ghost use Rattle.macsec_rx.specs.Commands.{rx_sc_refusals, rx_uses, with_channel, with_rx_low, with_rx_on, with_rx_sa, without_channel, without_rx};
+ghost use Rattle.macsec_rx.specs.Commands.{HaveRxKeys, channels_narrowed, has_channel, row_narrowed, rx_low_refusals};
+ghost use Rattle.macsec_rx.specs.Commands.{rx_row_refusals, rx_sa_refusals, rx_sc_del_refusals};
+ghost use Rattle.macsec_rx.specs.Commands.{rx_sc_refusals, rx_uses, with_channel, with_rx_low, with_rx_on, with_rx_sa};
+ghost use Rattle.macsec_rx.specs.Commands.{without_channel, without_rx};
 
 use crate::RxRow;
 use crate::index::{channel_place, empty_index, index_of, slot};
@@ -73,6 +76,21 @@ impl RxChannels {
         }
     }
 
+    /// Become equal to other receive SCs.
+    pub fn copy_from(&mut self, other: &RxChannels)
+        ensures { self.new ≡ other.now }
+    {
+        self.scis.clear();
+        self.scis
+            .try_extend_from_slice(other.scis.as_slice())
+            .unwrap();
+        self.rows.clear();
+        self.rows
+            .try_extend_from_slice(other.rows.as_slice())
+            .unwrap();
+        self.places = other.places;
+    }
+
     /// Returns the SCI of an SC by its position in the order of creation, from 0.
     pub fn channel(&self, place: usize) -> Option<Sci>
         ensures { result ≡ slice_get self.now.scis place }
@@ -99,7 +117,8 @@ impl RxChannels {
     /// The SA with this SCI and association number, with its positions.
     #[inline(always)]
     fn found(&self, sci: Sci, an: An) -> Option<Found>
-        ensures row { MatchOption result (rx_row self.now.rows sci an ≡ None) (λ f. rx_row self.now.rows sci an ≡ Some f.row) }
+        ensures row { MatchOption result (rx_row self.now.rows sci an ≡ None) (λ f. rx_row self.now.rows sci an
+            ≡ Some f.row) }
         ensures place { IfSome result (λ f. slice_get self.now.rows f.place ≡ Some f.row) }
         ensures channel { IfSome result (λ f. slice_get self.now.scis f.channel ≡ Some f.row.sci) }
         ensures channels { AreChannels self.now }
@@ -334,7 +353,8 @@ impl RxChannels {
     /// The SA of a received frame, with its positions: the one with its SCI and association number, if it is enabled.
     #[inline(always)]
     pub(crate) fn in_use(&self, mpdu: &Mpdu<'_>) -> Option<Found>
-        ensures row { option_map row_of_found result ≡ in_use self.now.rows mpdu.now.tag.an (sci_of self.now.scis mpdu.now) }
+        ensures row { option_map row_of_found result
+            ≡ in_use self.now.rows mpdu.now.tag.an (sci_of self.now.scis mpdu.now) }
         ensures place { IfSome result (λ f. slice_get self.now.rows f.place ≡ Some f.row) }
         ensures channel { IfSome result (λ f. slice_get self.now.scis f.channel ≡ Some f.row.sci) }
         ensures channels { AreChannels self.now }
@@ -350,7 +370,11 @@ impl RxChannels {
     /// SA or no number. `window` is the replay window.
     pub(crate) fn accept_at(&mut self, found: &Option<Found>, number: Option<u64>, window: u64)
         requires { IfSome found.now (λ f. slice_get self.old.rows f.place ≡ Some f.row) }
-        ensures accepted { self.new ≡ record self.old { rows = rows_accepting window number (option_map row_of_found found.now) self.old.rows } }
+        ensures accepted { self.new
+            ≡ record self.old {
+              rows = rows_accepting window number
+                  (option_map row_of_found found.now) self.old.rows;
+            } }
         ensures channels { AreChannels self.new }
     {
         // For the prover, as in `rx_sc`.
@@ -366,7 +390,8 @@ impl RxChannels {
     /// replay window.
     fn accept(&mut self, place: usize, row: &RxRow, number: u64, window: u64)
         requires { slice_get self.old.rows place ≡ Some row.now }
-        ensures accepted { self.new ≡ record self.old { rows = with_rx (row_accepting window number) row.now.sci row.now.an self.old.rows } }
+        ensures accepted { self.new
+            ≡ record self.old { rows = with_rx (row_accepting window number) row.now.sci row.now.an self.old.rows } }
         ensures channels { AreChannels self.new }
     {
         // For the prover, as in `rx_sc`.

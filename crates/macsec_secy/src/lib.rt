@@ -8,9 +8,10 @@
 //! associations, `rx_sa_counters`) and of `rx_removed`. Each link frame of 14 to 9,248 octets raises the sum of the
 //! InPkts counters of the endpoint and its receive SCs by one, modulo 2^64. Of all other calls only a `command` that
 //! deletes a receive SC can change that sum (`AddsFrames`). The calls that make or change an endpoint also state what
-//! holds of it at all times (`IsSound`, which includes `Agrees`). By its type only `new` takes an allocator.
-//! Two calls are no steps. `replace_key` gives a retired key other octets. `renew_key` gives a new key the number and the
-//! row of a retired one that no SA uses. Each changes nothing else.
+//! holds of it at all times (`IsSound`, which includes `Agrees`). By their types only `new` and `try_copy_from`, which
+//! makes an endpoint equal to another, take an allocator. Two calls are no steps. `replace_key` gives a retired key
+//! other octets. `renew_key` gives a new key the number and the row of a retired one that no SA uses. Each changes
+//! nothing else.
 //!
 //! Proved: the cipher's work for a frame can be left to another thread. `plan_send` is the step of `send` and returns a
 //! `SealJob`, which makes the frame that `send` would return. `plan_receive` changes nothing and returns the `OpenJob`
@@ -19,9 +20,9 @@
 //! between a plan and its job are, the result of the job is the same. `send_by` and `plan_send_by` are `send` and
 //! `plan_send` for a caller that has found the enabled SA already (`enabled_sa`).
 //!
-//! Proved: `receive_into` is the step of `finish_receive`, except that a packet number is accepted only within limits for
-//! its receive SA (`specs/Limited.antt`). A valid frame outside them is dropped, and changes nothing. The result says where
-//! the delivered frame is, and `limited_received` returns the frames.
+//! Proved: `receive_into` is the step of `finish_receive`, except that a packet number is accepted only within limits
+//! for its receive SA (`specs/Limited.antt`). A valid frame outside them is dropped, and changes nothing. The result
+//! says where the delivered frame is, and `limited_received` returns the frames.
 //!
 //! Laws of the machine (`laws`). `uses_no_number_twice`: for every list of inputs, the packet numbers of the frames
 //! sent protected under one key number rise in the order of sending. `accepts_sent`: a frame that another endpoint
@@ -33,15 +34,17 @@
 //! that protects or delivers a frame.
 #![tactic(auto)]
 
-ghost use Rattle.std.specs.Prelude.{◌≡◌, ◌≤◌, IfOk, IfSome, length, option_map};
+ghost use Rattle.std.specs.Prelude.{◌≡◌, ◌≤◌, IfOk, IfSome, OnErr, OnOk, length, option_map};
 ghost use Rattle.macsec_tag.specs.Limits.{max_frame_len};
 ghost use Rattle.macsec_secy.specs.Jobs.{IsOfJob, OpensFrame, job_of_frame};
 ghost use Rattle.macsec_suite.specs.KeyRows.{key_row, prepared_key};
 ghost use Rattle.macsec_suite.specs.KeyTables.{IsPlace};
 ghost use Rattle.macsec_tx.specs.Rows.{IsEnabled};
 ghost use Rattle.std.specs.Borrow.{sem};
-ghost use Rattle.macsec_secy.specs.Step.{client_frame, frame_fault, link_frame, operator_command, step, uncontrolled_frame};
-ghost use Rattle.macsec_secy.specs.Answers.{IfPlanned, MakesEndpoint, output_of_command, output_of_frame, output_of_received, output_of_sent, PlansOutput};
+ghost use Rattle.macsec_secy.specs.Step.{client_frame, frame_fault, link_frame, operator_command, step};
+ghost use Rattle.macsec_secy.specs.Step.{uncontrolled_frame};
+ghost use Rattle.macsec_secy.specs.Answers.{IfPlanned, MakesEndpoint, output_of_command, output_of_frame};
+ghost use Rattle.macsec_secy.specs.Answers.{output_of_received, output_of_sent, PlansOutput};
 ghost use Rattle.macsec_secy.specs.Laws.{number_of_row, number_used};
 ghost use Rattle.macsec_secy.specs.Limited.{IsPlacedWithin, limited_step, output_of_placed};
 ghost use Rattle.macsec_secy.specs.Rests.{RestsAs};
@@ -80,7 +83,7 @@ use macsec_tx::{TxChannel, TxPlan};
 pub use options::Options;
 pub use reception::{Delivered, Outcome, limited_received};
 use reception::{receive_frame, receive_frame_within};
-use std::alloc::Global;
+use std::alloc::{AllocError, Global};
 use std::marker::Model;
 
 /// An endpoint (SecY). Contracts see it as a state of the machine.
@@ -134,7 +137,7 @@ impl Secy {
     /// Creates an endpoint with this configuration. It has no keys and no SAs, and its counters are 0. It protects
     /// frames, validates strictly, and drops late frames with a replay window of 0. Fails with the first of `MaxFrame`,
     /// `SciForm` and `Memory` that applies; `Memory` means that its key table or its frame buffer could not be
-    /// allocated. No later call takes an allocator, so no later call can run out of memory.
+    /// allocated. No later call but `try_copy_from` takes an allocator, so no other call can run out of memory.
     pub fn new(alloc: Global, config: EndConfig) -> Result<Secy, NewFault>
         ensures result { MakesEndpoint config result }
         ensures sound { IfOk result IsSound }
@@ -167,8 +170,29 @@ impl Secy {
         })
     }
 
-    /// Says whether key streams are to be made 16 blocks at once, for processors with vectors of 256 bits. This changes no
-    /// result.
+    /// Becomes equal to another endpoint: with its keys, SAs, packet numbers and counters. Of two such endpoints only
+    /// one may send or receive from then on, or an IV is used twice. If memory runs out, nothing changes.
+    pub fn try_copy_from(&mut self, alloc: Global, other: &Secy) -> Result<(), AllocError>
+        ensures equal { OnOk result (self.new ≡ other.now) }
+        ensures sound { OnOk result (IsSound self.new) }
+        ensures unchanged { OnErr result (self.new ≡ self.old) }
+    {
+        self.keys = other.keys.try_clone(alloc)?;
+        self.config = other.config;
+        self.options = other.options;
+        self.tx.copy_from(&other.tx);
+        self.rx.copy_from(&other.rx);
+        self.counters = other.counters;
+        self.tx_counters = other.tx_counters;
+        self.rx_counters.clear();
+        self.rx_counters
+            .try_extend_from_slice(other.rx_counters.as_slice())
+            .unwrap();
+        Ok(())
+    }
+
+    /// Says whether key streams are to be made 16 blocks at once, for processors with vectors of 256 bits. This changes
+    /// no result.
     pub fn prefer_wide(&mut self, wide: bool)
         ensures { self.new ≡ self.old }
     {
@@ -334,8 +358,8 @@ impl Secy {
         Some(&row.suite_key)
     }
 
-    /// The association by which `send` would protect this client frame, with the packet number that it would use. `None`
-    /// if it would use none. Nothing changes.
+    /// The association by which `send` would protect this client frame, with the packet number that it would use.
+    /// `None` if it would use none. Nothing changes.
     pub fn next_row(&self, frame: &[u8]) -> Option<TxRow>
         ensures { number_of_row result ≡ number_used self.now (client_frame frame.now) }
     {
@@ -433,12 +457,12 @@ impl Secy {
         Ok(outcome.received(frame, out))
     }
 
-    /// Receives a link frame as `finish_receive` does, except that it accepts a packet number only within limits (10.6).
-    /// `limits` has those of each receive SA, in the order of `rx_rows`. An SA without an entry has no limits.
+    /// Receives a link frame as `finish_receive` does, except that it accepts a packet number only within limits
+    /// (10.6). `limits` has those of each receive SA, in the order of `rx_rows`. An SA without an entry has no limits.
     ///
-    /// Returns where the delivered frame is, for `limited_received`; or, as `Ok(Err(..))`, that the frame is valid and its
-    /// packet number is outside the limits. Such a frame is dropped. It changes nothing except `out`, which may have
-    /// octets of its plaintext.
+    /// Returns where the delivered frame is, for `limited_received`; or, as `Ok(Err(..))`, that the frame is valid and
+    /// its packet number is outside the limits. Such a frame is dropped. It changes nothing except `out`, which may
+    /// have octets of its plaintext.
     pub fn receive_into(
         &mut self,
         limits: &[PnLimits],

@@ -1,7 +1,9 @@
 //! The calls that read the state of an endpoint.
 
-ghost use Rattle.std.specs.Prelude.{◌≡◌, ◌+◌, ◌≤◌, is_some, length, slice_get};
+ghost use Rattle.std.specs.Prelude.{◌≡◌, ◌+◌, ◌≤◌, is_some, length, option_map, slice_get};
 ghost use Rattle.macsec_suite.specs.KeyNumbers.{max_key_count};
+ghost use Rattle.macsec_suite.specs.KeyRows.{key_row};
+ghost use Rattle.macsec_suite.specs.KeyTables.{first_unused_of};
 ghost use Rattle.macsec_tx.specs.Transmit.{row_on, tx_row};
 ghost use Rattle.macsec_tx.specs.Rows.{IsEnabled};
 ghost use Rattle.macsec_rx.specs.Channels.{rx_row};
@@ -12,11 +14,18 @@ ghost use Rattle.macsec_secy.specs.AssociationSums.{rx_sums_of};
 ghost use Rattle.macsec_secy.specs.Sound.{IsSound};
 
 use crate::{
-    An, ChannelCounters, Counters, EnabledSa, Options, RxCounters, RxRow, Sci, Secy, TxCounters,
-    TxRow,
+    An, ChannelCounters, Counters, EnabledSa, EndConfig, KeyNumber, Options, RxCounters, RxRow,
+    Sci, Secy, TxCounters, TxRow,
 };
 
 impl Secy {
+    /// The configuration with which it was made.
+    pub fn config(&self) -> EndConfig
+        ensures { result ≡ self.now.config }
+    {
+        self.config
+    }
+
     /// The options that commands set.
     pub fn options(&self) -> Options
         ensures { result ≡ self.now.options }
@@ -43,6 +52,13 @@ impl Secy {
         ensures { result + length self.now.keys ≡ max_key_count }
     {
         self.keys.keys_left()
+    }
+
+    /// The first packet number that was never used under the key of this number, if there is such a key.
+    pub fn first_unused(&self, number: KeyNumber) -> Option<u128>
+        ensures { result ≡ option_map first_unused_of (key_row self.now.keys number) }
+    {
+        self.keys.first_unused(number)
     }
 
     /// The transmit SA (secure association) with this number, if it exists.

@@ -28,7 +28,7 @@ pub struct NewKey {
 }
 
 /// An installed key: one row of a `KeyTable`.
-#[derive(Drop)]
+#[derive(Clone, Drop)]
 pub struct KeyRow {
     /// The key as installed, with its suite filled in.
     pub key: NewKey,

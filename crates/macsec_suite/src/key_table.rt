@@ -1,14 +1,19 @@
 //! The table of an endpoint's keys (IEEE 802.1AE, 10.7).
 
-ghost use Rattle.std.specs.Prelude.{◌≡◌, ◌≤◌, ◌+◌, true, not, [], ◌∷◌, ◌++◌, length, map, slice_get, IfOk, OnOk, OnErr, IfSome, MatchOption, is_some, option_map, Some, None};
+ghost use Rattle.std.specs.Prelude.{◌≡◌, ◌≤◌, ◌+◌, true, not, [], ◌∷◌, ◌++◌, length, map, slice_get, vec_capacity};
+ghost use Rattle.std.specs.Prelude.{vec_len, IfOk, OnOk, OnErr, IfSome, MatchOption, is_some, option_map, Some, None};
 ghost use Rattle.std.specs.Bool.{OnTrue, OnFalse};
 ghost use Rattle.std.specs.List.{All, list_any};
 ghost use Rattle.macsec_aes.specs.Keys.{key_bytes};
 ghost use Rattle.macsec_gcm.specs.Octets.{same_octets};
-ghost use Rattle.macsec_suite.specs.KeyRows.{AreKeyRows, is_extended, key_row, keys_noting, keys_replacing, keys_retiring, keys_with, max_key_count, new_row, suite_of, the_key, widest_beside, with_bytes};
-ghost use Rattle.macsec_suite.specs.KeyTables.{HasOwnKey, IsPlace, extended_count, first_unused_of, row_shown, stored_row};
+ghost use Rattle.macsec_suite.specs.KeyRows.{AreKeyRows, is_extended, key_row, keys_noting, keys_replacing};
+ghost use Rattle.macsec_suite.specs.KeyRows.{keys_retiring, keys_with, max_key_count, new_row, suite_of, the_key};
+ghost use Rattle.macsec_suite.specs.KeyRows.{widest_beside, with_bytes};
+ghost use Rattle.macsec_suite.specs.KeyTables.{HasOwnKey, IsPlace, extended_count, first_unused_of, row_shown};
+ghost use Rattle.macsec_suite.specs.KeyTables.{stored_row};
 ghost use Rattle.macsec_suite.specs.Suites.{key_length};
-ghost use Rattle.macsec_suite.specs.Refusals.{first_refusal, has_retired, install_refusals, is_repeated, is_retired_with, refusal_of, retire_refusals};
+ghost use Rattle.macsec_suite.specs.Refusals.{first_refusal, has_retired, install_refusals, is_repeated};
+ghost use Rattle.macsec_suite.specs.Refusals.{is_retired_with, refusal_of, retire_refusals};
 ghost use Rattle.macsec_suite.specs.Refusals.{is_retired};
 ghost use Rattle.macsec_suite.specs.Renewing.{add_refusals, is_number_taken, keys_added, keys_renewing};
 ghost use Rattle.macsec_suite.specs.Replacing.{can_replace};
@@ -44,7 +49,7 @@ impl KeyPlace {
 }
 
 /// An installed key and the first packet number that was never used under it.
-#[derive(Drop)]
+#[derive(Clone, Drop)]
 pub struct StoredKey {
     row: KeyRow,
     first_unused: u128,
@@ -94,8 +99,22 @@ impl KeyTable {
         })
     }
 
-    /// Says whether the key streams of these keys, and of keys that are installed later, are to be made 16 blocks at once,
-    /// for processors with vectors of 256 bits. This changes no result.
+    /// A second table that is equal to this one, with space for as many keys.
+    pub fn try_clone(&self, alloc: Global) -> Result<KeyTable, AllocError>
+        ensures { IfOk result (λ t. t ≡ self.now) }
+    {
+        let mut rows = Vec::with_capacity(alloc, PLACE_COUNT)?;
+        append_clones(&mut rows, self.rows.as_slice())?;
+        Ok(KeyTable {
+            rows,
+            places: self.places.clone()?,
+            extended: self.extended,
+            wide: self.wide,
+        })
+    }
+
+    /// Says whether the key streams of these keys, and of keys that are installed later, are to be made 16 blocks at
+    /// once, for processors with vectors of 256 bits. This changes no result.
     pub fn prefer_wide(&mut self, wide: bool)
         ensures { self.new ≡ self.old }
     {
@@ -109,7 +128,8 @@ impl KeyTable {
     /// Errors: the first of `KeyLength`, `Offset`, `KeyNumberUsed`, `KeyRepeated` and `Window` that applies. `Window`
     /// applies if the key's suite has extended packet numbers and the window is above 2^30 - 1.
     pub fn install(&mut self, default: Suite, key: &NewKey, window: u64) -> Result<(), Refusal>
-        ensures refusal { refusal_of result ≡ first_refusal (install_refusals (suite_of default key.now) window self.old key.now) }
+        ensures refusal { refusal_of result
+            ≡ first_refusal (install_refusals (suite_of default key.now) window self.old key.now) }
         ensures done { OnOk result (self.new ≡ keys_with (suite_of default key.now) self.old key.now) }
         ensures unchanged { OnErr result (self.new ≡ self.old) }
         ensures rows { OnOk result (AreKeyRows self.new) }
@@ -117,14 +137,15 @@ impl KeyTable {
         self.add(default, key, window, false)
     }
 
-    /// Installs a key as `install` does, also under the number of a retired key. Then it takes the row of that key, whose
-    /// octets are overwritten, with all that was prepared from them. Every other row stays as it is, and where it is.
+    /// Installs a key as `install` does, also under the number of a retired key. Then it takes the row of that key,
+    /// whose octets are overwritten, with all that was prepared from them. Every other row stays as it is, and where it
+    /// is.
     ///
-    /// The table no longer knows the octets of the key that was in the row, so it does not refuse them any more. Remember
-    /// them, or a fingerprint of them, and install no key that has them.
+    /// The table no longer knows the octets of the key that was in the row, so it does not refuse them any more.
+    /// Remember them, or a fingerprint of them, and install no key that has them.
     ///
-    /// Errors: those of `install`, in the same order. `KeyNumberUsed` applies if a key that is not retired has the number,
-    /// or if a key has it and `in_use` is true. `in_use` is whether an SA uses the key with this number now.
+    /// Errors: those of `install`, in the same order. `KeyNumberUsed` applies if a key that is not retired has the
+    /// number, or if a key has it and `in_use` is true. `in_use` is whether an SA uses the key with this number now.
     pub fn renew(
         &mut self,
         default: Suite,
@@ -132,7 +153,8 @@ impl KeyTable {
         window: u64,
         in_use: bool,
     ) -> Result<(), Refusal>
-        ensures refusal { refusal_of result ≡ first_refusal (add_refusals (not in_use) (suite_of default key.now) window self.old key.now) }
+        ensures refusal { refusal_of result
+            ≡ first_refusal (add_refusals (not in_use) (suite_of default key.now) window self.old key.now) }
         ensures done { OnOk result (self.new ≡ keys_added (not in_use) (suite_of default key.now) self.old key.now) }
         ensures unchanged { OnErr result (self.new ≡ self.old) }
         ensures rows { OnOk result (AreKeyRows self.new) }
@@ -148,7 +170,8 @@ impl KeyTable {
         window: u64,
         renews: bool,
     ) -> Result<(), Refusal>
-        ensures refusal { refusal_of result ≡ first_refusal (add_refusals renews (suite_of default key.now) window self.old key.now) }
+        ensures refusal { refusal_of result
+            ≡ first_refusal (add_refusals renews (suite_of default key.now) window self.old key.now) }
         ensures done { OnOk result (self.new ≡ keys_added renews (suite_of default key.now) self.old key.now) }
         ensures unchanged { OnErr result (self.new ≡ self.old) }
         ensures rows { OnOk result (AreKeyRows self.new) }
@@ -260,7 +283,8 @@ impl KeyTable {
     /// Returns the row of the key at this place. Its `suite_key` is prepared as in `key`.
     pub fn key_at(&self, place: &KeyPlace) -> &KeyRow
         requires { IsPlace self.now place.now }
-        ensures row { key_row self.now place.now.number ≡ Some (row_shown result.now (the_key self.now place.now.number).first_unused) }
+        ensures row { key_row self.now place.now.number
+            ≡ Some (row_shown result.now (the_key self.now place.now.number).first_unused) }
         ensures prepared { HasOwnKey result.now }
     {
         &self.rows[place.index as usize].row
@@ -390,6 +414,18 @@ impl KeyTable {
         self.extended += stored.extended_count();
         self.rows.push(stored).unwrap();
     }
+}
+
+/// Appends clones of these keys.
+fn append_clones(rows: &mut Vec<StoredKey>, more: &[StoredKey]) -> Result<(), AllocError>
+    requires { vec_len rows.old + length more.now ≤ vec_capacity rows.old }
+    ensures items { OnOk result (rows.new.items ≡ rows.old.items ++ more.now) }
+    ensures space { vec_capacity rows.old ≤ vec_capacity rows.new }
+{
+    for stored in more {
+        rows.push(stored.clone()?).unwrap();
+    }
+    Ok(())
 }
 
 /// Says it to each of these keys.

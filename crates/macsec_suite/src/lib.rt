@@ -19,8 +19,8 @@
 //! `note_used`, which like `key_at` requires the place of a key. So no key number and no key bytes are installed twice,
 //! even after a key is retired. `replace` gives a retired key other bytes, which no key has; after it the new ones are
 //! refused, and no longer the old ones. `renew` installs a key also under the number of a retired key. Then the one row
-//! becomes the new key's, and the old bytes are no longer refused. Only `KeyTable::new` takes an allocator. `KeyRow::prepared_again` returns an
-//! equal row.
+//! becomes the new key's, and the old bytes are no longer refused. Only `KeyTable::new` and `try_clone`, which makes a
+//! second table, take an allocator. `KeyRow::prepared_again` returns an equal row.
 #![tactic(auto)]
 
 mod in_place;

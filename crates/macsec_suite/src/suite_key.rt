@@ -32,7 +32,7 @@ impl SuiteFault {
 }
 
 /// A key prepared for a suite. Contracts see it as the suite, the key's bytes and its confidentiality offset.
-#[derive(Drop)]
+#[derive(Clone, Drop)]
 pub struct SuiteKey {
     pub(crate) suite: Suite,
     pub(crate) key: GcmKey,

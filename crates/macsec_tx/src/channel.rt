@@ -4,7 +4,8 @@ ghost use Rattle.std.specs.Prelude.{◌≡◌, ◌<◌, ◌^◌, [], length, map
 ghost use Rattle.macsec_suite.specs.Refusals.{first_refusal, refusal_of};
 ghost use Rattle.macsec_tx.specs.Transmit.{next_used, row_on, tx_row, used_at};
 ghost use Rattle.macsec_tx.specs.Rows.{AreTxRows, IsEnabled};
-ghost use Rattle.macsec_tx.specs.Commands.{HaveKeys, off_at, switch_to, tx_off_refusals, tx_on_refusals, tx_sa_refusals, tx_uses, with_tx_off, with_tx_on, with_tx_sa, without_tx};
+ghost use Rattle.macsec_tx.specs.Commands.{HaveKeys, off_at, switch_to, tx_off_refusals, tx_on_refusals};
+ghost use Rattle.macsec_tx.specs.Commands.{tx_sa_refusals, tx_uses, with_tx_off, with_tx_on, with_tx_sa, without_tx};
 
 use crate::{EnabledSa, TxRow};
 use arrayvec::ArrayVec;
@@ -39,6 +40,16 @@ impl TxChannel {
         TxChannel {
             rows: ArrayVec::new(),
         }
+    }
+
+    /// Becomes equal to another transmit SC.
+    pub fn copy_from(&mut self, other: &TxChannel)
+        ensures { self.new ≡ other.now }
+    {
+        self.rows.clear();
+        self.rows
+            .try_extend_from_slice(other.rows.as_slice())
+            .unwrap();
     }
 
     /// Returns the SA with this association number.
