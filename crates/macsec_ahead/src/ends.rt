@@ -1,7 +1,9 @@
 //! Where the receive SAs (secure associations) that a run deleted have ended.
 
 ghost use Rattle.std.specs.Prelude.{◌≡◌, ◌≤◌, ◌∷◌, [], map, max, filter, not, if◌then◌else◌, vec_capacity, IfOk};
-ghost use Rattle.macsec_ahead.specs.Ends.{end_of, end_of_row, ended_of, has_end, has_key_end, is_of, is_under, key_raised, last_end, last_under, max_end_count, no_ends, sa_raised, with_end, with_key_end, with_ends, without_key};
+ghost use Rattle.macsec_ahead.specs.Ends.{end_of, end_of_row, ended_of, has_end, has_key_end, is_of, is_under};
+ghost use Rattle.macsec_ahead.specs.Ends.{key_raised, last_end, last_under, max_end_count, no_ends, sa_raised};
+ghost use Rattle.macsec_ahead.specs.Ends.{with_end, with_key_end, with_ends, without_key};
 
 use macsec_secy::{An, KeyNumber, RxRow, Sci};
 use std::alloc::{AllocError, Global};
@@ -10,7 +12,8 @@ use std::marker::Model;
 /// The most SAs that have an entry, and the most keys that have a number.
 const MAX_END_COUNT: usize = 1024;
 
-/// A receive SA under the key of this number, and the packet number before its lowest acceptable one when it was deleted.
+/// A receive SA under the key of this number, and the packet number before its lowest acceptable one when it was
+/// deleted.
 #[derive(Clone, Copy, PartialEq, Eq, Debug)]
 pub struct EndedSa {
     /// The number of its key.
@@ -53,6 +56,21 @@ impl Model for EndTable {
 }
 
 impl EndTable {
+    /// A second table that is equal to this one. No later call allocates.
+    pub fn try_clone(&self, alloc: Global) -> Result<EndTable, AllocError>
+        ensures { IfOk result (λ t. t ≡ self.now) }
+    {
+        let mut entries = Vec::with_capacity(alloc, MAX_END_COUNT)?;
+        entries.extend_from_slice(self.entries.as_slice())?;
+        let mut keys = Vec::with_capacity(alloc, MAX_END_COUNT)?;
+        keys.extend_from_slice(self.keys.as_slice())?;
+        Ok(EndTable {
+            entries,
+            keys,
+            others: self.others,
+        })
+    }
+
     /// An empty table. No later call allocates.
     pub fn new(alloc: Global) -> Result<EndTable, AllocError>
         ensures { IfOk result (λ t. t ≡ no_ends) }

@@ -1,6 +1,7 @@
 //! The endpoint.
 
-ghost use Rattle.std.specs.Prelude.{◌≡◌, ◌≤◌, ◌+◌, ◌∷◌, [], ◌++◌, map, false, length, IfOk, OnErr, option_and_then, vec_capacity, vec_len, if◌then◌else◌};
+ghost use Rattle.std.specs.Prelude.{◌≡◌, ◌≤◌, ◌+◌, ◌∷◌, [], ◌++◌, map, false, length, IfOk, OnErr, option_and_then};
+ghost use Rattle.std.specs.Prelude.{vec_capacity, vec_len, if◌then◌else◌};
 ghost use Rattle.std.specs.Borrow.{sem};
 ghost use Rattle.macsec_tag.specs.Limits.{max_frame_len};
 ghost use Rattle.macsec_rx.specs.Channels.{rx_row};
@@ -12,7 +13,8 @@ ghost use Rattle.macsec_secy.specs.Step.{client_frame, link_frame, operator_comm
 ghost use Rattle.macsec_reserve.specs.Answers.{output_of_kept};
 ghost use Rattle.macsec_reserve.specs.Entries.{raised_by};
 ghost use Rattle.macsec_reserve.specs.Keeping.{endpoint_input, endpoint_output, now_durable};
-ghost use Rattle.macsec_ahead.specs.Ahead.{ahead_step, begins_again, command_forgetting, entry_for, floor_of, kept, wanted_to_accept};
+ghost use Rattle.macsec_ahead.specs.Ahead.{ahead_step, begins_again, command_forgetting, entry_for, floor_of, kept};
+ghost use Rattle.macsec_ahead.specs.Ahead.{wanted_to_accept};
 ghost use Rattle.macsec_ahead.specs.Answers.{MakesAhead, MakesAloneWith, PlansAhead, output_of_ahead};
 ghost use Rattle.macsec_ahead.specs.Ends.{after_retiring, ends_among, no_ends, with_ends, without_key};
 ghost use Rattle.macsec_ahead.specs.Limits.{limits_for, limits_with};
@@ -71,10 +73,18 @@ impl Model for AheadKeeper {
 
     ghost Value = { Ahead };
 
-    ghost view = { λ a. record { k = a.keeper; ahead = a.ahead; taken = a.taken.items; ended = a.ended; renews = a.renews } };
+    ghost view = { λ a. record {
+      k = a.keeper;
+      ahead = a.ahead;
+      taken = a.taken.items;
+      ended = a.ended;
+      renews =
+          a.renews;
+    } };
 
     // There is space for the most SAs that an endpoint can have, and the limits follow from what is reserved.
-    ghost invariant = { λ a. HasSpace (vec_capacity a.taken) (vec_capacity a.spare) (vec_capacity a.rows) (vec_capacity a.limits) (vec_len a.room)
+    ghost invariant = { λ a. HasSpace (vec_capacity a.taken) (vec_capacity a.spare) (vec_capacity a.rows)
+        (vec_capacity a.limits) (vec_len a.room)
         × (a.limits.items ≡ limits_with a.ahead a.keeper a.taken.items) };
 }
 
@@ -93,8 +103,8 @@ impl AheadKeeper {
         Ok(made)
     }
 
-    /// An endpoint of this configuration, with a journal of these octets. With `ahead` it reserves packet numbers ahead of
-    /// receiving.
+    /// An endpoint of this configuration, with a journal of these octets. With `ahead` it reserves packet numbers ahead
+    /// of receiving.
     pub fn open(
         alloc: Global,
         config: EndConfig,
@@ -113,9 +123,25 @@ impl AheadKeeper {
         Ok(made)
     }
 
+    /// A second endpoint that is equal to this one. Of two such endpoints only one may send or receive from then on, or
+    /// an IV is used twice.
+    pub(crate) fn try_clone(&self, alloc: Global) -> Result<AheadKeeper, AllocError>
+        ensures { IfOk result (λ a. a ≡ self.now) }
+    {
+        let keeper = self.keeper.try_clone(alloc)?;
+        let mut made = AheadKeeper::with(alloc, keeper, self.ahead)?;
+        made.taken.extend_from_slice(self.taken.as_slice())?;
+        made.limits.clear();
+        made.limits.extend_from_slice(self.limits.as_slice())?;
+        made.ended = self.ended.try_clone(alloc)?;
+        made.renews = self.renews;
+        Ok(made)
+    }
+
     /// A keeping endpoint with nothing reserved for its SAs, and none deleted.
     fn with(alloc: Global, keeper: Keeper, ahead: bool) -> Result<AheadKeeper, AllocError>
-        ensures { IfOk result (λ a. a ≡ record { k = keeper; ahead = ahead; taken = []; ended = no_ends; renews = false }) }
+        ensures { IfOk result (λ a. a
+            ≡ record { k = keeper; ahead = ahead; taken = []; ended = no_ends; renews = false }) }
     {
         let taken: Vec<Reservation> = Vec::with_capacity(alloc, MAX_ROW_COUNT)?;
         let spare = Vec::with_capacity(alloc, MAX_ROW_COUNT)?;
@@ -144,8 +170,8 @@ impl AheadKeeper {
         &self.keeper
     }
 
-    /// The endpoint is sound, whichever calls were made before: the premise of the laws over restarts at this moment. The
-    /// call does nothing.
+    /// The endpoint is sound, whichever calls were made before: the premise of the laws over restarts at this moment.
+    /// The call does nothing.
     pub fn is_sound(&self)
         ensures { IsSound self.now.k.secy }
     {
@@ -163,7 +189,8 @@ impl AheadKeeper {
     /// Transmits a client frame, as `Keeper::send`.
     pub fn send<'a>(&'a mut self, frame: &'a [u8]) -> Result<KeptSent<'a>, FrameFault>
         ensures* after { sem 𝓛 (RestsAs self.entry (ahead_step self.old (endpoint_input (client_frame frame.now))).1) }
-        ensures output { kept (output_of_kept result) ≡ (ahead_step self.old (endpoint_input (client_frame frame.now))).0 }
+        ensures output { kept (output_of_kept result)
+            ≡ (ahead_step self.old (endpoint_input (client_frame frame.now))).0 }
     {
         self.keeper.send(frame)
     }
@@ -171,14 +198,15 @@ impl AheadKeeper {
     /// Plans a client frame, as `Keeper::plan_send`.
     pub fn plan_send<'a>(&mut self, frame: &'a [u8]) -> Result<KeptPlan<'a>, FrameFault>
         ensures after { self.new ≡ (ahead_step self.old (endpoint_input (client_frame frame.now))).1 }
-        ensures output { PlansAhead result self.new.k.secy.keys frame.now (ahead_step self.old (endpoint_input (client_frame frame.now))).0 }
+        ensures output { PlansAhead result self.new.k.secy.keys frame.now (ahead_step self.old (endpoint_input
+            (client_frame frame.now))).0 }
     {
         self.keeper.plan_send(frame)
     }
 
-    /// Receives a link frame, as `Keeper::receive`. With the option, a valid frame is dropped if its packet number is not
-    /// reserved in this run. The delivered frame is in `out`, which has `MAX_FRAME_LEN` octets or more. If nothing is
-    /// delivered, the octets of `out` mean nothing.
+    /// Receives a link frame, as `Keeper::receive`. With the option, a valid frame is dropped if its packet number is
+    /// not reserved in this run. The delivered frame is in `out`, which has `MAX_FRAME_LEN` octets or more. If nothing
+    /// is delivered, the octets of `out` mean nothing.
     pub fn receive<'a>(
         &mut self,
         frame: &'a [u8],
@@ -210,8 +238,9 @@ impl AheadKeeper {
         }
     }
 
-    /// Receives a link frame, as `Keeper::finish_receive`, whether it was opened before or not. With the option, a valid
-    /// frame is dropped if its packet number is not reserved in this run; then `out` may have octets of its plaintext.
+    /// Receives a link frame, as `Keeper::finish_receive`, whether it was opened before or not. With the option, a
+    /// valid frame is dropped if its packet number is not reserved in this run; then `out` may have octets of its
+    /// plaintext.
     pub fn finish_receive<'a>(
         &mut self,
         frame: &'a [u8],
@@ -254,11 +283,12 @@ impl AheadKeeper {
         );
     }
 
-    /// The reservation to make durable next, to accept up to `amount` packet numbers after `next` from the receive SA of this
-    /// SCI and association number, if fewer than half of them are reserved. `next` is the SA's next packet number, or the
-    /// packet number of a frame that was dropped.
+    /// The reservation to make durable next, to accept up to `amount` packet numbers after `next` from the receive SA
+    /// of this SCI and association number, if fewer than half of them are reserved. `next` is the SA's next packet
+    /// number, or the packet number of a frame that was dropped.
     pub fn wanted_to_accept(&self, sci: Sci, an: An, amount: u64, next: u128) -> Option<Reservation>
-        ensures { result ≡ option_and_then (wanted_to_accept self.now amount next) (rx_row self.now.k.secy.rx.rows sci an) }
+        ensures { result ≡ option_and_then (wanted_to_accept self.now amount next)
+            (rx_row self.now.k.secy.rx.rows sci an) }
     {
         match self.keeper.secy().rx_row(sci, an) {
             None => None,
@@ -279,8 +309,8 @@ impl AheadKeeper {
     }
 
     /// The highest packet number that an earlier run, or this run before it deleted the SA, may have accepted from the
-    /// receive SA of this SCI and association number under the key of this number. It is 0 if there is none, and `None` if
-    /// there is no such key. The SA begins above it.
+    /// receive SA of this SCI and association number under the key of this number. It is 0 if there is none, and `None`
+    /// if there is no such key. The SA begins above it.
     pub fn rx_floor(&self, sci: Sci, an: An, key: KeyNumber) -> Option<u64>
         ensures { result ≡ floor_of sci an self.now key }
     {
@@ -290,10 +320,11 @@ impl AheadKeeper {
         }
     }
 
-    /// Carries out a management command, as `Keeper::command`. A receive SA that this run deleted does not begin again at or
-    /// below its end: such a command is refused with `PnFloor`, before any other refusal.
+    /// Carries out a management command, as `Keeper::command`. A receive SA that this run deleted does not begin again
+    /// at or below its end: such a command is refused with `PnFloor`, before any other refusal.
     pub fn command(&mut self, command: &Command) -> Result<(), Refusal>
-        ensures output { kept (endpoint_output (output_of_command result)) ≡ (ahead_step self.old (endpoint_input (operator_command command.now))).0 }
+        ensures output { kept (endpoint_output (output_of_command result))
+            ≡ (ahead_step self.old (endpoint_input (operator_command command.now))).0 }
         ensures after { self.new ≡ (ahead_step self.old (endpoint_input (operator_command command.now))).1 }
     {
         if self.begins_again(command) {
@@ -320,9 +351,11 @@ impl AheadKeeper {
         done
     }
 
-    /// Carries out a management command, as `command`, and forgets a key that it retires, as `Keeper::command_forgetting`.
+    /// Carries out a management command, as `command`, and forgets a key that it retires, as
+    /// `Keeper::command_forgetting`.
     pub fn command_forgetting(&mut self, command: &Command) -> Result<(), Refusal>
-        ensures output { kept (endpoint_output (output_of_command result)) ≡ (command_forgetting self.old command.now).0 }
+        ensures output { kept (endpoint_output (output_of_command result))
+            ≡ (command_forgetting self.old command.now).0 }
         ensures after { self.new ≡ (command_forgetting self.old command.now).1 }
     {
         if self.begins_again(command) {
@@ -349,10 +382,10 @@ impl AheadKeeper {
         done
     }
 
-    /// Installs a key, also under the number of a retired key that no SA uses, as `Keeper::renew_forgetting`. Everything else
-    /// goes on where it is: every other key, the SAs with their packet numbers and windows, what was reported durable for
-    /// them, the counters, and where SAs under other keys ended. From then on `command_renewing` refuses octets that are
-    /// given up.
+    /// Installs a key, also under the number of a retired key that no SA uses, as `Keeper::renew_forgetting`.
+    /// Everything else goes on where it is: every other key, the SAs with their packet numbers and windows, what was
+    /// reported durable for them, the counters, and where SAs under other keys ended. From then on `command_renewing`
+    /// refuses octets that are given up.
     pub fn renew_key(&mut self, key: &NewKey) -> Result<Result<(), Refusal>, AllocError>
         ensures refusal { IfOk result (λ answer. refusal_of answer ≡ forgetting_refusal self.old.k key.now) }
         ensures after { IfOk result (λ answer. self.new ≡ ahead_after_renewing self.old key.now) }
@@ -374,8 +407,8 @@ impl AheadKeeper {
         }
     }
 
-    /// Carries out a management command, as `command_forgetting`. Once `renew_key` has installed a key, octets whose row a
-    /// new key took are refused with `KeyRepeated`, before any other refusal.
+    /// Carries out a management command, as `command_forgetting`. Once `renew_key` has installed a key, octets whose
+    /// row a new key took are refused with `KeyRepeated`, before any other refusal.
     pub fn command_renewing(&mut self, command: &Command) -> Result<(), Refusal>
         ensures output { kept (endpoint_output (output_of_command result)) ≡ (command_renewing self.old command.now).0 }
         ensures after { self.new ≡ (command_renewing self.old command.now).1 }
@@ -416,7 +449,8 @@ impl AheadKeeper {
 /// Makes an entry for each receive SA, with what was reported durable for it before and now.
 fn report(entries: &mut Vec<Reservation>, taken: &[Reservation], keeper: &Keeper, by: &Reservation)
     requires { max_row_count ≤ vec_capacity entries.old }
-    ensures items { entries.new.items ≡ map (raised_by by.now) (map (entry_for keeper.now taken.now) keeper.now.secy.rx.rows) }
+    ensures items { entries.new.items
+        ≡ map (raised_by by.now) (map (entry_for keeper.now taken.now) keeper.now.secy.rx.rows) }
     ensures space { vec_capacity entries.old ≤ vec_capacity entries.new }
 {
     entries.clear();
@@ -513,7 +547,8 @@ fn add_ends(
     command: &Command,
     done: bool,
 )
-    ensures { ended.new ≡ (if keeps then after_retiring command.now done (with_ends (ends_among secy.now rows.now) ended.old) else ended.old) }
+    ensures { ended.new ≡ (if keeps then after_retiring command.now done (with_ends
+        (ends_among secy.now rows.now) ended.old) else ended.old) }
 {
     if !keeps {
         return;
