@@ -19,14 +19,24 @@
 #include <sys/mman.h>
 #include <unistd.h>
 
-enum { HANDLES = 4, KEYS = 3, SLOTS = 3, FILES = 2, MOST_WORDS = 20, LONGEST_LINE = 524288, MOST_ROOMS = 4 };
+enum {
+    HANDLES = 4,
+    KEYS = 3,
+    SLOTS = 3,
+    FILES = 2,
+    MOST_WORDS = 64,
+    COMMAND_WORDS = 15,
+    LONGEST_LINE = 524288,
+    MOST_ROOMS = 4
+};
 
 static macsec_endpoint handles[HANDLES];
 static macsec_key keys[KEYS];
 static macsec_slot slots[SLOTS];
 static macsec_journal files[FILES];
-static bool made[HANDLES];  /* whether they hold an endpoint */
-static int blocks[HANDLES]; /* and of how many blocks */
+static bool made[HANDLES];   /* whether they hold an endpoint */
+static int blocks[HANDLES];  /* and of how many blocks */
+static bool loaded[HANDLES]; /* and is it a copy, which may have others? */
 static char line[LONGEST_LINE];
 
 static void fail(const char *why) {
@@ -171,18 +181,24 @@ void __wrap_free(void *block) {
 }
 
 /* An endpoint has 14 blocks, and one more with a journal that has records, or once it has renewed a key; a key has one,
- * a slot three, and the file of a journal five. Only the calls that make one or renew a key, a line and a journal ask
- * for blocks; one that answers MACSEC_E_TAKEN or MACSEC_E_EMPTY does not. */
+ * a slot three, and the file of a journal five. A load leaves a copy of the endpoint, which can have some more. Only
+ * the calls that make one, load or renew a key, a line and a journal ask for blocks; one that answers MACSEC_E_TAKEN or
+ * MACSEC_E_EMPTY does not. */
 enum { BLOCKS = 14 };
 
 static void check_blocks(const char *name, unsigned handle, bool held_before, uint32_t status) {
     const char *reading[] = { "configure",    "command_line",      "parse_line",        "parse_end",     "answer",
-                              "reserve_open", "reserve_configure", "journal_compacted", "journal_begin", "renew_key" };
+                              "reserve_open", "reserve_configure", "journal_compacted", "journal_begin", "renew_key",
+                              "load" };
     bool beside = strncmp(name, "reserve_", strlen("reserve_")) == 0, may_ask = false;
     for (size_t i = 0; i < sizeof reading / sizeof reading[0]; i++)
         may_ask = may_ask || strcmp(name, reading[i]) == 0;
     int changed = made[handle] == held_before ? 0 : held_before ? -blocks[handle] : held;
-    int names = strcmp(name, "renew_key") == 0 && held == 1 && blocks[handle] == BLOCKS;
+    int names = strcmp(name, "renew_key") == 0 && held == 1 && (blocks[handle] == BLOCKS || loaded[handle]);
+    if (strcmp(name, "load") == 0 && status == MACSEC_OK) {
+        names = held;
+        loaded[handle] = true;
+    }
     blocks[handle] += names;
     if (held != changed + names + for_jobs || (changed > 0 && held != BLOCKS && (held != BLOCKS + 1 || !beside)))
         fail("the library holds another number of blocks");
@@ -192,10 +208,12 @@ static void check_blocks(const char *name, unsigned handle, bool held_before, ui
         fail("the library asked for blocks in vain");
     if (changed > 0)
         blocks[handle] = held;
+    loaded[handle] = loaded[handle] && changed == 0;
 }
 #else
 static void check_blocks(const char *name, unsigned handle, bool held_before, uint32_t status) {
-    (void)name, (void)handle, (void)held_before, (void)status, (void)blocks, (void)refused_after, (void)for_jobs;
+    (void)name, (void)handle, (void)held_before, (void)status, (void)blocks, (void)loaded, (void)refused_after,
+        (void)for_jobs;
 }
 #endif
 
@@ -453,8 +471,8 @@ static const macsec_sak *sealed_key(char **w) {
 
 /* ---- Commands as structs ---- */
 
-static macsec_command *room_of_command(char **w) {
-    macsec_command *it = room_of(sizeof *it);
+static void read_command(macsec_command *it, char **w) {
+    memset(it, 7, sizeof *it);
     read_key(&it->sak, w);
     it->pn = number(w[7]);
     octets(w[8], it->sci, sizeof it->sci);
@@ -464,6 +482,11 @@ static macsec_command *room_of_command(char **w) {
     it->key = (uint16_t)number(w[12]);
     it->an = (uint8_t)number(w[13]);
     it->flag = (uint8_t)number(w[14]);
+}
+
+static macsec_command *room_of_command(char **w) {
+    macsec_command *it = room_of(sizeof *it);
+    read_command(it, w);
     return it;
 }
 
@@ -498,6 +521,24 @@ static uint32_t carry_out(macsec_endpoint *e, char **w) {
     const macsec_command *it = room_of_command(w);
     seal();
     return macsec_carry_out(e, it);
+}
+
+/* Loads so many commands. Shows the place, and where their associations begin. */
+static uint32_t load(macsec_endpoint *e, char **w) {
+    size_t count = (size_t)number(w[0]), *place = room_of(sizeof *place);
+    uint64_t *begins = room_of(count * sizeof *begins);
+    macsec_command *all = room_of(count * sizeof *all);
+    for (size_t i = 0; i < count; i++) {
+        begins[i] = 7;
+        read_command(&all[i], w + 1 + i * COMMAND_WORDS);
+    }
+    if (count > 0)
+        seal();
+    uint32_t status = macsec_load(e, all, count, begins, place);
+    print_number(*place);
+    for (size_t i = 0; i < count; i++)
+        print_number(begins[i]);
+    return status;
 }
 
 static uint32_t clear_command(char **w) {
@@ -582,6 +623,7 @@ static uint32_t command(macsec_endpoint *e, const char *name, char **w) {
     COMMAND(send_uncontrolled, OCTETS(0));
     COMMAND(command_line, OCTETS(0));
     CALL("carry_out", carry_out(e, w));
+    CALL("load", load(e, w));
     COMMAND(set_protect, number(w[0]) != 0);
     COMMAND(set_validation, (uint32_t)number(w[0]));
     COMMAND(set_replay, number(w[0]) != 0, number(w[1]));

@@ -36,7 +36,7 @@ from rarely import Rarely
 # is refused twice its size may get a smaller one.
 ALLOCATING = {"new": "!", "reserve_open": "!", "journal_compacted": "!", "key_take": "!", "slot_new": "!"}
 ALLOCATING |= dict.fromkeys("configure reserve_configure command_line parse_line parse_end answer".split(), "?")
-ALLOCATING |= {"journal_begin": "?", "renew_key": "!"}
+ALLOCATING |= {"journal_begin": "?", "renew_key": "!", "load": "!"}
 EVERY = 8
 # The calls that are made seldom, and often fail before they allocate: of these every one is first made so.
 SELDOM = {"reserve_open", "reserve_configure", "journal_compacted", "journal_begin", "key_take", "slot_new"}
@@ -48,7 +48,7 @@ RECORDS = {"reserve_wanted", "reserve_to_accept", "reserve_to_save"}
 # The calls that the Python package does not make: those with keys and slots, with commands as structs, and for numbers
 # of a program's own in a journal.
 IN_C_ALONE = {
-    "parse_line", "parse_end", "carry_out", "clear_command", "key_take", "key_free", "slot_new", "slot_free",
+    "parse_line", "parse_end", "carry_out", "load", "clear_command", "key_take", "key_free", "slot_new", "slot_free",
     "slot_clear", "plan_send", "seal_job", "plan_receive", "open_job", "finish_receive", "journal_noted",
 }  # fmt: skip
 
@@ -204,6 +204,11 @@ class Calls(Filed, Rarely):
         rest = (kind, choice, shown, self.an(), self.pick((0, 0, 0, 1, 1, 1, 2, 255)))
         return *key, number, length, offset, pn, self.sci(), self.pick(self.SSCIS), *rest
 
+    def loading(self):
+        """Some commands, most often of few kinds, so that all of them are carried out sometimes."""
+        handle, count = self.handle(), self.pick((0, 1, 1, 2, 2, 3))
+        return handle, count, *(word for _ in range(count) for word in self.row())
+
     def end_line(self):
         """Most often the line of a configuration."""
         words = ["end", "A", self.word("suite"), self.sci().hex(), self.pick(("64", "1518", "9248")), self.word("form")]
@@ -231,7 +236,8 @@ class Calls(Filed, Rarely):
         delete_rx_sc 2 handle sci; add_rx_sa 30 handle sci an NUMBERS PNS SSCIS; enable_rx_sa 25 handle sci an;
         disable_rx_sa 2 handle sci an; set_lowest_pn 10 handle sci an PNS; delete_rx_sa 3 handle sci an; command_line 60
         handle line; answer 60 answering; parse_line 40 handle line; parse_end 10 handle end_line; carry_out 60 handle
-        row; clear_command 2 handle row; get_options 8 handle; keys_left 8 handle; get_counters 20 handle;
+        row; load 40 loading; clear_command 2 handle row; get_options 8 handle; keys_left 8 handle; get_counters 20
+        handle;
         get_tx_counters 10 handle; get_rx_counters 15 handle sci; get_rx_sa_counters 15 handle sci an;
         get_removed_counters 10 handle sci; get_rx_sc 6 handle 0,0,1,2,63,64,18446744073709551615; get_tx_sa 10 handle
         an; get_rx_sa 15 handle sci an; reserve_open 4 new journal 0,1; reserve_configure 4 handle text journal 0,1;
@@ -374,6 +380,35 @@ class Calls(Filed, Rarely):
             yield "carry_out", (0, *key, pn, sci, ssci, kind, choice, number, an, flag)
         yield "clear_command", (0, *self.row())
 
+    def rarely_loaded(self):
+        """Commands of which all are carried out, or one is refused. SAs begin above what was sent or reserved."""
+
+        def row(kind, key=0, pn=0, an=0, octet=0, sci=bytes(8)):
+            octets = bytes([octet]) * 16 + bytes(16)
+            return octets, bytes(12), 0, 1, key, 16, 0, pn, sci, 0, CONSTANTS["COMMAND_" + kind], 0, key, an, 1
+
+        def load(*rows):
+            return "load", (0, len(rows), *itertools.chain.from_iterable(rows))
+
+        for beside in (False, True):
+            yield "free", (0,)
+            made = 0, self.sci(), 1, 1, 1518
+            yield ("reserve_open", (*made, self.JOURNAL, 1)) if beside else ("new", made)
+            yield load(row("KEY", 5, octet=1), row("TX_SA", 5, 1), row("TX_ON"))
+            if beside and (wanted := self.model.ends[0].wanted(0, 8)):  # none if no load is made
+                yield "reserve_granted", (0, journals.record(wanted))
+            for _ in range(3):
+                yield "send", (0, self.client_frame())
+            yield load(row("TX_DEL"), row("TX_SA", 5, 1, 1), row("TX_ON", an=3))
+            yield load(row("TX_DEL"), row("TX_SA", 5, 1, 1), row("TX_ON", an=1))
+            yield load(row("TX_DEL", an=1), row("RETIRE", 5), row("KEY", 5, octet=1))
+            yield load(row("TX_DEL", an=1), row("RETIRE", 5), row("KEY", 5, octet=2))
+            yield load(row("RX_SC", sci=b"\7" * 8), row("RX_SA", 5, 9, sci=b"\7" * 8), row("NONE"))
+            yield load(row("RX_DEL", sci=b"\7" * 8), row("RX_SA", 5, 1, sci=b"\7" * 8), row("RX_ON", sci=b"\7" * 8))
+            yield load()
+            yield "get_tx_sa", (0, 1)
+            yield "get_rx_sa", (0, b"\7" * 8, 0)
+
     def configured(self):
         """A configuration for a handle without an endpoint."""
         yield "free", (2,)
@@ -401,7 +436,7 @@ class Calls(Filed, Rarely):
 
     def all(self, count):
         rarely = self.rarely_written, self.rarely_refused, self.rarely_made, self.rarely_reserved, self.rarely_forgotten
-        rarely += self.rarely_renewed, self.rarely_ahead, self.rarely_parsed, self.rarely_filed
+        rarely += self.rarely_renewed, self.rarely_ahead, self.rarely_parsed, self.rarely_loaded, self.rarely_filed
         waiting = itertools.chain.from_iterable(it() for it in (self.crowded, *rarely))
         names, weights = list(self.MADE_OF), [int(weight) for weight, *_ in self.MADE_OF.values()]
         for _ in range(count):

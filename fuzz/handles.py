@@ -4,6 +4,8 @@ library with this."""
 from __future__ import annotations
 
 import collections
+import contextlib
+import copy
 import pathlib
 import re
 import struct
@@ -35,7 +37,7 @@ HANDLE_FREE = (
     "answer", "parse_line", "parse_end", "clear_command", "key_take", "key_free", "slot_new", "slot_free", "slot_clear",
     "plan_send", "seal_job", "plan_receive", "open_job", "finish_receive", "journal_created", "journal_begin",
     "journal_order", "journal_next", "journal_answered", "journal_shown", "journal_record", "journal_let_go",
-    "journal_noted", "journal_whole", "journal_free",
+    "journal_noted", "journal_whole", "journal_free", "load",
 )  # fmt: skip
 # The most octets of a frame that is sealed.
 MOST_SEALED = 2**36 - 32
@@ -239,12 +241,19 @@ UNSHOWN = {
 }
 
 
+def not_loaded(place, count):
+    """What a load shows that does nothing: the place, and as many numbers as rows."""
+    return f" {place}" + " 7" * count
+
+
 def without_memory(line):
     """The answer to the call of a line that is refused an allocation: it does nothing."""
     name, *words = line.split()
     shown = UNSHOWN.get(name, "")
     if name == "answer":
         shown = f" 0 {hex_of(bytes([7]) * int(words[-1]))}"
+    elif name == "load":
+        shown = not_loaded(0, int(words[1]))
     elif name == "journal_compacted":
         shown = f" 7 {'07' * (len(words[-1]) // 2) or '-'}"
     return f"{name}{shown} : {CONSTANTS['E_MEMORY']}"
@@ -552,6 +561,50 @@ class Model:
         else:
             values = [FROM_MEMBER.get(it, lambda it: it)(members[PLACES[it]]) for it in FIELDS[keyword]]
             self.command(handle, keyword, *values)
+
+    def call_load(self, handle, count, *words):
+        """Rows that are all carried out, or none. First come those that mean nothing."""
+        end, length = self.ends[handle], len(NO_SAK) + len(MEMBERS)
+        rows = [words[length * it : length * (it + 1)] for it in range(count)]
+        status_if(end is None, "E_EMPTY", not_loaded(0, count))
+        begins: list[int] = []
+        try:
+            for place, row in enumerate(rows):
+                self.ends[handle] = copy.deepcopy(end)
+                with contextlib.suppress(expected.Refused):
+                    self.call_carry_out(handle, *row)
+            self.ends[handle] = copy.deepcopy(end)
+            for place, row in enumerate(rows):
+                begins.append(self.loaded(handle, row))
+        except Status as it:
+            self.ends[handle] = end
+            raise Status(it.args[0], not_loaded(place, count)) from None
+        except expected.Refused as it:
+            self.ends[handle] = end
+            raise Status("E_" + constant_name(str(it)), not_loaded(place, count)) from None
+        return f" {count}" + "".join(f" {it}" for it in begins)
+
+    def loaded(self, handle, row):
+        """One row of a load. Returns where its association begins, if that is above its number, otherwise 0."""
+        end, sak, members = self.ends[handle], row[: len(NO_SAK)], dict(zip(MEMBERS, row[len(NO_SAK) :]))
+        if members["kind"] == CONSTANTS["COMMAND_KEY"]:
+            self.key(end.renew, handle, *sak, members["key"])
+            return 0
+        try:
+            self.call_carry_out(handle, *row)
+            return 0
+        except expected.Refused as it:
+            if str(it) != "PnFloor":
+                raise
+        is_tx = members["kind"] == CONSTANTS["COMMAND_TX_SA"]
+        number = end.first_free(members["key"], () if is_tx else (members["sci"], members["an"]))
+        expected.refuse("PnFloor", number >= 2**64)
+        try:
+            self.call_carry_out(handle, *sak, *{**members, "pn": number}.values())
+        except expected.Refused as it:
+            expected.refuse("PnFloor", str(it) == "PnRange")
+            raise
+        return number
 
     def call_clear_command(self, handle, *row):
         return shown_command()

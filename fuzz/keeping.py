@@ -187,6 +187,12 @@ class Endpoint(expected.Endpoint):
             return None
         return self.rx_floor(*receiving, number) if receiving else self.tx_floor(number)
 
+    def first_free(self, number, receiving):
+        """The lowest packet number that was neither used under a key nor accepted from an SCI and AN."""
+        if receiving:
+            return self.rx_floor(*receiving, number) + 1
+        return max(self.keys[number].first_unused if number in self.keys else 0, self.tx_floor(number) + 1)
+
     def entries(self):
         """What was reported durable, with an entry for each key."""
         names = [self.key_name(it) for it in self.keys]

@@ -32,27 +32,29 @@
  * STATUS     Each call with a handle, except those that free it, returns a status: MACSEC_OK, or why nothing was done
  *            (MACSEC_E_..). In the second case nothing has changed, and the caller's output structs are unchanged,
  *            except that a macsec_sent, a macsec_received, the line of macsec_configure and of
- *            macsec_reserve_configure, the answer of macsec_answer, the command of macsec_parse_line and the
- *            configuration of macsec_parse_end are always filled in. The handle is tested first (MACSEC_E_EMPTY,
- *            MACSEC_E_TAKEN), then the arguments (MACSEC_E_NO_SUCH_..), then the rest. If several statuses of arguments
- *            apply, or several refusals of a command, the call returns the lowest; but MACSEC_E_PN_FLOOR comes first
- *            where a journal is the reason.
+ *            macsec_reserve_configure, the answer of macsec_answer, the command of macsec_parse_line, the
+ *            configuration of macsec_parse_end and the place of macsec_load are always filled in. The handle is tested
+ *            first (MACSEC_E_EMPTY, MACSEC_E_TAKEN), then the arguments (MACSEC_E_NO_SUCH_..), then the rest. If
+ *            several statuses of arguments apply, or several refusals of a command, the call returns the lowest; but
+ *            MACSEC_E_PN_FLOOR comes first where a journal is the reason.
  * MEMORY     macsec_new allocates 14 blocks by malloc, 19.1 MB in all: four for 4,096 keys, two for a frame, eight for
  *            the rest. macsec_free frees them. macsec_configure allocates the same, and so do macsec_reserve_open and
  *            macsec_reserve_configure, with one more for a journal that has records. macsec_key_take allocates one
  *            block, macsec_slot_new three, and macsec_journal_begin five. macsec_renew_key makes the block of the names
- *            larger from time to time, or allocates it. macsec_configure, macsec_reserve_configure,
+ *            larger from time to time, or allocates it. macsec_load allocates a copy of the endpoint, and frees the
+ *            endpoint or the copy before it returns. It and macsec_configure, macsec_reserve_configure,
  *            macsec_command_line, macsec_parse_line, macsec_parse_end and macsec_answer also allocate while they read
- *            their text, macsec_answer while it composes counters and packet numbers, and macsec_journal_compacted and
- *            macsec_journal_begin while they work, and free that before they return. No other call allocates, so no
- *            other call runs out of memory. malloc must align a block to each power of two up to 16 that divides its
- *            size, as all C libraries do. It must return: no exception may be thrown through the library, which has no
- *            unwinding tables. The library overwrites a block before it frees it. For blocks of 1 MB or more it asks
- *            the kernel for new pages (madvise), and overwrites them if the kernel refuses. The calls that take a key,
- *            a text or an association overwrite the stack that they used. An endpoint overwrites a key when it retires
- *            it (macsec_retire_key). A macsec_key, and a slot with a job, keep the octets of their key also after that.
- *            Registers, swap, core dumps and the caller's own copies are not covered. Give each call 96 KB of stack:
- *            the calls that create an endpoint took 66 KB on x86-64, the others 33 KB or less (measured, not proved).
+ *            commands or a text, macsec_answer while it composes counters and packet numbers, and
+ *            macsec_journal_compacted and macsec_journal_begin while they work, and free that before they return. No
+ *            other call allocates, so no other call runs out of memory. malloc must align a block to each power of two
+ *            up to 16 that divides its size, as all C libraries do. It must return: no exception may be thrown through
+ *            the library, which has no unwinding tables. The library overwrites a block before it frees it. For blocks
+ *            of 1 MB or more it asks the kernel for new pages (madvise), and overwrites them if the kernel refuses. The
+ *            calls that take a key, a text or an association overwrite the stack that they used. An endpoint overwrites
+ *            a key when it retires it (macsec_retire_key). A macsec_key, and a slot with a job, keep the octets of
+ *            their key also after that. Registers, swap, core dumps and the caller's own copies are not covered. Give
+ *            each call 96 KB of stack: the calls that create an endpoint and macsec_load took 66 KB on x86-64, and the
+ *            others 33 KB or less (measured, not proved).
  * PROCESSOR  An x86-64 processor with SSSE3 (every x86-64-v2 has it). The library does not test for it: on another one
  *            the process ends with SIGILL.
  * HANDLES    A handle is the caller's memory, initialized with MACSEC_ENDPOINT_INIT (all zero). Do not copy, move or
@@ -717,6 +719,35 @@ uint32_t macsec_carry_out(macsec_endpoint *e, const macsec_command *command);
 /* Overwrites a command with zeros, and so the key in it. The caller's copies of it stay. */
 void macsec_clear_command(macsec_command *command);
 
+uint32_t macsec_load_raw(macsec_endpoint *e, const macsec_command *commands, size_t count, uint64_t *begins,
+                         size_t begins_count, size_t *place);
+/* Carries out all of these commands, in their order, or none. A key is installed as by macsec_renew_key: it may take
+ * the number of a retired key, also of one that an earlier command retires. Other commands are carried out as by
+ * macsec_carry_out. But a command that creates an association, and would be refused with MACSEC_E_PN_FLOOR, begins it
+ * above its floor: above all packet numbers that may have been used under its key, or above what
+ * macsec_reserve_rx_floor gives. `begins[i]` is then the number at which the association of `commands[i]` begins, and
+ * otherwise 0. MACSEC_E_PN_FLOOR remains if there is no such number.
+ *
+ * With MACSEC_OK `place` is `count`. If a command is refused, the call returns its status, and `place` is its index;
+ * commands that mean nothing come first (MACSEC_E_NO_SUCH_COMMAND and other statuses of macsec_carry_out). Then neither
+ * the endpoint nor `begins` has changed: no packet number is lost, and keys, counters and windows are as they were. The
+ * same after MACSEC_E_EMPTY and MACSEC_E_MEMORY, with `place` 0. The raw call also returns MACSEC_E_SPACE, with `place`
+ * 0, if `begins_count` is not `count`.
+ *
+ * The commands are carried out at a copy of the endpoint, which then takes its place. The copy has as many octets as an
+ * endpoint of macsec_new, and 4.5 KB of them are written for each key; what is not in use is overwritten and freed. Use
+ * macsec_carry_out for a command alone. Overwrite the commands if there are keys in them (macsec_clear_command).
+ * Proved: what is said here, but for the memory (crates/macsec_c_calls/specs/Loading.antt). */
+static inline uint32_t macsec_load(macsec_endpoint *e, const macsec_command *commands, size_t count, uint64_t *begins,
+                                   size_t *place) {
+    macsec_command none;
+    uint64_t nothing;
+    if (count != 0)
+        return macsec_load_raw(e, commands, count, begins, count, place);
+    macsec_clear_command(&none);
+    return macsec_load_raw(e, &none, 0, &nothing, 0, place);
+}
+
 uint32_t macsec_answer_raw(macsec_endpoint *e, uint32_t number, const uint8_t *text, size_t text_length, uint8_t *out,
                            size_t out_length, size_t *written);
 /* As macsec_command_line, with the text that `macsec run` prints, and `A counters` and `A numbers` too: does line
@@ -876,9 +907,9 @@ uint32_t macsec_reserve_granted(macsec_endpoint *e, const macsec_record *record)
  * of 4,096 octets of their own. So a file with one damaged sector is refused, or says all that it said before. The
  * first order, and each after a failure, replaces the file by a new one with all that was read or ordered. If a
  * renameat fails, its new file may have the name all the same: keep it open and locked. If the name leads to it at the
- * next MACSEC_STEP_LOOKING_BEFORE, it is the journal. A file with a header of macsec_journal_header is read too, without
- * a test for damage, and then replaced by one of the new form. Names are compared one with another: macsec_journal_begin
- * makes n * n comparisons for n names, and an order of k records 3 * k * n. */
+ * next MACSEC_STEP_LOOKING_BEFORE, it is the journal. A file with a header of macsec_journal_header is read too,
+ * without a test for damage, and then replaced by one of the new form. Names are compared one with another:
+ * macsec_journal_begin makes n * n comparisons for n names, and an order of k records 3 * k * n. */
 
 /* The system call that is next. */
 enum {

@@ -13,9 +13,11 @@ use Rattle.macsec_reserve.specs.declared.reservation.Reservation.{Reservation}
 use Rattle.macsec_reserve.specs.Journal.{is_journal}
 use Rattle.macsec_reserve.specs.Keeping.{endpoint_input}
 use Rattle.macsec_ahead.specs.Ahead.{Ahead, ahead_step, alone_with, opened_with}
+use Rattle.macsec_c_calls.specs.declared.rows.CommandRow.{CommandRow}
 use Rattle.macsec_c_calls.specs.Arguments.{Named}
 use Rattle.macsec_c_calls.specs.Commands.{Renews, status_of_ahead}
 use Rattle.macsec_c_calls.specs.Commands.{commanded as by_endpoint}
+use Rattle.macsec_c_calls.specs.Loading.{Loads}
 use Rattle.macsec_c_calls.specs.Parsing.{row_commanded as row_by_endpoint}
 use Rattle.macsec_c_calls.specs.ReceivedParts.{ReceivedParts, unreceived}
 use Rattle.macsec_c_calls.specs.ReceivedParts.{parts_of_ahead as received_of}
@@ -47,6 +49,14 @@ row_commanded (Some e) c = held_after (row_by_endpoint e c)
 abbrev pub RenewsHeld : Option Ahead → Named NewKey → ℕ → Option Ahead → Type 0
 RenewsHeld None key status after = (status ≡ empty_status) × (after ≡ None)
 RenewsHeld (Some e) key status after = (left : Ahead) × Renews e key status left × (after ≡ Some left)
+
+-- of a load: the status, the place of a row, where the SAs begin, and what the handle holds after it
+abbrev pub LoadsHeld : Option Ahead → List CommandRow → List ℕ → ℕ → ℕ → List ℕ → Option Ahead → Type 0
+LoadsHeld None rows begins status place begun after = (status ≡ empty_status) × (place ≡ 0) × (begun
+    ≡ begins) × (after ≡ None)
+LoadsHeld (Some e) rows begins status place begun after =
+    (left : Ahead) × Loads e rows begins (record { status = status; place = place; begins = begun; after = left })
+    × (after ≡ Some left)
 
 -- the status of a report that what some octets reserve is durable, and what the handle holds after it
 abbrev pub reported : Option Ahead → List Reservation → ℕ × Option Ahead

@@ -5,3 +5,4 @@ pub mod JobSteps
 pub mod Parsed
 pub mod RowsMean
 pub mod GivenUp
+mod Loads

@@ -9,6 +9,7 @@ pub mod ReceivedParts
 pub mod Reserving
 pub mod RowLaws
 pub mod Rows
+pub mod Loading
 pub mod Sealing
 pub mod SentParts
 pub mod Shown

@@ -1,7 +1,7 @@
 //! Laws of answers, of rows and of renewed keys. They are about the definitions alone: the contracts of functions that
 //! do nothing.
 
-ghost use Rattle.std.specs.Prelude.{ℕ, List};
+ghost use Rattle.std.specs.Prelude.{ℕ, List, Option};
 ghost use Rattle.macsec_commands.specs.declared.command.Command.{Command};
 ghost use Rattle.macsec_ahead.specs.Ahead.{Ahead};
 ghost use Rattle.macsec_script_parser.specs.declared.lines.Line.{Line};
@@ -9,6 +9,7 @@ ghost use Rattle.macsec_c_calls.specs.declared.rows.CommandRow.{CommandRow};
 ghost use Rattle.macsec_suite.specs.declared.key_row.NewKey.{NewKey};
 ghost use Rattle.macsec_c_calls.specs.GivenUp.{Call, GivesUp, RefusesOctets, StayGivenUp};
 ghost use Rattle.macsec_c_calls.specs.Laws.{AnswersAsPrinted};
+ghost use Rattle.macsec_c_calls.specs.Loading.{LoadIsCalls};
 ghost use Rattle.macsec_c_calls.specs.RowLaws.{CommandsParsed, MeansCommand};
 
 use macsec_reserve::laws::renewing_gives_up_octets;
@@ -30,6 +31,12 @@ pub fn rows_mean_commands()
 /// statuses, and with the same endpoint after it.
 pub fn parsed_lines_are_commanded()
     ensures { (e : Ahead) (text : List ℕ) (status : ℕ) (row : CommandRow) → CommandsParsed e text status row }
+{}
+
+/// All commands of a load leave what a list of calls leaves, each of which carries out a command or installs a key. A
+/// load that is refused changes nothing. So each law about lists of calls is about loads, too.
+pub fn loads_are_calls()
+    ensures { (e : Ahead) (commands : List (Option Command)) → LoadIsCalls e commands }
 {}
 
 /// Once a new key took the row of a retired one, each call that installs a key refuses the octets of the retired one

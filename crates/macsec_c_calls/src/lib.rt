@@ -17,8 +17,10 @@
 //!   (`specs/Parsing.antt`). `carry_out_row` is the step of the command that a row means (`specs/Rows.antt`). Laws
 //!   (`laws`): the row of a command means this command, and a line that is parsed and then carried out does what
 //!   `command_line` does. `parse_end` gives the configuration of an `end` line.
-//! - A plan, a job and the end of a reception do what `specs/Jobs.antt` says: with a slot in between, they take the steps
-//!   and give the answers of `macsec_send` and `macsec_receive`.
+//! - `load_rows` carries out the commands of all rows, or of none; an SA that would be refused with `PnFloor` begins
+//!   above its floor (`specs/Loading.antt`). A law (`laws`): all commands leave what a list of calls leaves.
+//! - A plan, a job and the end of a reception do what `specs/Jobs.antt` says: with a slot in between, they take the
+//!   steps and give the answers of `macsec_send` and `macsec_receive`.
 //! - `seal` seals a frame for a test as `protect_in_place` would, whatever its SecTAG is (`specs/Sealing.antt`).
 //! - `answer` writes the answer of `specs/Answers.antt` to the beginning of the buffer, and leaves the endpoint after
 //!   it. If the buffer is too small, or memory runs out, nothing is written and nothing has changed. A line that is
@@ -36,6 +38,7 @@ mod configuring;
 mod creating;
 mod jobs;
 pub mod laws;
+pub mod loading;
 mod parsing;
 mod receiving;
 mod reserving;

@@ -1,8 +1,8 @@
-/* The calls that create an endpoint, macsec_free, the calls that receive a frame whose packet number is not reserved
- * and so is opened on the stack, and the calls with a journal as a file that compute most: each in a thread with the 96
- * KB of stack that the header asks for, less what the C library takes of it. No proof says how much stack the library
- * takes: without enough, this program ends with SIGSEGV. It says so too where a call takes more than the header says
- * that it was measured to take. */
+/* The calls that create an endpoint, macsec_free, macsec_load, the calls that receive a frame whose packet number is
+ * not reserved and so is opened on the stack, and the calls with a journal as a file that compute most: each in a
+ * thread with the 96 KB of stack that the header asks for, less what the C library takes of it. No proof says how much
+ * stack the library takes: without enough, this program ends with SIGSEGV. It says so too where a call takes more than
+ * the header says that it was measured to take. */
 #define _XOPEN_SOURCE 700
 #include "macsec.h"
 #include <pthread.h>
@@ -49,6 +49,14 @@ static void *open_beside(void *unused) {
 static void *configure_beside(void *unused) {
     status = macsec_reserve_configure(&endpoint, (const uint8_t *)lines, sizeof lines - 1, journal.octets,
                                       sizeof journal.octets, true, &line);
+    return unused;
+}
+
+static void *load(void *unused) {
+    macsec_command command = { .kind = MACSEC_COMMAND_PROTECT, .flag = 1 };
+    uint64_t begins;
+    size_t place;
+    status = macsec_load(&receiver, &command, 1, &begins, &place);
     return unused;
 }
 
@@ -149,9 +157,12 @@ static int prepare(void) {
     return macsec_plan_receive(&receiver, &slot, link, sizeof link, &planned) == MACSEC_OK && planned.job ? 0 : -1;
 }
 
-/* The frame is not reserved, and then it is. */
+/* A copy of the receiver takes its place. Then a frame is not reserved, and then it is. */
 static int receive_frames(void) {
     macsec_record record;
+    if (measure("macsec_load", load, CREATING) != 0)
+        return -1;
+    printf("macsec_load: %s\n", macsec_status_name(status));
     if (measure("macsec_receive", receive, OTHERS) != 0)
         return -1;
     printf("macsec_receive: %s, %s\n", macsec_status_name(status), macsec_verdict_name(verdict));

@@ -1,10 +1,10 @@
 /* Takes keys, uses them, and frees them, and stops after each step: tests/library/keys-in-memory reads its memory then.
  *
  * usage: memory WAY SUITE KEYS: SUITE is 1 to 4. WAY is struct, line, parsed (lines that are parsed, and then carried
- * out) or config, and KEYS how many keys come one after another. Or, as with struct: rekeys, and KEYS is how many
- * changes of keys there are; beside, and a third endpoint lives on; locked, and the memory is locked; journal, and the
- * endpoints have a journal; ahead, and they also reserve packet numbers ahead of receiving; jobs, and the frames pass
- * in slots; kept, and no key is retired.
+ * out), loaded (parsed, and then loaded) or config, and KEYS how many keys come one after another. Or, as with struct:
+ * rekeys, and KEYS is how many changes of keys there are; beside, and a third endpoint lives on; locked, and the memory
+ * is locked; journal, and the endpoints have a journal; ahead, and they also reserve packet numbers ahead of receiving;
+ * jobs, and the frames pass in slots; kept, and no key is retired.
  *
  * Its standard input has the octets of the first key, for each of two rounds, those of the next one for each change of
  * keys, and an octet for each step. The octets of a key are in no variable when a step is announced. The endpoints of
@@ -72,7 +72,7 @@ static bool is_way(const char *name) {
 }
 
 static bool is_by_line(void) {
-    return is_way("line") || is_way("parsed");
+    return is_way("line") || is_way("parsed") || is_way("loaded");
 }
 
 static void take_line(macsec_endpoint *e, const char *line, size_t length) {
@@ -82,7 +82,13 @@ static void take_line(macsec_endpoint *e, const char *line, size_t length) {
     }
     macsec_command command;
     must("parse", macsec_parse_line((const uint8_t *)line, length, &command));
-    must("carry out", macsec_carry_out(e, &command));
+    if (is_way("loaded")) {
+        uint64_t begins;
+        size_t place;
+        must("load", macsec_load(e, &command, 1, &begins, &place));
+    } else {
+        must("carry out", macsec_carry_out(e, &command));
+    }
     macsec_clear_command(&command);
 }
 
