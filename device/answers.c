@@ -119,6 +119,28 @@ void answer_numbers(struct text *t, const struct device *d) {
     (void)answer_line(t, d->endpoint, line, sizeof line - 1);
 }
 
+/* ---- Counters ---- */
+
+/* The values of the endpoint's counters and of its transmit channel's, in the order of the library's structs; 0 if
+ * there is no endpoint. */
+static void own_counters(const struct device *d, uint64_t own[OWN], uint64_t tx[TX]) {
+    macsec_counters all = { 0 };
+    macsec_tx_counters sent = { 0 };
+    (void)macsec_get_counters(d->endpoint, &all); /* MACSEC_E_EMPTY leaves 0 */
+    (void)macsec_get_tx_counters(d->endpoint, &sent);
+    memcpy(own, &all, OWN * sizeof *own);
+    memcpy(tx, &sent, TX * sizeof *tx);
+}
+
+uint32_t answer_rx_counters(const struct device *d, const uint8_t sci[8], int an, uint64_t values[RX]) {
+    const macsec_endpoint *e = d->endpoint;
+    macsec_rx_counters shown = { 0 };
+    uint32_t status;
+    status = an < 0 ? macsec_get_rx_counters(e, sci, &shown) : macsec_get_rx_sa_counters(e, sci, (uint8_t)an, &shown);
+    memcpy(values, &shown, RX * sizeof *values);
+    return status;
+}
+
 /* ---- Lines ---- */
 
 static void add_lines(struct text *t, const char *before, const char *const *names, const uint64_t *values, int count) {
@@ -131,7 +153,7 @@ static void add_channel_lines(struct text *t, const struct device *d, const uint
     uint64_t values[RX];
     sci_text(sci, name);
     for (int an = -1; an < MACSEC_AN_COUNT; an++) {
-        if (totals_rx(d, sci, an, values) != MACSEC_OK)
+        if (answer_rx_counters(d, sci, an, values) != MACSEC_OK)
             continue;
         if (an < 0)
             snprintf(before, sizeof before, "%s ", name);
@@ -144,7 +166,7 @@ static void add_channel_lines(struct text *t, const struct device *d, const uint
 void answer_counters(struct text *t, const struct device *d) {
     uint64_t own[OWN], tx[TX];
     uint8_t sci[8];
-    totals_own(d, own, tx);
+    own_counters(d, own, tx);
     add_lines(t, "", own_names, own, OWN);
     add_lines(t, "", tx_names, tx, TX);
     for (size_t place = 0; macsec_get_rx_sc(d->endpoint, place, sci) == MACSEC_OK; place++)
@@ -191,7 +213,8 @@ static void add_json_associations(struct text *t, const struct device *d, const 
     for (uint8_t an = 0; an < MACSEC_AN_COUNT; an++) {
         macsec_rx_sa sa;
         uint64_t values[RX];
-        if (macsec_get_rx_sa(d->endpoint, sci, an, &sa) != MACSEC_OK || totals_rx(d, sci, an, values) != MACSEC_OK)
+        if (macsec_get_rx_sa(d->endpoint, sci, an, &sa) != MACSEC_OK ||
+            answer_rx_counters(d, sci, an, values) != MACSEC_OK)
             continue;
         text_add(t, "%s{\"an\":%u,\"key\":%u,\"next\":\"" NUMBER "\",\"lowest\":\"" NUMBER "\",\"on\":%s,", comma, an,
                  sa.key, sa.next_high, sa.next, sa.lowest_high, sa.lowest, sa.on ? "true" : "false");
@@ -209,7 +232,7 @@ static void add_json_receive(struct text *t, const struct device *d) {
         char name[SCI_TEXT];
         uint64_t values[RX];
         sci_text(sci, name);
-        (void)totals_rx(d, sci, -1, values); /* the channel is there */
+        (void)answer_rx_counters(d, sci, -1, values); /* the channel is there */
         text_add(t, "%s{\"sci\":\"%s\",", place == 0 ? "" : ",", name);
         add_object(t, "counters", rx_names, values, RX);
         add_json_associations(t, d, sci);
@@ -221,7 +244,7 @@ static void add_json_receive(struct text *t, const struct device *d) {
 void answer_json(struct text *t, const struct device *d) {
     uint64_t own[OWN], tx[TX];
     uint32_t left = 0;
-    totals_own(d, own, tx);
+    own_counters(d, own, tx);
     (void)macsec_keys_left(d->endpoint, &left); /* without an endpoint it is 0 */
     text_add(t, "{\"device\":\"%s\",\"tap\":\"%s\",\"link\":\"%s\",\"up\":%s,", d->name, d->tap.name, d->link.name,
              d->link.up ? "true" : "false");
@@ -283,11 +306,11 @@ static void add_rx_metrics(struct text *t, const struct device *d, int counter, 
              of_sas ? "receive association: macsec(5)" : "receive channel: macsec(5)");
     for (size_t place = 0; macsec_get_rx_sc(d->endpoint, place, sci) == MACSEC_OK; place++) {
         sci_text(sci, name);
-        if (!of_sas && totals_rx(d, sci, -1, values) == MACSEC_OK)
+        if (!of_sas && answer_rx_counters(d, sci, -1, values) == MACSEC_OK)
             text_add(t, "macsec_%s_total{device=\"%s\",sci=\"%s\"} %" PRIu64 "\n", metric, d->name, name,
                      values[counter]);
         for (int an = 0; of_sas && an < MACSEC_AN_COUNT; an++)
-            if (totals_rx(d, sci, an, values) == MACSEC_OK)
+            if (answer_rx_counters(d, sci, an, values) == MACSEC_OK)
                 text_add(t, "macsec_sa_%s_total{device=\"%s\",sci=\"%s\",an=\"%d\"} %" PRIu64 "\n", metric, d->name,
                          name, an, values[counter]);
     }
@@ -333,7 +356,7 @@ static void add_gauges(struct text *t, const struct device *d) {
 
 void answer_metrics(struct text *t, const struct device *d) {
     uint64_t own[OWN], tx[TX];
-    totals_own(d, own, tx);
+    own_counters(d, own, tx);
     add_plain_metrics(t, d->name, false, own_names, own, OWN);
     add_plain_metrics(t, d->name, false, tx_names, tx, TX);
     for (int i = 0; i < RX; i++)

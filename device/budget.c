@@ -40,7 +40,7 @@ void budget_end(struct device *d, int client, bool waited) {
     if (d->port.owner == client)
         return;
     if (waited)
-        used = took < used + 1000 * HANDOVER_WAITS ? took : used + 1000 * HANDOVER_WAITS;
+        used = took < used + 1000 * LOAD_WAITS ? took : used + 1000 * LOAD_WAITS;
     it->paid = (it->paid > b->began ? it->paid : b->began) + 2 * used + (used > BRIEF ? TIMES * (took - BRIEF) : 0);
     it->paid = it->paid < end + MOST ? it->paid : end + MOST;
 }

@@ -17,6 +17,22 @@ struct result {
     uint32_t kind;     /* MACSEC_COMMAND_.. */
 };
 
+/* The most octets of a request, which is `load` with its lines; the fewest of a command with its line feed (`A txon
+ * 0`); how many of these a request can have, with a shorter line that ends them; and how many milliseconds `load` waits
+ * for the reservations of new associations, while no frame is read. */
+enum { REQUEST_MAX = 128 * 1024, LINE_MIN = 9, LINES = REQUEST_MAX / LINE_MIN + 1, LOAD_WAITS = 50 };
+
+/* The lines of a `load`, but for those that are skipped. */
+struct load {
+    macsec_command commands[LINES];
+    uint64_t begins[LINES]; /* as of macsec_load */
+    unsigned numbers[LINES];
+    size_t count;
+    struct result last;              /* why the endpoint does not get the last one, if it does not */
+    size_t names;                    /* how many lines may need a name in the journal */
+    bool installs[MACSEC_KEY_COUNT]; /* which keys they install */
+};
+
 struct result result_of(uint32_t status);
 /* Creates the endpoint of a configuration's text, or none if the text has no line. Returns the status of the first line
  * that fails, and its number. */
@@ -29,59 +45,21 @@ struct result endpoint_command(struct device *d, const char *line, size_t length
 /* Carries out all lines of a text, or none. Adds the answer. */
 void endpoint_load(struct device *d, struct text *t, const char *lines, size_t length);
 
-/* ---- handover.c: a second endpoint, and the keys and counters that pass to it ---- */
-
-/* Allocates locked memory for one key of each number. */
-int keys_open(macsec_sak **keys);
-void keys_retire(macsec_sak *keys, size_t number);
-/* Is there a key of this number that is not retired? */
-bool keys_has(const macsec_sak *keys, size_t number);
-void keys_wipe(macsec_sak *keys);
+/* ---- answers.c: the text of answers, each for a request ---- */
 
 /* made: counts-of-counters of tools/families.json */
 enum { OWN_COUNTERS = 11, TX_COUNTERS = 4, RX_COUNTERS = 6 };
 /* end */
 
-/* What the earlier endpoints counted, also on each receive channel that is still there, and on its associations. */
-struct totals {
-    uint64_t own[OWN_COUNTERS], tx[TX_COUNTERS];
-    struct channel_totals {
-        uint8_t sci[8];
-        uint64_t all[RX_COUNTERS];
-        uint64_t of_sa[MACSEC_AN_COUNT][RX_COUNTERS];
-    } channels[MACSEC_RX_CHANNEL_COUNT];
-    size_t count;
-};
-
-/* The values of the endpoint's counters and of its transmit channel's, in the order of the library's structs; 0 if
- * there is no endpoint. */
-void totals_own(const struct device *d, uint64_t own[OWN_COUNTERS], uint64_t tx[TX_COUNTERS]);
-/* The values of a receive channel, or, if `an` is not -1, of an association. Returns the library's status. */
-uint32_t totals_rx(const struct device *d, const uint8_t sci[8], int an, uint64_t values[RX_COUNTERS]);
-/* Keeps the counters of the endpoint, which ends, so that the next one's are added to them. */
-void totals_carry(struct device *d);
-/* A channel that was deleted, or an association if `an` is not -1, counts no more. */
-void totals_end(struct totals *t, const uint8_t sci[8], int an);
-
-/* How many milliseconds to wait for the reservations of new transmit associations, while no frame is read. */
-enum { HANDOVER_WAITS = 50 };
-
-/* Makes a second endpoint in the free handle: a copy with the keys that are not retired, the channels and the
- * associations, which go on with the reservations. Returns NULL, after a message, if it can't be made. */
-macsec_endpoint *handover_begin(struct device *d);
-/* Reserves for the second endpoint, and lets it take over from the first. If no record can be written, it drops frames
- * until it has a reservation. */
-void handover_take(struct device *d, macsec_endpoint *e);
-
-/* ---- answers.c: the text of answers, each for a request ---- */
-
 void sci_text(const uint8_t sci[8], char text[SCI_TEXT]);
+/* The values of a receive channel, or, if `an` is not -1, of an association. Returns the library's status. */
+uint32_t answer_rx_counters(const struct device *d, const uint8_t sci[8], int an, uint64_t values[RX_COUNTERS]);
 void answer_result(struct text *t, struct result r);
 /* What `macsec run` prints for a line that only reads, `A counters` or `A numbers`, without the number of the line.
  * Returns false if it is another line. */
 bool answer_line(struct text *t, macsec_endpoint *e, const char *line, size_t length);
 void answer_numbers(struct text *t, const struct device *d);
-/* The counters, with those of the endpoints from which this one has taken over, and what the device counts. */
+/* The counters of the endpoint, and what the device counts. */
 void answer_counters(struct text *t, const struct device *d);
 void answer_link(struct text *t, const struct device *d);
 /* All counters as one JSON object, and in the text format of Prometheus. */
@@ -94,9 +72,6 @@ void answer_show(struct text *t, const struct device *d);
 uint64_t show_left(const struct device *d, const macsec_tx_sa *sa);
 
 /* ---- requests.c: requests and their answers ---- */
-
-/* The most octets of a request, which is `load` with its lines. */
-enum { REQUEST_MAX = 128 * 1024 };
 
 /* Is it `load`, with the lines of it? */
 bool requests_loads(const char *request, size_t length);

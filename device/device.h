@@ -11,8 +11,8 @@ struct device {
     const char *name;
     struct config config;
     macsec_endpoint handles[2];
-    macsec_sak *keys;
-    struct totals totals;
+    uint32_t suites[MACSEC_KEY_COUNT]; /* of the keys that were installed last under their numbers */
+    struct load load;
     macsec_endpoint *endpoint; /* one of them. It is empty if there is no endpoint; the other one always is. */
     macsec_config end;         /* of which it was created */
     struct counts counts;

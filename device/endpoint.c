@@ -11,11 +11,10 @@ static void note(struct device *d, const macsec_command *c, bool passes) {
     case NO_EFFECT:
         break;
     case KEEPS_KEY:
-        d->keys[c->key] = c->sak;
+        d->suites[c->key] = c->sak.suite;
         numbers_note_key(d->numbers, c->key, passes);
         break;
     case WIPES_KEY:
-        keys_retire(d->keys, c->key);
         numbers_note_retired(d->numbers, c->key, passes);
         break;
     case BEGINS_SA:
@@ -26,7 +25,6 @@ static void note(struct device *d, const macsec_command *c, bool passes) {
         break;
     case ENDS_SA:
         numbers_end_receiving(d->numbers, d->endpoint);
-        totals_end(&d->totals, c->sci, c->kind == MACSEC_COMMAND_RX_DEL ? c->an : -1);
         break;
     }
 }
@@ -49,8 +47,6 @@ void endpoint_close(struct device *d) {
     numbers_note_all(d->numbers, d->endpoint);
     numbers_forget(d->numbers);
     macsec_free(d->endpoint);
-    keys_wipe(d->keys);
-    memset(&d->totals, 0, sizeof d->totals);
 }
 
 /* Creates an endpoint, which replaces the one that there is. If it fails, nothing has changed. */
@@ -58,7 +54,7 @@ static uint32_t create(struct device *d, const macsec_config *end) {
     macsec_endpoint *e = &d->handles[d->endpoint == &d->handles[0]];
     uint32_t status;
     numbers_note_all(d->numbers, d->endpoint); /* its associations may come again at the new one */
-    status = numbers_configure(d->numbers, e, end, NULL, 0);
+    status = numbers_configure(d->numbers, e, end);
     if (status != MACSEC_OK)
         return status;
     endpoint_close(d);
@@ -111,28 +107,25 @@ uint32_t endpoint_configure(struct device *d, const char *text, size_t length, u
 
 /* ---- Requests ---- */
 
-/* What lines mean for the device, now that a second endpoint has carried them out. */
-static void note_lines(struct device *d, const char *lines, size_t left) {
-    struct commands it = { .text = lines, .left = left };
-    while (commands_next(&it)) {
-        note(d, &it.command, d->port.owner >= 0);
-        if (it.status == MACSEC_E_MEMORY)
-            message("out of memory: no further endpoint can take over the key of line %u of `load`", it.number);
-    }
+static bool is_refused(const struct result *r) {
+    return r->fault != NULL || r->status != MACSEC_OK;
 }
 
-/* Carries out a command at the endpoint, or tries it at a copy. `status` is the library's for its line. */
-static struct result carry_out(struct device *d, macsec_endpoint *e, uint32_t status, const macsec_command *c) {
+/* Why the endpoint does not get a command, if it does not. `status` is the library's for its line. */
+static struct result judge(const struct device *d, uint32_t status, const macsec_command *c, bool lacks_name) {
     struct result r = { NULL, status, 0, c->kind };
     if (status != MACSEC_OK)
         r.status = endpoint_is_open(d) ? status : MACSEC_E_EMPTY;
     else if (!limits_allow(&d->config.limits, c))
         r.fault = "NotAllowed";
-    else if (lines_lack_name(d->numbers, e, c))
+    else if (lacks_name)
         r.fault = "JournalFull";
-    else
-        r.status = lines_carry_out(d->numbers, e, c, &r.raised);
-    if (r.fault == NULL && r.status == MACSEC_OK && e == d->endpoint)
+    return r;
+}
+
+static struct result carry_out(struct device *d, uint32_t status, const macsec_command *c) {
+    struct result r = judge(d, status, c, lines_lack_name(d->numbers, d->endpoint, c));
+    if (!is_refused(&r) && (r.status = lines_carry_out(d->numbers, d->endpoint, c, &r.raised)) == MACSEC_OK)
         note(d, c, d->port.owner >= 0);
     return r;
 }
@@ -140,73 +133,92 @@ static struct result carry_out(struct device *d, macsec_endpoint *e, uint32_t st
 struct result endpoint_command(struct device *d, const char *line, size_t length) {
     macsec_command c;
     uint32_t status = macsec_parse_line((const uint8_t *)line, length, &c);
-    struct result r = carry_out(d, d->endpoint, status, &c);
+    struct result r = carry_out(d, status, &c);
     macsec_clear_command(&c);
     return r;
 }
 
 /* ---- All lines or none ---- */
 
-/* Carries out each line at the endpoint or at a copy, and adds the answers. Returns false if one was refused: then the
- * answer is for this line alone. */
-static bool load_lines(struct device *d, macsec_endpoint *e, struct text *t, const char *lines, size_t left) {
-    struct commands it = { .text = lines, .left = left };
-    bool fails = false;
-    t->length = 0;
-    while (!fails && commands_next(&it)) {
-        struct result r = carry_out(d, e, it.status, &it.command);
-        fails = r.fault != NULL || r.status != MACSEC_OK;
-        if (commands_skips(&it) && !fails)
-            continue;
-        if (fails)
-            t->length = 0;
-        text_add(t, "%u ", it.number);
-        answer_result(t, r);
-    }
-    macsec_clear_command(&it.command);
-    if (t->length == 0)
-        text_add(t, "ok\n");
-    return !fails && !t->full;
+/* Does a line of `load` begin an association for which no name is left? Each line that may need one counts. It may if
+ * the association has no name yet, or if an earlier line installs its key: the endpoint knows no name of such a key, be
+ * it in the journal or not. */
+static bool lacks_name(const struct device *d, struct load *l, const macsec_command *c) {
+    if (lines_effect(c->kind) == KEEPS_KEY)
+        l->installs[c->key] = true;
+    if (lines_effect(c->kind) != BEGINS_SA || (!l->installs[c->key] && numbers_has_name(d->numbers, d->endpoint, c)))
+        return false;
+    return numbers_names(d->numbers) + l->names++ >= numbers_names_max();
 }
 
-/* How many lines can be refused? 2 means two or more. */
-static unsigned lines_to_do(const char *lines, size_t left) {
-    struct commands it = { .text = lines, .left = left };
-    unsigned count = 0;
-    while (count < 2 && commands_next(&it))
-        count += !commands_skips(&it);
-    macsec_clear_command(&it.command);
-    return count;
+/* Takes a line. In place of a command that the endpoint does not get comes one that every endpoint refuses, a channel
+ * of its own SCI: so an earlier line that it refuses is found first, and nothing is carried out. */
+static void take_line(const struct device *d, struct load *l, const struct commands *it) {
+    macsec_command *c = &l->commands[l->count];
+    l->numbers[l->count++] = it->number;
+    *c = it->command;
+    l->last = judge(d, it->status, c, lacks_name(d, l, c));
+    if (l->count == LINES)
+        l->last.fault = "LoadLong"; /* never: LINES are enough */
+    if (!is_refused(&l->last))
+        return;
+    *c = (macsec_command){ .kind = MACSEC_COMMAND_RX_SC };
+    memcpy(c->sci, d->end.sci, sizeof c->sci);
 }
 
-/* Carries out lines that a copy has taken, at the endpoint itself: so no packet number is skipped. The endpoint can
- * refuse one all the same, since it knows the octets of retired keys and the copy does not. Then the copy takes over,
- * with all lines, and its answers are those. The others are written after them meanwhile. */
-static void do_lines(struct device *d, macsec_endpoint *copy, struct text *t, const char *lines, size_t length) {
-    struct text done = { t->octets + t->length, 0, t->room - t->length, false };
-    if (load_lines(d, d->endpoint, &done, lines, length)) {
-        macsec_free(copy);
-        (void)numbers_reserve_soon(d->numbers, d->endpoint, HANDOVER_WAITS); /* a failure is reported */
-        memmove(t->octets, done.octets, done.length);
-        t->length = done.length;
-    } else {
-        handover_take(d, copy);
-        note_lines(d, lines, length);
-        message("a second endpoint goes on after `load`");
-    }
+/* Takes lines up to the first one that the endpoint does not get. */
+static void take_lines(const struct device *d, struct load *l, const char *lines, size_t left) {
+    struct commands it = { .text = lines, .left = left };
+    l->last = result_of(MACSEC_OK);
+    l->count = l->names = 0;
+    memset(l->installs, 0, sizeof l->installs);
+    while (!is_refused(&l->last) && commands_next(&it))
+        if (!commands_skips(&it))
+            take_line(d, l, &it);
+    macsec_clear_command(&it.command);
+}
+
+/* What lines mean for the device, now that all are carried out. Associations begin last: a key can have the number of
+ * one that a later line retires. */
+static void note_lines(struct device *d, const struct load *l) {
+    for (int begins = 0; begins < 2; begins++)
+        for (size_t i = 0; i < l->count; i++)
+            if ((lines_effect(l->commands[i].kind) == BEGINS_SA) == begins)
+                note(d, &l->commands[i], d->port.owner >= 0);
+    numbers_reserve_soon(d->numbers, d->endpoint, LOAD_WAITS);
+}
+
+static void answer_at(struct text *t, const struct load *l, size_t place, struct result r) {
+    text_add(t, "%u ", l->numbers[place]);
+    answer_result(t, r);
+}
+
+/* All answers fit: none has more than twice the octets of its line. */
+static void load_lines(struct device *d, struct load *l, struct text *t) {
+    size_t place;
+    uint32_t status;
+    numbers_note_all(d->numbers, d->endpoint); /* associations may end */
+    status = macsec_load(d->endpoint, l->commands, l->count, l->begins, &place);
+    if (status == MACSEC_E_MEMORY)
+        answer_result(t, result_of(status));
+    else if (status != MACSEC_OK)
+        answer_at(t, l, place, place + 1 == l->count && is_refused(&l->last) ? l->last : result_of(status));
+    else
+        note_lines(d, l);
+    for (size_t i = 0; status == MACSEC_OK && i < l->count; i++)
+        answer_at(t, l, i, (struct result){ NULL, status, l->begins[i], l->commands[i].kind });
 }
 
 void endpoint_load(struct device *d, struct text *t, const char *lines, size_t length) {
-    macsec_endpoint *copy;
-    if (!endpoint_is_open(d)) {
+    struct load *l = &d->load;
+    take_lines(d, l, lines, length);
+    if (!endpoint_is_open(d))
         answer_result(t, result_of(MACSEC_E_EMPTY));
-    } else if (lines_to_do(lines, length) < 2) {
-        (void)load_lines(d, d->endpoint, t, lines, length); /* the answer says what became of it */
-    } else if ((copy = handover_begin(d)) == NULL) {
-        answer_result(t, result_of(MACSEC_E_MEMORY));
-    } else if (load_lines(d, copy, t, lines, length)) {
-        do_lines(d, copy, t, lines, length);
-    } else {
-        macsec_free(copy);
-    }
+    else if (l->count == 0)
+        text_add(t, "ok\n");
+    else if (l->count > 1)
+        load_lines(d, l, t);
+    else
+        answer_at(t, l, 0, is_refused(&l->last) ? l->last : carry_out(d, MACSEC_OK, l->commands));
+    explicit_bzero(l->commands, l->count * sizeof *l->commands); /* they may have keys */
 }

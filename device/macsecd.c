@@ -36,7 +36,6 @@ static int start(struct device *d) {
     RETURN_IF_FAILED(journals_check_keys(c, d->name));
     RETURN_IF_FAILED(link_open(&d->link, c->link));
     RETURN_IF_FAILED(tap_open(&d->tap, c, &d->link));
-    RETURN_IF_FAILED(keys_open(&d->keys));
     RETURN_IF_FAILED(control_open(&d->control, d->name, c));
     RETURN_IF_FAILED(rtnetlink_open(d));
     RETURN_IF_FAILED(workers_open(&d->workers, c->has_workers ? c->workers : workers_fitting()));
@@ -88,7 +87,6 @@ static int run(struct device *d) {
     config_wipe(&d->config);
     workers_close(d->workers);
     macsec_free(d->endpoint);
-    keys_wipe(d->keys);
     return result;
 }
 

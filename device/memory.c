@@ -1,8 +1,8 @@
-/* Keys are in the blocks of an endpoint, in requests, in blocks of the parser and, for a moment, on the stack. No page
- * of that is written to swap: all of it is locked at the start, while macsecd has the right to do so. The heap and the
- * stack are made as large before that as they have to be later: a part that comes later would not be locked, and a
- * locked stack can't grow above the limit of locked memory.
- * Core files are in confine.c, and macsecd starts no process. */
+/* Keys are in the blocks of an endpoint, in requests and their commands, in blocks of the parser and, for a moment, on
+ * the stack. No page of that is written to swap: all of it is locked at the start, while macsecd has the right to do
+ * so. The heap and the stack are made as large before that as they have to be later: a part that comes later would not
+ * be locked, and a locked stack can't grow above the limit of locked memory. Core files are in confine.c, and macsecd
+ * starts no process. */
 #include "system.h"
 #include <limits.h>
 #include <malloc.h>

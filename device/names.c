@@ -293,21 +293,10 @@ size_t names_changes(struct names *n, macsec_journal *journal, macsec_record *ou
 
 /* ---- What is durable, and what was accepted ---- */
 
-/* The record of this name among some, or NULL. */
-static const macsec_record *find_record(const uint8_t *name, const macsec_record *records, size_t count) {
-    for (size_t i = 0; i < count; i++)
-        if (memcmp(name, records[i].octets, NAME) == 0)
-            return &records[i];
-    return NULL;
-}
-
-void names_put(const struct names *n, const macsec_record *instead, size_t count, uint8_t *octets, size_t length) {
+void names_put(const struct names *n, uint8_t *octets, size_t length) {
     for (uint8_t *at = octets + MACSEC_RECORD_LENGTH; at < octets + length; at += MACSEC_RECORD_LENGTH) {
         const struct name *name = names_find(n, at);
-        const macsec_record *record = find_record(at, instead, count);
-        if (record != NULL)
-            memcpy(at, record, sizeof *record);
-        else if (name != NULL && name->has_accepted)
+        if (name != NULL && name->has_accepted)
             memcpy(at + NAME, name->accepted, sizeof name->accepted);
     }
 }

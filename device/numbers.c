@@ -41,7 +41,6 @@ struct numbers {
     uint64_t grants;        /* how often a reservation of received packet numbers may have been reported */
     bool begun;             /* may frames come now? */
     bool lacks;             /* is it reported that there is no name for an association? */
-    macsec_record header;   /* of what an endpoint is made of */
     uint64_t orders, done;  /* how many orders were given, and were carried out */
     uint64_t amount;        /* of a reservation */
     uint64_t unseen;        /* frames sent since the reservations were looked at */
@@ -98,7 +97,6 @@ int numbers_open(struct numbers **n, const char *name, const char *named, struct
     char path[PATH_MAX];
     const char *wrong;
     struct journal_fault fault;
-    size_t length;
     *n = &the_numbers;
     the_numbers.counts = counts;
     the_numbers.amount = AMOUNT_MIN;
@@ -112,8 +110,6 @@ int numbers_open(struct numbers **n, const char *name, const char *named, struct
     if (!names_read(&the_numbers.names, &the_numbers.journal.machine, the_numbers.journal.room,
                     numbers_names_max() + SPARE))
         return message_of_memory();
-    (void)journal_whole(&the_numbers.journal, (uint8_t *)the_numbers.journal.records, &length);
-    the_numbers.header = the_numbers.journal.records[0];
     return journal_writer_open(&the_numbers.writer, &the_numbers.journal);
 }
 
@@ -296,8 +292,7 @@ bool numbers_is_written(const struct numbers *n, uint64_t ticket) {
 
 /* ---- Reserving what is sent ---- */
 
-/* Reserves for a transmit association. What is durable already is reported first: an endpoint that takes over goes on
- * with the reservation of the one before. */
+/* Reserves for a transmit association. What is durable already is reported first, as for a receive association. */
 static void reserve_for(struct numbers *n, macsec_endpoint *e, uint8_t an) {
     macsec_tx_sa sa;
     macsec_record record;
@@ -345,8 +340,7 @@ static bool may_accept(const macsec_endpoint *e, const uint8_t sci[8], uint8_t a
 }
 
 /* Reserves for a receive association, after the packet number of a frame or 0. What is durable already is reported
- * first, as for a transmit association: it may have been reported to an endpoint that did not take over, or when this
- * association was not there. Returns false if nothing more is wanted. */
+ * first: it may have been reported when this association was not there. Returns false if nothing more is wanted. */
 static bool accept_for(struct numbers *n, macsec_endpoint *e, const uint8_t sci[8], uint8_t an, uint64_t pn) {
     struct receive_rate *rate = receive_rates_of(&n->rates, sci);
     uint64_t amount = receive_rates_amount(rate, n->slow);
@@ -442,14 +436,13 @@ static bool has_reserved(struct numbers *n, const macsec_endpoint *e) {
     return all;
 }
 
-bool numbers_reserve_soon(struct numbers *n, macsec_endpoint *e, int milliseconds) {
+void numbers_reserve_soon(struct numbers *n, macsec_endpoint *e, int milliseconds) {
     accept_all(n, e);
     numbers_reserve(n, e);
-    if (!has_reserved(n, e)) {
-        journal_writer_wait(n->writer, milliseconds);
-        numbers_go_on(n, e);
-    }
-    return has_reserved(n, e) || !n->waits;
+    if (has_reserved(n, e))
+        return;
+    journal_writer_wait(n->writer, milliseconds);
+    numbers_go_on(n, e);
 }
 
 /* ---- The end of an association or an endpoint ---- */
@@ -562,19 +555,14 @@ void numbers_close(struct numbers *n, macsec_endpoint *e) {
 
 /* ---- Creating an endpoint ---- */
 
-uint32_t numbers_configure_empty(const struct numbers *n, macsec_endpoint *e, const macsec_config *config) {
-    return macsec_reserve_open(e, config, n->header.octets, sizeof n->header.octets, false);
-}
-
-uint32_t numbers_configure(struct numbers *n, macsec_endpoint *e, const macsec_config *config,
-                           const macsec_record *instead, size_t count) {
+uint32_t numbers_configure(struct numbers *n, macsec_endpoint *e, const macsec_config *config) {
     uint8_t *journal = malloc(n->journal.limit);
     size_t length = 0;
     uint32_t status;
     if (journal == NULL)
         return MACSEC_E_MEMORY;
     status = journal_whole(&n->journal, journal, &length);
-    names_put(&n->names, instead, count, journal, length);
+    names_put(&n->names, journal, length);
     if (status == MACSEC_OK)
         status = macsec_reserve_open(e, config, journal, length, true);
     free(journal);

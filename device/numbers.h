@@ -84,9 +84,9 @@ bool names_end(struct names *n, const macsec_endpoint *e);
 /* Takes the records that have changed, as many as there is room for, and lets names go. Returns how many. No order may
  * be under way. */
 size_t names_changes(struct names *n, macsec_journal *journal, macsec_record *out, size_t room);
-/* Changes what an endpoint is made of for another endpoint of this run. A name that one of these records has gets that
- * record. A name of a receive association gets the number up to which the association has accepted. */
-void names_put(const struct names *n, const macsec_record *instead, size_t count, uint8_t *octets, size_t length);
+/* Changes what an endpoint is made of for another endpoint of this run: a name of a receive association gets the number
+ * up to which the association has accepted. */
+void names_put(const struct names *n, uint8_t *octets, size_t length);
 /* Notes that these records are durable. Reports those that reserve something new to the endpoint. */
 void names_written(struct names *n, const macsec_record *records, size_t count, macsec_endpoint *e);
 void names_free(struct names *n);
@@ -172,12 +172,9 @@ int numbers_folder(const struct numbers *n);
 int numbers_file(const struct numbers *n);
 /* To be called when numbers_file can be read: reports the records to the endpoint, and has the next ones written. */
 void numbers_go_on(struct numbers *n, macsec_endpoint *e);
-/* Creates an endpoint with a copy of the journal, in which these records replace the ones of the same names. What
- * numbers_note_accepted has noted replaces what is reserved for receive associations. Returns the library's status. */
-uint32_t numbers_configure(struct numbers *n, macsec_endpoint *e, const macsec_config *config,
-                           const macsec_record *instead, size_t count);
-/* Creates an endpoint with a journal that reserves nothing. Such an endpoint sends and receives nothing. */
-uint32_t numbers_configure_empty(const struct numbers *n, macsec_endpoint *e, const macsec_config *config);
+/* Creates an endpoint with a copy of the journal, in which what numbers_note_accepted has noted replaces what is
+ * reserved for receive associations. Returns the library's status. */
+uint32_t numbers_configure(struct numbers *n, macsec_endpoint *e, const macsec_config *config);
 /* To be called when a key was installed or retired. `passes`: a key agreement has brought the key or retires it, so it
  * is given up. */
 void numbers_note_key(struct numbers *n, uint16_t key, bool passes);
@@ -189,10 +186,8 @@ void numbers_begin_to_send(struct numbers *n, macsec_endpoint *e, uint8_t an);
 void numbers_begin_to_receive(struct numbers *n, macsec_endpoint *e, const uint8_t sci[8], uint8_t an);
 /* To be called when receive associations have ended. */
 void numbers_end_receiving(struct numbers *n, macsec_endpoint *e);
-/* Makes all reservations for an endpoint that is to take over. If an enabled association has nothing reserved, it waits
- * for the disk, at most so long. Returns false if the association still has nothing then, and the journal can't be
- * written. */
-bool numbers_reserve_soon(struct numbers *n, macsec_endpoint *e, int milliseconds);
+/* Makes all reservations. If an enabled association has nothing reserved, it waits for the disk, at most so long. */
+void numbers_reserve_soon(struct numbers *n, macsec_endpoint *e, int milliseconds);
 /* Notes that frames were sent, and whether one lacked a reservation; reserves in time. */
 void numbers_used(struct numbers *n, macsec_endpoint *e, unsigned frames, bool lacked);
 /* How often a reservation of received packet numbers may have been reported to the endpoint. */

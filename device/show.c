@@ -27,7 +27,7 @@ static void number_text(uint64_t number, uint64_t high, char text[NUMBER]) {
 
 /* Has this key's suite extended packet numbers? A key that names no suite has the endpoint's. */
 static bool is_extended(const struct device *d, uint16_t key) {
-    uint32_t suite = d->keys[key].suite;
+    uint32_t suite = d->suites[key];
     if (suite == MACSEC_SUITE_DEFAULT)
         suite = d->end.suite;
     /* made: is-extended of tools/families.json */
@@ -137,7 +137,8 @@ static void add_associations(struct text *t, const struct device *d, const uint8
         macsec_rx_sa sa;
         uint64_t values[RX_COUNTERS];
         char next[NUMBER], lowest[NUMBER];
-        if (macsec_get_rx_sa(d->endpoint, sci, an, &sa) != MACSEC_OK || totals_rx(d, sci, an, values) != MACSEC_OK)
+        if (macsec_get_rx_sa(d->endpoint, sci, an, &sa) != MACSEC_OK ||
+            answer_rx_counters(d, sci, an, values) != MACSEC_OK)
             continue;
         if (!any) {
             text_add(t, "  AN   key  state          next PN       lowest PN");
