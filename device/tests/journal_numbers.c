@@ -103,7 +103,7 @@ static void create(void) {
     must(end, macsec_configure(&peer, (const uint8_t *)end, strlen(end), &line));
     snprintf(end, sizeof end, "end A gcm128 %s 1600 sci", own);
     must(end, macsec_parse_end((const uint8_t *)end, strlen(end), &config));
-    if (numbers_configure(n, &e, &config, NULL, 0) != MACSEC_OK)
+    if (numbers_configure(n, &e, &config) != MACSEC_OK)
         exit(3);
 }
 

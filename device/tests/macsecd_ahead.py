@@ -19,8 +19,8 @@ from macsecd_world import (
     Packets,
     Stream,
     World,
-    hand_over_lines,
     late_frames,
+    load_lines,
     numbers_of,
     ping,
     protected,
@@ -262,35 +262,32 @@ def check_gap(world: World) -> None:
 # ---- Changes
 
 
-def check_handovers(world: World, count: int) -> None:
-    """Endpoints that take over from each other under traffic: no frame is lost, and none is accepted again."""
+def check_loads(world: World, count: int) -> None:
+    """`load` under traffic: no frame is lost, and none is accepted again."""
     world.start()
     a, b = world.ends
     link, stream, client = Packets(b.link_namespace, "link0"), Stream(a, 0.001), Client(b)
     time.sleep(0.5)
-    key = secrets.token_hex(16)
-    client.carry_out(f"A key 4000 {key} 0", "A retire 4000")
     for _ in range(count):
-        got = client.ask(hand_over_lines(key))
-        report(got == "1 ok\n2 ok\n", f"ahead: a second endpoint does not take over: {got}")
+        got = client.ask(load_lines())
+        report(got == "1 ok\n2 ok\n", f"ahead: `load`: {got}")
         time.sleep(0.1)
     sent, arrived = stream.stop()
     client.close()
     c = b.counters()
     lost = c["device LinkNoReservation"], c["device LinkEarlierRun"], late_frames(c, a.sci)
-    report(sent == arrived and lost == (0, 0, 0), f"ahead: {count} endpoints: {arrived} of {sent} arrived, lost {lost}")
-    report("a second endpoint goes on after `load`" in b.log(), "ahead: no second endpoint has taken over")
+    report(sent == arrived and lost == (0, 0, 0), f"ahead: {count} `load`: {arrived} of {sent} arrived, lost {lost}")
     frames = protected(link.frames(), a.sci)
     report(len(frames) >= sent, f"ahead: only {len(frames)} of {sent} frames were recorded")
     again = give_again(b, frames[-1000:])[f"{a.sci} InPktsOK"]
-    report(again <= FEW, f"ahead: {count} endpoints: {again} frames are accepted again")
+    report(again <= FEW, f"ahead: {count} `load`: {again} frames are accepted again")
     count_all(b)
 
 
 def check_late_records(world: World, programs: pathlib.Path) -> None:
-    """A disk that takes half a second. The first frames of an association wait for a record. While frames of its channel
-    come, the answer to `rxsa` comes when its reservation is on the disk. So an association which is enabled then loses
-    no frame. Of more frames than can wait, some are dropped and counted."""
+    """A disk that takes half a second. The first frames of an association wait for a record. While frames of its
+    channel come, the answer to `rxsa` comes when its reservation is on the disk. So an association which is enabled
+    then loses no frame. Of more frames than can wait, some are dropped and counted."""
     world.prepare()
     a, b = world.ends
     b.program = programs / "macsecd"

@@ -13,23 +13,26 @@ from house.reporting import call, report
 from macsecd_requests import OTHER, asked, of_group
 from macsecd_world import INCLUDED, WARNINGS, Background, Client, End, Stream, World, connected
 
-# The greatest part of the datagrams that may be lost.
-LOST = 0.01
+# The greatest part of the datagrams that may be lost; how many connections a step makes that wait for no answer; and
+# of how many of these one request may be read, beside a few.
+LOST, UNWAITING, ONE_OF, FEW = 0.01, 8, 4, 10
 TWO_LINES, DONE = b"load\nA protect on\nA validate strict", b"1 ok\n2 ok\n"
 
 
 class Loads(Background):
-    """`load` again and again. Each second one is of a connection that does not wait for the answer."""
+    """`load` again and again, most of them of connections that do not wait for the answer."""
 
     def __init__(self, end: End) -> None:
-        self.end, self.client, self.count = end, connected(end.socket, 60), 0
+        self.end, self.client, self.count, self.unwaited = end, connected(end.socket, 60), 0, 0
         super().__init__()
 
     def step(self) -> None:
-        """Makes two."""
+        """Makes several that do not wait, and one that does."""
         with contextlib.suppress(OSError):
-            with contextlib.closing(connected(self.end.socket, 60)) as other:
-                other.send(TWO_LINES)
+            for _ in range(UNWAITING):
+                with contextlib.closing(connected(self.end.socket, 60)) as other:
+                    other.send(TWO_LINES)
+                    self.unwaited += 1
             self.client.send(TWO_LINES)
             self.count += self.client.recv(100) == DONE
 
@@ -100,16 +103,16 @@ def check_budget(world: World, seconds: float, keys: int) -> None:
         after = it.recv(1 << 20).decode()
     names = "device RequestsDelayed", "device Requests"
     grown, read = (int(after.split(f"{name} ")[1].split()[0]) - before[name] for name in names)
-    count = sum(it.count for it in them)
+    count, unwaited = sum(it.count for it in them), sum(it.unwaited for it in them)
     print(
-        f"budget: {count} answers in {seconds:.0f} s; {sent} datagrams, {sent - arrived} lost; {grown} delayed; "
-        f"another user's answer takes up to {slowest:.2f} s",
+        f"budget: {count} answers in {seconds:.0f} s, {unwaited} unwaited; {sent} datagrams, {sent - arrived} lost; "
+        f"{grown} delayed; another user's answer takes up to {slowest:.2f} s",
         flush=True,
     )
     report(arrived >= (1 - LOST) * sent, f"budget: {sent} datagrams were sent and {arrived} arrived")
     report(slowest < 5, f"budget: another user waits {slowest:.1f} s for an answer")
     report(grown > 0 and count > 0, f"budget: {grown} requests were delayed, and {count} answered")
     report(
-        read <= count + asks + 10,
-        f"budget: {read} requests were read, of clients that do not wait too: {count}, {asks}",
+        read <= count + asks + FEW + unwaited // ONE_OF,
+        f"budget: {read} requests were read, of clients that do not wait too: {count}, {asks}, {unwaited}",
     )

@@ -1,5 +1,4 @@
-"""More keys than an endpoint has numbers for, and lines that are all carried out, or none is: a second endpoint tries
-them, and takes over if they install the octets of a retired key."""
+"""More keys than an endpoint has numbers for, and lines that are all carried out, or none is."""
 
 from __future__ import annotations
 
@@ -12,9 +11,9 @@ import time
 from collections.abc import Iterator
 from typing import Callable
 
-from house.reporting import Failed, report
+from house.reporting import Failed, report, until
 from macsecd_requests import state_of
-from macsecd_world import Background, Client, End, Packets, Stream, World, connected, ping, protected
+from macsecd_world import SALT, Background, Client, End, Packets, Stream, World, connected, ping, protected
 
 KEYS = 4096
 
@@ -22,7 +21,10 @@ KEYS = 4096
 MANY = 1000
 
 # Octets that are enough for one endpoint without workers, and too few for two.
-MEMORY = 50 << 20
+MEMORY = 56 << 20
+
+# How many lines of nine octets are in the longest request.
+MOST = (128 * 1024 - len("load\n") + 1) // len("A txon 0\n")
 
 
 @contextlib.contextmanager
@@ -166,7 +168,6 @@ def check_life_of_keys(world: World, short: bool) -> None:
     before = [end.counters() for end in world.ends]
     run_rekeys(world, 40 if short else 2500, 0)
     for end, old in zip(world.ends, before):
-        report("second" not in end.log(), "a second endpoint has taken over")
         now = end.counters()
         fell = [it for it in old if it in now and now[it] < old[it] and " 0 " not in it]
         report(not fell, f"{end.number}: counters have fallen: {fell}")
@@ -181,18 +182,23 @@ def channel_is_sum(end: End) -> None:
     report(0 < of_sas <= c[f"{peer} InPktsOK"], f"{of_sas} of {c[f'{peer} InPktsOK']} frames are of associations")
 
 
+def names_of(end: End) -> int:
+    """How many names the journal has."""
+    return int(json.loads(end.ask("json"))["journal_names"])
+
+
 def next_of(end: End, an: int = 0) -> int:
     """The next packet number of a transmit association."""
     return int(end.ask(f"numbers tx {an}").split()[3], 16)
 
 
 def check_numbers(a: End) -> None:
-    """A second endpoint goes on one packet number later, and uses no number of the first one again."""
+    """`load` skips no packet number, and none is used again after it."""
     before, last = next_of(a), 0
     for _ in range(3):
-        a.hand_over()
+        a.load()
         last = next_of(a)
-    report(before < last < before + 20, f"three endpoints take over: packet numbers rise from {before} to {last}")
+    report(before <= last < before + 20, f"three `load`: packet numbers rise from {before} to {last}")
     a.carry_out("A txoff 0", "A txdel 0")
     answer = a.ask("A txsa 0 0 1 conf")
     holds = answer.startswith("ok pn ") and int(answer.split()[2], 16) >= last
@@ -223,7 +229,7 @@ def check_refused_loads(a: End, load: Callable[..., str], good: list[str]) -> No
 
 
 def check_small_loads(a: End, load: Callable[..., str]) -> None:
-    """Lines that need no second endpoint: they cost no packet numbers."""
+    """`load` that changes nothing: it costs no packet numbers."""
     number = next_of(a)
     for _ in range(50):
         report(load("#") == "ok\n" == load(""), "`load` without a command")
@@ -233,6 +239,32 @@ def check_small_loads(a: End, load: Callable[..., str]) -> None:
     report(next_of(a) < number + 30, f"`load` has skipped numbers from {number} to {next_of(a)}")
     report(ping(a) == 3, "no replies after `load`")
     report(load("y" * 140000) == "fault LoadLong\n", "`load` that is too long")
+
+
+def check_long_loads(a: End) -> None:
+    """As many lines as a request can have. The owner makes it: other clients have to wait after it."""
+    client = Client(a)
+    client.carry_out("own")
+    for last, answer in (
+        ("A txon 0", "".join(f"{it} ok\n" for it in range(1, MOST + 1))),
+        ("x", f"{MOST} fault Word\n"),
+    ):
+        got = client.ask("\n".join(["load", *["A txon 0"] * (MOST - 1), last]))
+        report(got == answer, f"`load` of as many lines as there can be: {got[-100:]!r}")
+    client.close()
+    a.carry_out("port on")
+
+
+def check_kinds(a: End) -> None:
+    """What lines of `load` mean beside the endpoint: names are reserved, and `show` knows a key's suite."""
+    names = names_of(a)
+    line = f"A key 20 {secrets.token_hex(16)} 0 xpn128 00000005 {SALT}"
+    got = a.ask(f"load\n{line}\nA txsa 3 20 1 conf\nA protect on")
+    left = re.search(r"^ +3 +20 .* 1 +> 10\^12$", a.ask("show"), re.M)
+    report(got == "1 ok\n2 ok\n3 ok\n" and left is not None, f"`load` of a key of its own suite: {got} {a.ask('show')}")
+    report(names_of(a) == names + 1, f"`load` of an association: {names_of(a)} names, and before {names}")
+    report(a.ask("load\nA txdel 3\nA retire 20") == "1 ok\n2 ok\n", "`load` that retires a key")
+    report(until(lambda: names_of(a) == names), f"the name of a key that was retired stays: {names_of(a)}, not {names}")
 
 
 def check_good_load(a: End, load: Callable[..., str], good: list[str]) -> None:
@@ -254,6 +286,7 @@ def check_load(a: End, macsecctl: list[str]) -> None:
     key, other = secrets.token_hex(16), secrets.token_hex(16)
     good = [f"A key 2 {key} 0", "# a comment", "", "A txsa 1 2 1 conf", f"A rxsc {sci}", f"A rxsa {sci} 0 2 1"]
     good += [f"A rxdel {peer.sci} 0", "A txdel 0", "A retire 0", "A protect on"]
+    check_long_loads(a)
     with contextlib.closing(connected(a.socket, 5)) as it:
 
         def load(*lines: str) -> str:
@@ -264,6 +297,7 @@ def check_load(a: End, macsecctl: list[str]) -> None:
         check_small_loads(a, load)
         check_good_load(a, load, good)
         check_number_again(a, load, other)
+        check_kinds(a)
     check_macsecctl(a, macsecctl)
 
 
@@ -282,8 +316,7 @@ def check_no_memory(world: World) -> None:
 
 
 def check_number_again(a: End, load: Callable[..., str], key: str) -> None:
-    """The number of a retired key: the endpoint takes it, and no packet number is skipped. Its octets: the endpoint
-    refuses them, and a second one takes over, with all lines."""
+    """The number of a retired key: the endpoint takes it, and no packet number is skipped. Its octets are refused."""
     number, log = next_of(a, 1), a.log()
     for lines, answer in (([], "1 ok\n2 ok\n"), (["A txoff 1", "A txon 1"], "1 ok\n2 ok\n3 ok\n4 ok\n")):
         got = load(*lines, f"A key 0 {key} 0", "A retire 0")
@@ -293,16 +326,17 @@ def check_number_again(a: End, load: Callable[..., str], key: str) -> None:
     report(load(f"A key 0 {key} 0") == "1 ok\n" == load("A retire 0"), "the number of a retired key, alone")
     report(load(f"A key 0 {key} 0") == "1 refused 4 KeyRepeated\n", "the octets of a retired key, alone")
     state, counters = state_of(a), a.counters()
-    got = load("A txoff 1", f"A key 0 {key} 0", "A txon 9")
-    report(got.startswith("3 ") and state_of(a) == state and a.log() == log, f"a refused line after it: {got!r}")
-    report(load("A txoff 1", f"A key 0 {key} 0", "A txon 1") == "1 ok\n2 ok\n3 ok\n", "the octets of a retired key")
-    holds = "a second endpoint goes on after `load`" in a.log() and state_of(a) != state
-    report(holds, "no second endpoint has taken over")
+    for last in ("A txon 1", "A txon 9", "A txonn 1"):
+        got = load("A txoff 1", f"A key 0 {key} 0", last)
+        holds = got == "2 refused 4 KeyRepeated\n" and state_of(a) == state and a.log() == log
+        report(holds, f"the octets of a retired key, and {last}: {got!r}")
     fell = [name for name, value in counters.items() if a.counters().get(name, value) < value]
     report(not fell, f"counters have fallen: {fell}")
-    # The copy was given all lines. The device has the keys of the endpoint, so that a copy can take over again.
-    a.hand_over()
-    report(load("A retire 0", "A protect on") == "1 ok\n2 ok\n", "a key of a second endpoint")
+    key = secrets.token_hex(16)
+    report(load(f"A key 0 {key} 0", "A protect on") == "1 ok\n2 ok\n", "the number of a retired key, and other octets")
+    report(
+        load("A retire 0", f"A key 0 {secrets.token_hex(16)} 0", "A retire 0").count("ok") == 3, "a key's number again"
+    )
 
 
 def check_macsecctl(a: End, macsecctl: list[str]) -> None:

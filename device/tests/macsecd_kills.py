@@ -1,5 +1,5 @@
-"""SIGKILL of macsecd under a key agreement: no IV is used twice and no frame is delivered twice, over new SAKs, `load`,
-`open` and second endpoints."""
+"""SIGKILL of macsecd under a key agreement: no IV is used twice and no frame is delivered twice, over new SAKs, `load`
+and `open`."""
 
 from __future__ import annotations
 

@@ -11,6 +11,7 @@ import time
 from house.reporting import report, until
 from journal_runs import earlier_header
 from macsecd_ahead import TICK, burst, rx_next, start_silently
+from macsecd_handover import names_of
 from macsecd_saves import record, retire_key, use_key
 from macsecd_world import Client, End, Packets, Stream, World, ping, ping_again
 
@@ -24,11 +25,8 @@ LEFT = 16
 # long in an unproved library; and for how many octets the memory may grow.
 FULL, GROWTH = 1800, 2 << 20
 LOWER = "numbers.c", "return NUMBERS_FILE_LENGTH / MACSEC_RECORD_LENGTH / 8 * 7;", "return 1750;"
-
-
-def names_of(end: End) -> int:
-    """How many names the journal has."""
-    return int(json.loads(end.ask("json"))["journal_names"])
+# A limit that leaves two names beside those of the configuration.
+LOWEST = *LOWER[:2], "return 4;"
 
 
 def memory_of(end: End) -> int:
@@ -219,6 +217,32 @@ def check_full(world: World, programs: pathlib.Path) -> None:
     report(all(it.startswith("ok") for it in answers), f"names: full: associations with names: {answers}")
     client.carry_out(f"A rxon {a.sci} 0", "A txon 0")
     report(ping(a) == 3 and ping(b) == 3, "names: no replies with a full journal, with associations that came again")
+    client.close()
+
+
+def check_few(world: World, programs: pathlib.Path) -> None:
+    """A `load` that may need more names than are left is refused at the first line without one."""
+    world.prepare()
+    a, b = world.ends
+    b.program = programs / "macsecd"
+    for end in (a, b):
+        end.start()
+    client = Client(b)
+    client.carry_out("own", "port on")
+    report(ping(a) == 3 and until(lambda: names_of(b) == 2), f"names: few: {names_of(b)} at first")
+    keys = [f"A key {number} {secrets.token_hex(16)} 0" for number in (5, 6, 7)]
+    begin = [f"A txsa {number - 4} {number} 1 conf" for number in (5, 6, 7)]
+    for lines, answer in (
+        ([*keys, *begin], "6 fault JournalFull\n"),
+        ([*keys, *begin, "A txonn 0"], "6 fault JournalFull\n"),
+        ([*keys, "A txon 3", *begin], "4 refused 13 NoSa\n"),
+        ([*keys[:2], *begin[:2]], "1 ok\n2 ok\n3 ok\n4 ok\n"),
+        (["A txdel 1", begin[0]], "1 ok\n2 ok\n"),
+        (["A txdel 1", "A retire 5", f"A key 5 {secrets.token_hex(16)} 0", begin[0]], "4 fault JournalFull\n"),
+    ):
+        got = client.ask("\n".join(["load", *lines]))
+        report(got == answer, f"names: few: {lines}: {got}")
+    report(until(lambda: names_of(b) == 4) and ping(a) == 3, f"names: few: {names_of(b)} at last")
     client.close()
 
 

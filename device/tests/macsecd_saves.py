@@ -24,7 +24,7 @@ from house.compiling import INCLUDED, WARNINGS
 from house.reporting import call, report, until
 from journal_runs import earlier_header
 from macsecd_handover import dropped, next_of
-from macsecd_world import Background, Client, End, Packets, Stream, World, build, expect, hand_over_lines, ping
+from macsecd_world import Background, Client, End, Packets, Stream, World, build, expect, load_lines, ping
 
 CHANNELS = 64
 
@@ -140,12 +140,6 @@ def check_replays(world: World, sender: pathlib.Path, kills: int, rng: random.Ra
     print(f"replays: {kills} kills, {total} frames, {again} delivered again", flush=True)
 
 
-def second_endpoint() -> list[str]:
-    """Requests by which a second endpoint takes over."""
-    key = secrets.token_hex(16)
-    return [f"A key 4000 {key} 0", "A retire 4000", hand_over_lines(key)]
-
-
 def check_again(world: World, sender: pathlib.Path) -> None:
     """An association comes again under its key: nothing is delivered again, and it begins above what it accepted."""
     receiver = Receiver(world, sender)
@@ -158,7 +152,9 @@ def check_again(world: World, sender: pathlib.Path) -> None:
         "rxscdel": [f"A rxscdel {sci}", f"A rxsc {sci}", *begin],
         "load": ["load\n" + "\n".join([f"A rxdel {sci} 0", *begin])],
         "loads": [f"load\nA rxdel {sci} 0", "load\n#", "load\n" + "\n".join(begin)],
-        "second": [f"A rxdel {sci} 0", *second_endpoint(), *begin],
+        "between": [f"A rxdel {sci} 0", load_lines(), *begin],
+        "rxdel and open": [f"A rxdel {sci} 0", f"open {end.sci} gcm128", *afresh, "port on"],
+        "load and open": [f"load\nA rxdel {sci} 0\nA protect on", f"open {end.sci} gcm128", *afresh, "port on"],
         "open": [f"open {end.sci} gcm128", *afresh, "port on"],
         "close": ["close", f"open {end.sci} gcm128", *afresh, "port on"],
     }
@@ -530,7 +526,7 @@ def check_threads(world: World, programs: pathlib.Path) -> None:
         for number in range(40 * own, 40 * own + 40):
             client.carry_out(f"A key {number} {secrets.token_hex(16)} 0", f"A txsa {own} {number} 1 conf")
             client.carry_out(f"A txdel {own}", f"A retire {number}")
-            client.ask(hand_over_lines(secrets.token_hex(16)) if number % 8 == 0 else "json")
+            client.ask(load_lines() if number % 8 == 0 else "json")
         client.close()
 
     try:

@@ -1,5 +1,5 @@
 """Keys in the memory of macsecd, which is read from outside: after new keys, for which the old ones are retired, lines
-that are all carried out, a second endpoint, `close`, and when macsecd ends."""
+that are all carried out, `close`, and when macsecd ends."""
 
 from __future__ import annotations
 
@@ -11,7 +11,7 @@ from collections.abc import Iterable
 
 from house.memory import MAIN_STACK, NOTHING, Region, hits, mappings, parts_of, places, regions
 from house.reporting import Failed, report
-from macsecd_world import LIBC, SALT, End, Packets, World, hand_over_lines, ping
+from macsecd_world import LIBC, SALT, End, Packets, World, ping
 
 SEIZE, DETACH, STOPS_AT_EXIT, AT_EXIT = 0x4206, 17, 0x40, signal.SIGTRAP | 6 << 8
 PLAIN = bytes.fromhex("ffffffffffff02000000000988b5")
@@ -111,9 +111,8 @@ def change_keys(world: World, phase: int, octets: int) -> tuple[str, str]:
 
 
 def check_loads(a: End, known: Secrets, octets: int, living: list[str]) -> None:
-    """Lines that are all carried out, or none is; and a second endpoint, after which no retired key is there."""
-    kept, refused = ([secrets.token_hex(octets) for _ in range(2)] for _ in range(2))
-    passed = secrets.token_hex(octets)
+    """Lines that are all carried out, or none is: of a key that is refused or retired, nothing is there."""
+    kept, refused, passed = ([secrets.token_hex(octets) for _ in range(2)] for _ in range(3))
     a.ask("load\n" + "\n".join(key_line(a, 3000 + number, key) for number, key in enumerate(kept)))
     known.note(*kept)
     counts: set[int] = set()
@@ -127,11 +126,13 @@ def check_loads(a: End, known: Secrets, octets: int, living: list[str]) -> None:
     lines = [*(key_line(a, 3002 + number, key) for number, key in enumerate(refused)), "A retire 4095"]
     answer = a.ask("load\n" + "\n".join(lines))
     report("refused" in answer, f"a wrong line of `load`: {answer}")
-    a.carry_out(f"A key 4000 {passed} 0", "A retire 4000")
-    answer = a.ask(hand_over_lines(passed))
-    report(answer == "1 ok\n2 ok\n", f"a second endpoint does not take over: {answer}")
-    known.add(*refused, passed)  # the second endpoint has retired it too
-    known.judge("a second endpoint", [*living, *kept])
+    known.add(*refused)
+    known.judge("a refused `load`", [*living, *kept])
+    for number, key in enumerate(passed):
+        answer = a.ask(f"load\n{key_line(a, 4000 + number, key)}\nA retire {4000 + number}")
+        report(answer == "1 ok\n2 ok\n", f"a key that is installed and retired: {answer}")
+    known.add(*passed)
+    known.judge("after `load`", [*living, *kept])
 
 
 def check_secrets(world: World, suite: str, changes: int) -> None:
@@ -156,7 +157,7 @@ def check_secrets(world: World, suite: str, changes: int) -> None:
     known.note(*living)
     known.judge("after new keys", living)
     check_loads(a, known, octets, list(living))
-    report(ping(a) == 3, "no replies by a second endpoint")
+    report(ping(a) == 3, "no replies after `load`")
     check_locked(a)
     a.ask("close")
     known.judge("after close")

@@ -441,17 +441,15 @@ class End(Namespace):
         with inside(self.link_namespace):
             return call("ip", "-br", "link", "show", "link0").split()[2]
 
-    def hand_over(self, octets: int = 16) -> None:
-        """Lets a second endpoint take over: a copy does not know the retired keys, and takes the octets of one."""
-        key = secrets.token_hex(octets)
-        self.carry_out(f"A key 4000 {key} 0", "A retire 4000")
-        got = self.ask(hand_over_lines(key))
-        report(got == "1 ok\n2 ok\n", f"a second endpoint does not take over: {got}")
+    def load(self, octets: int = 16) -> None:
+        """Makes a `load`, by which a copy of the endpoint takes its place."""
+        got = self.ask(load_lines(octets))
+        report(got == "1 ok\n2 ok\n", f"`load`: {got}")
 
 
-def hand_over_lines(key: str) -> str:
-    """A request by which a second endpoint takes over, if this key is retired and none in use has number 4000."""
-    return f"load\nA key 4000 {key} 0\nA retire 4000"
+def load_lines(octets: int = 16) -> str:
+    """A `load` with a new key, which takes the place of the one before. None in use may have number 4000."""
+    return f"load\nA key 4000 {secrets.token_hex(octets)} 0\nA retire 4000"
 
 
 def expect(end: Namespace, what: str, status: int, text: str, before: Sequence[str] = ()) -> None:

@@ -59,8 +59,7 @@ struct device *fuzz_device(void) {
     static struct device device = { .name = "fuzz", .handles = { MACSEC_ENDPOINT_INIT, MACSEC_ENDPOINT_INIT } };
     struct device *d = &device;
     messages_name(d->name);
-    fuzz_require(keys_open(&d->keys) == 0 && numbers_create(d->name) == 0,
-                 "no journal is made: STATE_DIRECTORY has one");
+    fuzz_require(numbers_create(d->name) == 0, "no journal is made: STATE_DIRECTORY has one");
     fuzz_require(numbers_open(&d->numbers, d->name, "", &d->counts) == 0, "the journal can't be opened");
     d->endpoint = &d->handles[0];
     numbers_begin(d->numbers, d->endpoint);
