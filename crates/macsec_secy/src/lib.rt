@@ -177,7 +177,7 @@ impl Secy {
         ensures sound { OnOk result (IsSound self.new) }
         ensures unchanged { OnErr result (self.new ≡ self.old) }
     {
-        self.keys = other.keys.try_clone(alloc)?;
+        self.keys.copy_from(alloc, &other.keys)?;
         self.config = other.config;
         self.options = other.options;
         self.tx.copy_from(&other.tx);

@@ -99,8 +99,32 @@ impl KeyTable {
         })
     }
 
+    /// Becomes equal to another table. If memory runs out, nothing changes.
+    pub fn copy_from(&mut self, alloc: Global, other: &KeyTable) -> Result<(), AllocError>
+        ensures equal { OnOk result (self.new ≡ other.now) }
+        ensures unchanged { OnErr result (self.new ≡ self.old) }
+    {
+        if !self.rows.as_slice().is_empty() {
+            *self = other.try_clone(alloc)?;
+            return Ok(());
+        }
+        // An empty table has space for all keys. Another one would only be allocated, overwritten and freed.
+        let places = other.places.clone()?;
+        match append_clones(&mut self.rows, other.rows.as_slice()) {
+            Ok(()) => {}
+            Err(fault) => {
+                self.rows.clear();
+                return Err(fault);
+            }
+        }
+        self.places = places;
+        self.extended = other.extended;
+        self.wide = other.wide;
+        Ok(())
+    }
+
     /// A second table that is equal to this one, with space for as many keys.
-    pub fn try_clone(&self, alloc: Global) -> Result<KeyTable, AllocError>
+    fn try_clone(&self, alloc: Global) -> Result<KeyTable, AllocError>
         ensures { IfOk result (λ t. t ≡ self.now) }
     {
         let mut rows = Vec::with_capacity(alloc, PLACE_COUNT)?;
