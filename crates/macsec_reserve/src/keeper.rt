@@ -1,8 +1,8 @@
 //! The keeping endpoint.
 
-ghost use Rattle.std.specs.Prelude.{◌≡◌, ◌≤◌, ◌+◌, ◌++◌, ◌==◌, ◌&&◌, List, ℕ, true, drop, length, map, option_and_then};
-ghost use Rattle.std.specs.Prelude.{option_map, Some, None, Err, IfErr, IfSome, is_some, ◌-◌, ◌^◌, min, IfOk, OnErr};
-ghost use Rattle.std.specs.Prelude.{nat_lt, nat_le, vec_capacity, vec_len, if◌then◌else◌};
+ghost use Rattle.std.specs.Prelude.{◌≡◌, ◌≤◌, ◌==◌, ◌&&◌, List, ℕ, true, length, option_and_then};
+ghost use Rattle.std.specs.Prelude.{option_map, Some, None, Err, IfErr, IfSome, is_some, ◌-◌, IfOk, OnErr};
+ghost use Rattle.std.specs.Prelude.{nat_lt, nat_le, vec_capacity, if◌then◌else◌};
 ghost use Rattle.std.specs.Borrow.{sem};
 ghost use Rattle.macsec_aes.specs.Keys.{key_bytes};
 ghost use Rattle.macsec_tx.specs.Rows.{IsEnabled};
@@ -24,7 +24,7 @@ ghost use Rattle.macsec_reserve.specs.Keeping.{begins_at, endpoint_input, endpoi
 ghost use Rattle.macsec_reserve.specs.Keeping.{keeping_step, may_go, now_durable, rx_floor, tx_floor, uses_reserved};
 ghost use Rattle.macsec_reserve.specs.Keeping.{wanted_for, wanted_last, was_reserved};
 ghost use Rattle.macsec_reserve.specs.Limited.{limited_keeping_step};
-ghost use Rattle.macsec_reserve.specs.Names.{IsAtHand, entry_of, name_or_none, name_row, names_after, place_named};
+ghost use Rattle.macsec_reserve.specs.Names.{IsAtHand};
 ghost use Rattle.macsec_suite.specs.Refusals.{refusal_of};
 ghost use Rattle.macsec_secy.specs.Renewing.{renewal_refusal};
 ghost use Rattle.macsec_reserve.specs.Renewing.{forgetting_refusal, is_given_up, forgetting_after_renewing};
@@ -35,7 +35,9 @@ ghost use Rattle.macsec_reserve.specs.Rests.{RestsAs};
 use crate::entries::{raise, restart};
 use crate::forgetting::{fingerprint, key_of_name, name_of_key, rename};
 use crate::journal::{entries_of, salt_of};
-use crate::{Reservation, highest, is_journal, receiving_name, sending_name};
+use crate::key_names::{add_entries, name_of, named_key, note_key, place_of};
+use crate::numbers::{is_all, may_use, up_to, wanted_last, was_reserved};
+use crate::{Reservation, highest, is_journal, receiving_name};
 use macsec_aes::Key;
 use macsec_secy::{
     An, Command, EnabledSa, EndConfig, FrameFault, KeyNumber, NewFault, NewKey, OpenedFrame,
@@ -725,121 +727,4 @@ fn is_reserved(at: AtHand, row: TxRow) -> bool
     ensures { result ≡ (row.key == at.key && (nat_lt at.before row.next && nat_le row.next at.granted)) }
 {
     row.key == at.key && (u128::from(at.before) < row.next && row.next <= u128::from(at.granted))
-}
-
-/// The name of the key of this number, or the name of no octets.
-fn name_of(salt: &[u8; 24], names: &[NamedKey], key: KeyNumber) -> [u8; 32]
-    ensures { result ≡ name_or_none salt.now (name_row names.now key) }
-{
-    match named_key(names, key) {
-        None => sending_name(salt, &[]),
-        Some(named) => named.name,
-    }
-}
-
-/// The name of the key of this number, if there is such a key.
-fn named_key(names: &[NamedKey], key: KeyNumber) -> Option<NamedKey>
-    ensures { result ≡ name_row names.now key }
-{
-    for named in names {
-        if named.number == key {
-            return Some(*named);
-        }
-    }
-    None
-}
-
-/// The place of the key of this number among the names.
-fn place_of(names: &[NamedKey], key: KeyNumber) -> usize
-    ensures { result ≡ place_named names.now key }
-{
-    let mut place = 0;
-    for named in names {
-        if named.number == key {
-            return place;
-        }
-        place += 1;
-    }
-    place
-}
-
-/// Is no packet number above this one?
-fn is_all(last: u64) -> bool
-    ensures { result ≡ nat_le (2 ^ 64 - 1) last }
-{
-    u64::MAX <= last
-}
-
-/// Was this packet number not used by an earlier run, and is it reserved?
-fn may_use(before: &[Reservation], granted: &[Reservation], name: &[u8; 32], number: u128) -> bool
-    ensures { result ≡ (nat_lt (highest before.now name.now) number && nat_le number (highest granted.now name.now)) }
-{
-    u128::from(highest(before, name)) < number && number <= u128::from(highest(granted, name))
-}
-
-/// May an earlier run have used this packet number? None has used 0.
-fn was_reserved(before: &[Reservation], name: &[u8; 32], number: u64) -> bool
-    ensures { result ≡ (nat_lt 0 number && nat_le number (highest before.now name.now)) }
-{
-    0 < number && number <= highest(before, name)
-}
-
-/// Notes the name of the key that a command has installed, if it has installed one.
-fn note_key(salt: &[u8; 24], names: &mut Vec<NamedKey>, command: &Command)
-    requires { length (names_after salt.now names.old.items command.now) ≤ vec_capacity names.old }
-    ensures items { names.new.items ≡ names_after salt.now names.old.items command.now }
-    ensures room { vec_capacity names.old ≤ vec_capacity names.new }
-{
-    if let Command::Key(key) = *command {
-        let number = key.number;
-        let name = name_of_key(salt, key.bytes);
-        names.push(NamedKey { number, name }).unwrap();
-    }
-}
-
-/// Gives an entry to each key that has none yet.
-fn add_entries(granted: &mut Vec<Reservation>, names: &[NamedKey])
-    requires { length names.now ≤ vec_capacity granted.old }
-    ensures items { granted.new.items ≡ granted.old.items ++ map entry_of (drop (length granted.old.items) names.now) }
-    ensures room { vec_capacity granted.old ≤ vec_capacity granted.new }
-{
-    let count = granted.len();
-    if count < names.len() {
-        append_entries(granted, &names[count..]);
-    }
-}
-
-/// Appends an entry for each of these names.
-fn append_entries(granted: &mut Vec<Reservation>, names: &[NamedKey])
-    requires { vec_len granted.old + length names.now ≤ vec_capacity granted.old }
-    ensures items { granted.new.items ≡ granted.old.items ++ map entry_of names.now }
-    ensures room { vec_capacity granted.old ≤ vec_capacity granted.new }
-{
-    for named in names {
-        let name = named.name;
-        granted.push(Reservation { name, last: 0 }).unwrap();
-    }
-}
-
-/// The last packet number to reserve, if fewer than half of `amount` are left.
-pub fn wanted_last(reserved: u64, next: u128, amount: u64) -> Option<u64>
-    ensures { result ≡ wanted_last reserved next amount }
-{
-    let Ok(next) = u64::try_from(next) else {
-        return None;
-    };
-    if next.saturating_add(amount / 2) <= reserved {
-        return None;
-    }
-    Some(next.saturating_add(amount))
-}
-
-/// The number before a packet number, of 64 bits.
-fn up_to(lowest: u128) -> u64
-    ensures { result ≡ min (lowest - 1) (2 ^ 64 - 1) }
-{
-    match u64::try_from(lowest.saturating_sub(1)) {
-        Ok(last) => last,
-        Err(_) => u64::MAX,
-    }
 }

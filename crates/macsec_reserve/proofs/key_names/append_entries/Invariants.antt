@@ -2,7 +2,7 @@ use Rattle.{
   std.proofs.Common.vec_len,
   macsec_reserve.proofs.Prelude.{◌++◌, ◌+◌, ◌≡◌, ◌≤◌, entry_of, length, map, take, vec_capacity},
 }
-use Rattle.macsec_reserve.proofs.keeper.append_entries.Given as goal
+use Rattle.macsec_reserve.proofs.key_names.append_entries.Given as goal
 
 -- the entries so far, and room for the others
 abbrev pub invariant-loop-named : goal.invariant-loop-named
