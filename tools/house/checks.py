@@ -15,8 +15,8 @@ NOTHING, TOOLCHAIN, LOG, PROVED = "nothing", "rt", "the log of rt ci", "proved c
 PROGRAM, PROGRAMS, LIBRARY, ROOT_USER = "program", "both programs", "library", "library, root"
 SHOWN, ALL = "programs, library", "all of these"
 GUEST = "root, qemu, Debian"
-# What `rt ci` and what is built beside it give, which the checks can use side by side.
-BUILT_NEEDS = (PROVED, PROGRAM, PROGRAMS, LIBRARY, ROOT_USER)
+# What is built beside `rt ci`, and the checks can use side by side.
+BUILT_NEEDS = (PROGRAM, PROGRAMS, LIBRARY, ROOT_USER)
 
 # The check that builds what the controls take.
 BEFORE_CONTROLS = "c-programs"

@@ -29,9 +29,10 @@ FAULT = re.compile(r"WRONG|NOT |FAILED|\bError\b|error:|failed\b")
 
 
 class Job(NamedTuple):
-    """A command and its name. `shown` is for one whose lines appear as it prints them, `counted` the form of a line that
-    it prints for each test that passed, `lost` the form of a line after which it can only fail, and `then` a job that
-    begins when this one has passed."""
+    """A command and its name. `shown` is for one whose lines appear as it prints them, `counted` the form of a line
+    that it prints for each test that passed, `lost` the form of a line after which it can only fail, and `then` a job
+    that begins when this one has passed. One that `yields` leaves the processors to the others, and may outlast
+    them."""
 
     name: str
     words: list[str]
@@ -40,6 +41,7 @@ class Job(NamedTuple):
     log: pathlib.Path | None = None
     lost: str | None = None
     then: Job | None = None
+    yields: bool = False
 
 
 def processes() -> dict[int, tuple[int, int]]:
@@ -81,10 +83,15 @@ class Running:
             out = None
         else:
             words, out = job.words, open(self.log, "wb")
+        words = ["nice", "-n", "19", *words] if job.yields else words
         streams = {"stdin": subprocess.DEVNULL, "stdout": out, "stderr": out and subprocess.STDOUT}
         self.process = subprocess.Popen(words, cwd=ROOT, start_new_session=True, **streams)
         if out:
             out.close()
+        # Where Linux shares the processors among sessions first, `nice` counts within one only.
+        if job.yields:
+            with contextlib.suppress(OSError):
+                pathlib.Path(f"/proc/{self.process.pid}/autogroup").write_text("19", encoding="ascii")
         self.read = 0
 
     def is_lost(self) -> bool:
@@ -109,13 +116,15 @@ class Running:
 
 class Runner:
     """Runs jobs, prints a line for each, and counts what passed. With `stops` a job that fails stops the others. `left`
-    has what was left out, in whole or in part, and `told` what those that failed have printed of it."""
+    has what was left out, in whole or in part, and `told` what those that failed have printed of it. `running` are the
+    jobs that have not ended."""
 
     def __init__(self, logs: pathlib.Path, stops: bool) -> None:
         self.logs, self.stops, self.passed, self.lost = logs, stops, 0, 0
         self.failed: list[str] = []
         self.told: dict[str, list[str]] = {}
         self.left: list[str] = []
+        self.running: list[Running] = []
         logs.mkdir(parents=True, exist_ok=True)
 
     def say(self, line: str) -> None:
@@ -126,28 +135,29 @@ class Runner:
         self.left.append(name)
         self.say(f"{name}: not tried: {why}")
 
-    def go(self, jobs: Iterable[Job], at_a_time: int = 64) -> bool:
-        """Runs jobs, at most so many at a time. Returns whether all have passed."""
-        waiting, running, good = list(jobs), [], True
+    def go(self, jobs: Iterable[Job], at_a_time: int = 64, is_last: bool = False) -> bool:
+        """Runs jobs, at most so many at a time beside those that yield, and waits for them; for those that yield only
+        in the last call. Returns whether all that ended have passed."""
+        waiting, good, is_done = list(jobs), True, False
         try:
-            while waiting or running:
-                while waiting and len(running) < at_a_time:
-                    running.append(Running(waiting.pop(0), self.logs))
-                for each in [it for it in running if it.ended()]:
-                    running.remove(each)
+            while waiting or any(is_last or not it.job.yields for it in self.running):
+                while waiting and sum(not it.job.yields for it in self.running) < at_a_time:
+                    self.running.append(Running(waiting.pop(0), self.logs))
+                for each in [it for it in self.running if it.ended() or self.stops and it.is_lost()]:
+                    self.running.remove(each)
+                    if not each.ended():
+                        self.stop([each])
                     passed = self.note(each)
                     good &= passed
                     if passed and each.job.then:
                         waiting.append(each.job.then)
-                for each in [it for it in running if self.stops and it.is_lost()]:
-                    running.remove(each)
-                    self.stop([each])
-                    good &= self.note(each)
                 if not good and self.stops:
                     break
                 time.sleep(0.05)
+            is_done = good or not self.stops
         finally:
-            self.stop(running)
+            if not is_done:
+                self.stop(self.running)
         return good
 
     def note(self, ended: Running) -> bool:
