@@ -3,14 +3,13 @@
  * this thread calls the journal alone, and it allocates nothing. */
 #include "numbers.h"
 #include <sys/eventfd.h>
-#include <time.h>
 
 /* Octets of its stack. A journal's calls need less than a tenth of it. */
 enum { STACK = 256 * 1024 };
 
-/* After so many seconds without an order the thread looks whether another program has changed the file's length: much
- * can be sent until the next order. */
-enum { LOOKS = 1 };
+/* After so many milliseconds without an order the thread looks whether another program has changed the file's length:
+ * much can be sent until the next order. */
+enum { LOOKS = 1000 };
 
 enum state { IDLE, ORDERED, CARRIED_OUT };
 
@@ -32,26 +31,23 @@ struct journal_writer {
     struct saved saved;
 };
 
-static double now(void) {
-    struct timespec t;
-    (void)clock_gettime(CLOCK_MONOTONIC, &t); /* there is such a clock */
-    return (double)t.tv_sec + (double)t.tv_nsec / 1e9;
+static void carry_out(struct journal_writer *s) {
+    int64_t began = clock_now(CLOCK_MONOTONIC);
+    s->saved.good = journal_write(s->journal, s->journal->records, s->count, s->anew, &s->saved.fault) == 0;
+    s->saved.seconds = (double)(clock_now(CLOCK_MONOTONIC) - began) / 1e6;
+    s->looks = s->saved.good;
 }
 
-static void carry_out(struct journal_writer *s) {
-    double began = now();
-    s->saved.good = journal_write(s->journal, s->journal->records, s->count, s->anew, &s->saved.fault) == 0;
-    s->saved.seconds = now() - began;
-    s->looks = s->saved.good;
+static struct timespec after(int milliseconds) {
+    int64_t end = clock_now(CLOCK_MONOTONIC) + 1000 * (int64_t)milliseconds;
+    return (struct timespec){ end / 1000000, end % 1000000 * 1000 };
 }
 
 /* ---- The thread ---- */
 
 /* Waits for an order, or looks at the file. */
 static void wait_for_order(struct journal_writer *s) {
-    struct timespec end;
-    (void)clock_gettime(CLOCK_MONOTONIC, &end);
-    end.tv_sec += LOOKS;
+    const struct timespec end = after(LOOKS);
     if (pthread_cond_clockwait(&s->changed, &s->lock, CLOCK_MONOTONIC, &end) != ETIMEDOUT || !s->looks)
         return;
     (void)pthread_mutex_unlock(&s->lock);
@@ -100,16 +96,9 @@ int journal_writer_open(struct journal_writer **s, struct journal *journal) {
 }
 
 int journal_writer_start(struct journal_writer *s) {
-    pthread_attr_t attributes;
-    int error = pthread_attr_init(&attributes);
-    if (error == 0)
-        error = pthread_attr_setstacksize(&attributes, STACK);
-    if (error == 0)
-        error = pthread_create(&s->thread, &attributes, work, s);
-    errno = error;
-    if (error != 0)
+    errno = thread_start(&s->thread, NULL, STACK, work, s);
+    if (errno != 0)
         return message_of_errno("the thread of the journal");
-    (void)pthread_attr_destroy(&attributes);
     s->runs = true;
     (void)pthread_mutex_lock(&s->lock);
     while (!s->begun)
@@ -162,15 +151,8 @@ bool journal_writer_is_done(struct journal_writer *s, struct saved *saved) {
 }
 
 void journal_writer_wait(struct journal_writer *s, int milliseconds) {
-    struct timespec end;
+    const struct timespec end = after(milliseconds);
     int error = 0;
-    (void)clock_gettime(CLOCK_MONOTONIC, &end);
-    end.tv_sec += milliseconds / 1000;
-    end.tv_nsec += milliseconds % 1000 * 1000000L;
-    if (end.tv_nsec >= 1000000000L) {
-        end.tv_nsec -= 1000000000L;
-        end.tv_sec++;
-    }
     (void)pthread_mutex_lock(&s->lock);
     while (s->state == ORDERED && error == 0)
         error = pthread_cond_clockwait(&s->changed, &s->lock, CLOCK_MONOTONIC, &end);

@@ -50,20 +50,14 @@ static void *work(void *argument) {
 }
 
 int service_start(struct service *s) {
-    pthread_attr_t attributes;
     if (s->socket < 0)
         return 0;
     s->events = eventfd(0, EFD_CLOEXEC);
     if (s->events < 0 || sem_init(&s->begun, 0, 0) != 0)
         return message_of_errno("the thread for the service manager");
-    errno = pthread_attr_init(&attributes);
-    if (errno == 0)
-        errno = pthread_attr_setstacksize(&attributes, STACK);
-    if (errno == 0)
-        errno = pthread_create(&s->thread, &attributes, work, s);
+    errno = thread_start(&s->thread, NULL, STACK, work, s);
     if (errno != 0)
         return message_of_errno("the thread for the service manager");
-    (void)pthread_attr_destroy(&attributes);
     while (sem_wait(&s->begun) != 0)
         ; /* a signal came */
     return s->confined;

@@ -21,6 +21,7 @@
 #include <sys/socket.h>
 #include <sys/stat.h>
 #include <sys/types.h>
+#include <time.h>
 #include <unistd.h>
 
 /* Exit statuses: the system refused something, or LINK or TAP is gone; the arguments or the configuration are wrong.
@@ -44,6 +45,27 @@ enum { ENDS_FAILED = 1, ENDS_WRONG = 2, ENDS_TAKEN = 3 };
 /* Are these the same file, folder or namespace? */
 static inline bool is_same_file(const struct stat *a, const struct stat *b) {
     return a->st_dev == b->st_dev && a->st_ino == b->st_ino;
+}
+
+/* The time of a clock that there is, in microseconds. */
+static inline int64_t clock_now(clockid_t clock) {
+    struct timespec t;
+    (void)clock_gettime(clock, &t);
+    return (int64_t)t.tv_sec * 1000000 + t.tv_nsec / 1000;
+}
+
+/* Starts a thread with a stack of so many octets, which the system makes if `stack` is NULL. Returns 0 or an errno. */
+static inline int thread_start(pthread_t *thread, void *stack, size_t size, void *(*work)(void *), void *argument) {
+    pthread_attr_t attributes;
+    int error = pthread_attr_init(&attributes);
+    if (error != 0)
+        return error;
+    error =
+        stack != NULL ? pthread_attr_setstack(&attributes, stack, size) : pthread_attr_setstacksize(&attributes, size);
+    if (error == 0)
+        error = pthread_create(thread, &attributes, work, argument);
+    (void)pthread_attr_destroy(&attributes);
+    return error;
 }
 
 /* ---- messages.c: what macsecd says on standard error ---- */

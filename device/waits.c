@@ -3,15 +3,12 @@
  * for ever: a disk can be slow or fail. */
 #include "device.h"
 #include <sys/epoll.h>
-#include <time.h>
 
 /* How many milliseconds an answer waits. A key agreement that gets none for two seconds starts again. */
 enum { LONGEST = 1000 };
 
 static int64_t now(void) {
-    struct timespec t;
-    (void)clock_gettime(CLOCK_MONOTONIC, &t); /* there is such a clock */
-    return (int64_t)t.tv_sec * 1000 + t.tv_nsec / 1000000;
+    return clock_now(CLOCK_MONOTONIC) / 1000;
 }
 
 bool waits_keep(struct device *d, int client, const char *answer, size_t length) {

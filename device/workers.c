@@ -8,7 +8,6 @@
 #include "workers.h"
 #include <limits.h>
 #include <linux/futex.h>
-#include <pthread.h>
 #include <sched.h>
 #include <sys/eventfd.h>
 #include <sys/mman.h>
@@ -193,25 +192,14 @@ int workers_open(struct workers **w, unsigned count) {
     return make_stacks(it);
 }
 
-static int start_one(struct workers *w, unsigned index) {
-    struct worker *it = &w->each[index];
-    pthread_attr_t attributes;
-    int error = pthread_attr_init(&attributes);
-    *it = (struct worker){ .all = w, .index = index };
-    if (error != 0)
-        return error;
-    error = pthread_attr_setstack(&attributes, w->stacks + (size_t)index * STACK + PAGE, STACK - PAGE);
-    if (error == 0)
-        error = pthread_create(&it->thread, &attributes, work, it);
-    (void)pthread_attr_destroy(&attributes);
-    return error;
-}
-
 int workers_start(struct workers *w) {
     if (w == NULL)
         return 0;
     for (; w->started < w->count; w->started++) {
-        errno = start_one(w, w->started);
+        struct worker *it = &w->each[w->started];
+        uint8_t *stack = w->stacks + (size_t)w->started * STACK;
+        *it = (struct worker){ .all = w, .index = w->started };
+        errno = thread_start(&it->thread, stack + PAGE, STACK - PAGE, work, it);
         if (errno != 0)
             return message_of_errno("workers");
     }

@@ -281,7 +281,11 @@ def build_taken(options: Options) -> pathlib.Path:
     shutil.copy(ROOT / "device/tests/isolated_taken.c", source)
     for name, place, call in (
         ("macsecd.c", '    service_notify(&d->service, "READY=1");\n', "extern void taken(struct device *); taken(d);"),
-        ("journal_writer.c", "    double began = now();\n", "extern void taken_files(void); taken_files();"),
+        (
+            "journal_writer.c",
+            "    int64_t began = clock_now(CLOCK_MONOTONIC);\n",
+            "extern void taken_files(void); taken_files();",
+        ),
         ("service.c", "    if (s->socket >= 0 && ", "extern int taken_manager; taken_manager = s->socket;"),
         ("journal_writer.c", "    s->confined = ", 'extern void taken_thread(const char *); taken_thread("journal");'),
         (
