@@ -254,7 +254,7 @@ void answer_json(struct text *t, const struct device *d) {
         text_add(t, "\"namespace\":\"%s\",", path);
     }
     text_add(t, "\"port\":\"%s\",\"keys_left\":%u,", d->port.off ? "off" : "on", (unsigned)left);
-    text_add(t, "\"journal_names\":%zu,\"journal_names_max\":%zu,", numbers_names(d->numbers), numbers_names_max());
+    text_add(t, "\"journal_names\":%zu,\"journal_names_max\":%zu,", d->numbers.names.count, NUMBERS_NAMES_MAX);
     add_object(t, "device_counters", device_names, counts_of(d), COUNT_OF_COUNTS);
     text_add(t, ",");
     add_object(t, "counters", own_names, own, OWN);
@@ -341,8 +341,8 @@ static void add_gauges(struct text *t, const struct device *d) {
         { "link_up", "1 while LINK has carrier", d->link.up },
         { "port_on", "1 while the controlled port is on", !d->port.off },
         { "keys_left", "keys that the endpoint can still take", keys },
-        { "journal_names", "names in the journal", numbers_names(d->numbers) },
-        { "journal_names_max", "names that the journal can have", numbers_names_max() },
+        { "journal_names", "names in the journal", d->numbers.names.count },
+        { "journal_names_max", "names that the journal can have", NUMBERS_NAMES_MAX },
     };
     for (size_t i = 0; i < sizeof gauges / sizeof *gauges; i++) {
         add_gauge_head(t, gauges[i].name, gauges[i].help);

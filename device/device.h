@@ -28,7 +28,7 @@ struct device {
     struct budget budget;
     struct port port;
     struct service service;
-    struct numbers *numbers;
+    struct numbers numbers;
     struct workers *workers; /* NULL: there are none */
     int signals, clock, events;
 };

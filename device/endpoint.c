@@ -12,19 +12,19 @@ static void note(struct device *d, const macsec_command *c, bool passes) {
         break;
     case KEEPS_KEY:
         d->suites[c->key] = c->sak.suite;
-        numbers_note_key(d->numbers, c->key, passes);
+        numbers_note_key(&d->numbers, c->key, passes);
         break;
     case WIPES_KEY:
-        numbers_note_retired(d->numbers, c->key, passes);
+        numbers_note_retired(&d->numbers, c->key, passes);
         break;
     case BEGINS_SA:
         if (c->kind == MACSEC_COMMAND_TX_SA)
-            numbers_begin_to_send(d->numbers, d->endpoint, c->an);
+            numbers_begin_to_send(&d->numbers, d->endpoint, c->an);
         else
-            numbers_begin_to_receive(d->numbers, d->endpoint, c->sci, c->an);
+            numbers_begin_to_receive(&d->numbers, d->endpoint, c->sci, c->an);
         break;
     case ENDS_SA:
-        numbers_end_receiving(d->numbers, d->endpoint);
+        numbers_end_receiving(&d->numbers, d->endpoint);
         break;
     }
 }
@@ -44,8 +44,8 @@ void endpoint_close(struct device *d) {
     port_set(d, false);
     floods_end(d);
     workers_forget(d->workers);
-    numbers_note_all(d->numbers, d->endpoint);
-    numbers_forget(d->numbers);
+    numbers_note_all(&d->numbers, d->endpoint);
+    numbers_forget(&d->numbers);
     macsec_free(d->endpoint);
 }
 
@@ -53,8 +53,8 @@ void endpoint_close(struct device *d) {
 static uint32_t create(struct device *d, const macsec_config *end) {
     macsec_endpoint *e = &d->handles[d->endpoint == &d->handles[0]];
     uint32_t status;
-    numbers_note_all(d->numbers, d->endpoint); /* its associations may come again at the new one */
-    status = numbers_configure(d->numbers, e, end);
+    numbers_note_all(&d->numbers, d->endpoint); /* its associations may come again at the new one */
+    status = numbers_configure(&d->numbers, e, end);
     if (status != MACSEC_OK)
         return status;
     endpoint_close(d);
@@ -81,7 +81,7 @@ static uint32_t configure_line(struct device *d, const struct commands *it) {
     uint64_t raised = 0;
     uint32_t status = it->status;
     if (status == MACSEC_OK)
-        status = lines_carry_out(d->numbers, d->endpoint, &it->command, &raised);
+        status = lines_carry_out(&d->numbers, d->endpoint, &it->command, &raised);
     if (status == MACSEC_OK)
         note(d, &it->command, false);
     if (raised != 0)
@@ -124,8 +124,8 @@ static struct result judge(const struct device *d, uint32_t status, const macsec
 }
 
 static struct result carry_out(struct device *d, uint32_t status, const macsec_command *c) {
-    struct result r = judge(d, status, c, lines_lack_name(d->numbers, d->endpoint, c));
-    if (!is_refused(&r) && (r.status = lines_carry_out(d->numbers, d->endpoint, c, &r.raised)) == MACSEC_OK)
+    struct result r = judge(d, status, c, lines_lack_name(&d->numbers, d->endpoint, c));
+    if (!is_refused(&r) && (r.status = lines_carry_out(&d->numbers, d->endpoint, c, &r.raised)) == MACSEC_OK)
         note(d, c, d->port.owner >= 0);
     return r;
 }
@@ -146,9 +146,9 @@ struct result endpoint_command(struct device *d, const char *line, size_t length
 static bool lacks_name(const struct device *d, struct load *l, const macsec_command *c) {
     if (lines_effect(c->kind) == KEEPS_KEY)
         l->installs[c->key] = true;
-    if (lines_effect(c->kind) != BEGINS_SA || (!l->installs[c->key] && numbers_has_name(d->numbers, d->endpoint, c)))
+    if (lines_effect(c->kind) != BEGINS_SA || (!l->installs[c->key] && numbers_has_name(&d->numbers, d->endpoint, c)))
         return false;
-    return numbers_names(d->numbers) + l->names++ >= numbers_names_max();
+    return d->numbers.names.count + l->names++ >= NUMBERS_NAMES_MAX;
 }
 
 /* Takes a line. In place of a command that the endpoint does not get comes one that every endpoint refuses, a channel
@@ -185,7 +185,7 @@ static void note_lines(struct device *d, const struct load *l) {
         for (size_t i = 0; i < l->count; i++)
             if ((lines_effect(l->commands[i].kind) == BEGINS_SA) == begins)
                 note(d, &l->commands[i], d->port.owner >= 0);
-    numbers_reserve_soon(d->numbers, d->endpoint, LOAD_WAITS);
+    numbers_reserve_soon(&d->numbers, d->endpoint, LOAD_WAITS);
 }
 
 static void answer_at(struct text *t, const struct load *l, size_t place, struct result r) {
@@ -197,7 +197,7 @@ static void answer_at(struct text *t, const struct load *l, size_t place, struct
 static void load_lines(struct device *d, struct load *l, struct text *t) {
     size_t place;
     uint32_t status;
-    numbers_note_all(d->numbers, d->endpoint); /* associations may end */
+    numbers_note_all(&d->numbers, d->endpoint); /* associations may end */
     status = macsec_load(d->endpoint, l->commands, l->count, l->begins, &place);
     if (status == MACSEC_E_MEMORY)
         answer_result(t, result_of(status));

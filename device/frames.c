@@ -47,7 +47,7 @@ enum outcome frames_from_client(struct device *d) {
             frames_note_fate(d, &b, frames_send(d, &frame));
     }
     left = outcome == GONE ? GONE : link_flush(&d->link, &d->counts); /* before it is noted, since the peer waits */
-    numbers_used(d->numbers, d->endpoint, b.used, b.lacked > 0);
+    numbers_used(&d->numbers, d->endpoint, b.used, b.lacked > 0);
     return left;
 }
 
@@ -83,14 +83,14 @@ static enum outcome received(struct device *d, const macsec_received *got, const
     d->counts.link_earlier_run += got->verdict == MACSEC_VERDICT_EARLIER_RUN;
     history_received(&d->history, got, frame);
     floods_note(d, got->verdict);
-    numbers_received(d->numbers, d->endpoint, got, d->held_frames.again);
+    numbers_received(&d->numbers, d->endpoint, got, d->held_frames.again);
     return outcome;
 }
 
 enum outcome frames_judged(struct device *d, const macsec_received *got, const struct frame *frame) {
     if (got->verdict != MACSEC_VERDICT_NO_RESERVATION || !keep(d, got, frame->octets, frame->length))
         return received(d, got, frame);
-    numbers_received(d->numbers, d->endpoint, got, d->held_frames.again);
+    numbers_received(&d->numbers, d->endpoint, got, d->held_frames.again);
     return DONE;
 }
 

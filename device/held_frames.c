@@ -13,7 +13,7 @@ bool held_frames_keep(struct device *d, const struct held_frame *about, const ui
     if (h->count == HELD_FRAMES || length > HELD_OCTETS - h->used)
         return false;
     if (h->count == 0) {
-        h->grants = numbers_grants(d->numbers);
+        h->grants = d->numbers.grants;
         h->ticks = 0;
     }
     memmove(h->octets + h->used, octets, length); /* it may be one of them */
@@ -32,7 +32,7 @@ bool held_frames_wait(const struct device *d, const uint8_t sci[8]) {
 
 /* Has a reservation been reported since the first of them was kept? */
 static bool is_granted(const struct device *d) {
-    return d->held_frames.count > 0 && d->held_frames.grants != numbers_grants(d->numbers);
+    return d->held_frames.count > 0 && d->held_frames.grants != d->numbers.grants;
 }
 
 static enum outcome give(struct device *d, const struct held_frame *it, const uint8_t *octets) {
@@ -82,7 +82,7 @@ enum outcome held_frames_tick(struct device *d) {
     struct held_frames *h = &d->held_frames;
     enum outcome outcome = DONE;
     const uint8_t *octets = h->octets;
-    if (h->count == 0 || h->grants != numbers_grants(d->numbers) || ++h->ticks < TICKS)
+    if (h->count == 0 || h->grants != d->numbers.grants || ++h->ticks < TICKS)
         return DONE;
     for (const struct held_frame *it = h->frames; it < h->frames + h->count; octets += it++->length) {
         if (it->accepted && frames_deliver(d, octets, it->length) == GONE)

@@ -11,26 +11,6 @@ enum { STACK = 256 * 1024 };
  * much can be sent until the next order. */
 enum { LOOKS = 1000 };
 
-enum state { IDLE, ORDERED, CARRIED_OUT };
-
-struct journal_writer {
-    struct journal *journal;
-    pthread_t thread;
-    bool runs;  /* is there a thread? */
-    int events; /* an eventfd, written when an order was carried out, or the file was cut */
-    bool looks; /* is the thread to look at the file? */
-    pthread_mutex_t lock;
-    pthread_cond_t changed;
-    /* Guarded by the lock from here on. The journal and the result belong to the thread while the state is
-     * ORDERED, and to the other one else. */
-    enum state state;
-    bool begun, ends;
-    int confined;
-    size_t count; /* of the records of an order */
-    bool anew, busy, cut;
-    struct saved saved;
-};
-
 static void carry_out(struct journal_writer *s) {
     int64_t began = clock_now(CLOCK_MONOTONIC);
     s->saved.good = journal_write(s->journal, s->journal->records, s->count, s->anew, &s->saved.fault) == 0;
@@ -84,15 +64,10 @@ static void *work(void *argument) {
 
 /* ---- Opening ---- */
 
-int journal_writer_open(struct journal_writer **s, struct journal *journal) {
-    struct journal_writer *it = *s = calloc(1, sizeof *it);
-    if (it == NULL)
-        return message_of_memory();
-    it->journal = journal;
-    it->lock = (pthread_mutex_t)PTHREAD_MUTEX_INITIALIZER;
-    it->changed = (pthread_cond_t)PTHREAD_COND_INITIALIZER;
-    it->events = eventfd(0, EFD_NONBLOCK | EFD_CLOEXEC);
-    return it->events >= 0 ? 0 : message_of_errno("the thread of the journal");
+int journal_writer_open(struct journal_writer *s, struct journal *journal) {
+    *s = (struct journal_writer){ journal, .lock = PTHREAD_MUTEX_INITIALIZER, .changed = PTHREAD_COND_INITIALIZER };
+    s->events = eventfd(0, EFD_NONBLOCK | EFD_CLOEXEC);
+    return s->events >= 0 ? 0 : message_of_errno("the thread of the journal");
 }
 
 int journal_writer_start(struct journal_writer *s) {
@@ -107,15 +82,7 @@ int journal_writer_start(struct journal_writer *s) {
     return s->confined;
 }
 
-int journal_writer_file(const struct journal_writer *s) {
-    return s->events;
-}
-
 /* ---- Orders ---- */
-
-bool journal_writer_is_busy(const struct journal_writer *s) {
-    return s->busy;
-}
 
 void journal_writer_order(struct journal_writer *s, size_t count, bool anew) {
     (void)pthread_mutex_lock(&s->lock);
@@ -160,7 +127,7 @@ void journal_writer_wait(struct journal_writer *s, int milliseconds) {
 }
 
 bool journal_writer_close(struct journal_writer *s) {
-    if (journal_writer_is_busy(s))
+    if (s->busy)
         return false;
     (void)pthread_mutex_lock(&s->lock);
     s->ends = true;
@@ -169,6 +136,5 @@ bool journal_writer_close(struct journal_writer *s) {
     if (s->runs)
         (void)pthread_join(s->thread, NULL);
     (void)close(s->events); /* nothing is lost if this fails */
-    free(s);
     return true;
 }

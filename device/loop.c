@@ -47,7 +47,7 @@ int loop_open(struct device *d) {
         return message_of_errno("epoll");
     for (uint32_t i = 0; i < JOURNAL; i++)
         RETURN_IF_FAILED(watch(d, EPOLL_CTL_ADD, *files[i], EPOLLIN, i));
-    RETURN_IF_FAILED(watch(d, EPOLL_CTL_ADD, numbers_file(d->numbers), EPOLLIN, JOURNAL));
+    RETURN_IF_FAILED(watch(d, EPOLL_CTL_ADD, d->numbers.writer.events, EPOLLIN, JOURNAL));
     if (d->over.socket >= 0)
         RETURN_IF_FAILED(watch(d, EPOLL_CTL_ADD, d->over.socket, EPOLLIN, OVER));
     return d->workers == NULL ? 0 : watch(d, EPOLL_CTL_ADD, workers_file(d->workers), EPOLLIN, WORKERS);
@@ -109,7 +109,7 @@ static int on_clock(struct device *d) {
     if (read(d->clock, &times, sizeof times) != (ssize_t)sizeof times)
         return 0;
     d->history.seconds += times;
-    numbers_tick(d->numbers, d->endpoint);
+    numbers_tick(&d->numbers, d->endpoint);
     RETURN_IF_FAILED(end_of(d, held_frames_tick(d)));
     floods_say(d);
     link_count_lost(&d->link, &d->counts);
@@ -170,7 +170,7 @@ static int on_event(struct device *d, const struct epoll_event *event) {
     case LISTENER:
         return on_listener(d);
     case JOURNAL:
-        numbers_go_on(d->numbers, d->endpoint);
+        numbers_go_on(&d->numbers, d->endpoint);
         return 0;
     case WORKERS:
         workers_read_event(d->workers);

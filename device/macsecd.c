@@ -40,9 +40,9 @@ static int start(struct device *d) {
     RETURN_IF_FAILED(rtnetlink_open(d));
     RETURN_IF_FAILED(workers_open(&d->workers, c->has_workers ? c->workers : workers_fitting()));
     RETURN_IF_FAILED(loop_open(d));
-    RETURN_IF_FAILED(confine_rights(numbers_folder(d->numbers), c->unconfined));
+    RETURN_IF_FAILED(confine_rights(d->numbers.journal.folder, c->unconfined));
     RETURN_IF_FAILED(configure(d));
-    RETURN_IF_FAILED(numbers_start(d->numbers, d->endpoint)); /* the threads have no other rights either */
+    RETURN_IF_FAILED(numbers_start(&d->numbers, d->endpoint)); /* the threads have no other rights either */
     RETURN_IF_FAILED(service_start(&d->service));
     RETURN_IF_FAILED(workers_start(d->workers));
     RETURN_IF_FAILED(rtnetlink_begin(d));
@@ -71,7 +71,7 @@ static int serve(struct device *d) {
     service_notify(&d->service, "STOPPING=1");
     workers_close(d->workers);
     d->workers = NULL;
-    numbers_close(d->numbers, d->endpoint);
+    numbers_close(&d->numbers, d->endpoint);
     service_close(&d->service);
     return result;
 }

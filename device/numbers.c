@@ -32,30 +32,6 @@ enum { SPARE = 512 };
 /* How many milliseconds an order may take when macsecd ends. */
 enum { LAST = 15000 };
 
-struct numbers {
-    struct journal journal; /* the thread's, while it has an order */
-    struct names names;
-    struct receive_rates rates;
-    struct journal_writer *writer;
-    struct counts *counts;
-    uint64_t grants;        /* how often a reservation of received packet numbers may have been reported */
-    bool begun;             /* may frames come now? */
-    bool lacks;             /* is it reported that there is no name for an association? */
-    uint64_t orders, done;  /* how many orders were given, and were carried out */
-    uint64_t amount;        /* of a reservation */
-    uint64_t unseen;        /* frames sent since the reservations were looked at */
-    uint64_t rate, highest; /* frames sent since the last tick, and the highest rate */
-    double slow;            /* how many seconds a synchronization takes */
-    unsigned ticks;         /* since the order was given */
-    unsigned age;           /* in ticks, until it is steady */
-    bool anew;              /* is the whole journal to be written, since the file is in doubt? */
-    bool failed;            /* did the last order fail, and is that reported? */
-    bool waits;             /* is no order to be given before the next tick? */
-    bool filled;            /* is it reported that the journal fills? */
-};
-
-static struct numbers the_numbers;
-
 /* ---- The journal ---- */
 
 static void report(const char *what, const struct journal_fault *fault) {
@@ -93,49 +69,26 @@ static int explain(const char *path, const char *name, const struct journal_faul
     return message_wrong("if the keys of %s.conf were never used: macsecd --create-journal %s", name, name);
 }
 
-int numbers_open(struct numbers **n, const char *name, const char *named, struct counts *counts) {
+int numbers_open(struct numbers *n, const char *name, const char *named, struct counts *counts) {
     char path[PATH_MAX];
     const char *wrong;
     struct journal_fault fault;
-    *n = &the_numbers;
-    the_numbers.counts = counts;
-    the_numbers.amount = AMOUNT_MIN;
-    the_numbers.anew = true; /* as journal_open says */
+    n->counts = counts;
+    n->amount = AMOUNT_MIN;
+    n->anew = true; /* as journal_open says */
     if (!journals_path(path, sizeof path, name))
         return ENDS_WRONG;
-    if (journal_open(&the_numbers.journal, path, NUMBERS_FILE_LENGTH, &fault) != 0)
+    if (journal_open(&n->journal, path, NUMBERS_FILE_LENGTH, &fault) != 0)
         return explain(path, name, &fault);
     if ((wrong = journals_misnamed(path, named)) != NULL)
         return message_wrong("the journal %s %s", path, wrong);
-    if (!names_read(&the_numbers.names, &the_numbers.journal.machine, the_numbers.journal.room,
-                    numbers_names_max() + SPARE))
+    if (!names_read(&n->names, &n->journal.machine, n->journal.room, NUMBERS_NAMES_MAX + SPARE))
         return message_of_memory();
-    return journal_writer_open(&the_numbers.writer, &the_numbers.journal);
-}
-
-int numbers_folder(const struct numbers *n) {
-    return n->journal.folder;
-}
-
-int numbers_file(const struct numbers *n) {
-    return journal_writer_file(n->writer);
-}
-
-uint64_t numbers_grants(const struct numbers *n) {
-    return n->grants;
-}
-
-size_t numbers_names(const struct numbers *n) {
-    return n->names.count;
-}
-
-/* The rest of the file is for what is appended, and for the names of an order. */
-size_t numbers_names_max(void) {
-    return NUMBERS_FILE_LENGTH / MACSEC_RECORD_LENGTH / 8 * 7;
+    return journal_writer_open(&n->writer, &n->journal);
 }
 
 bool numbers_is_full(const struct numbers *n) {
-    return numbers_names(n) >= numbers_names_max();
+    return n->names.count >= NUMBERS_NAMES_MAX;
 }
 
 bool numbers_has_name(const struct numbers *n, const macsec_endpoint *e, const macsec_command *c) {
@@ -219,7 +172,7 @@ static bool has_order(struct numbers *n) {
 /* Gives an order, if there is something to be written and none is under way. */
 static void order(struct numbers *n, macsec_endpoint *e) {
     size_t count;
-    if (n->waits || journal_writer_is_busy(n->writer) || !has_order(n))
+    if (n->waits || n->writer.busy || !has_order(n))
         return;
     accept_more(n, e);
     count = names_changes(&n->names, &n->journal.machine, n->journal.records, n->journal.room);
@@ -231,7 +184,7 @@ static void order(struct numbers *n, macsec_endpoint *e) {
         return;
     }
     n->ticks = 0;
-    journal_writer_order(n->writer, count, n->anew);
+    journal_writer_order(&n->writer, count, n->anew);
 }
 
 static void note_seconds(struct numbers *n, double seconds) {
@@ -256,7 +209,7 @@ static bool note_cut(struct numbers *n) {
 /* Takes the result of an order. Returns false if there is none, and nothing else has to be written at once. */
 static bool take_result(struct numbers *n, macsec_endpoint *e) {
     struct saved saved;
-    if (!journal_writer_is_done(n->writer, &saved))
+    if (!journal_writer_is_done(&n->writer, &saved))
         return saved.cut && note_cut(n);
     if (!saved.good && saved.fault.error == ENODATA)
         return note_cut(n);
@@ -278,7 +231,7 @@ void numbers_go_on(struct numbers *n, macsec_endpoint *e) {
     do
         order(n, e);
     while (take_result(n, e) && !n->waits && has_order(n));
-    if (n->begun && n->names.changes == 0 && !n->anew && !journal_writer_is_busy(n->writer))
+    if (n->begun && n->names.changes == 0 && !n->anew && !n->writer.busy)
         journals_unlock(); /* a NAME that compares now sees the first records */
 }
 
@@ -327,7 +280,7 @@ void numbers_begin_to_send(struct numbers *n, macsec_endpoint *e, uint8_t an) {
 void numbers_used(struct numbers *n, macsec_endpoint *e, unsigned frames, bool lacked) {
     n->unseen += frames;
     n->rate += frames;
-    if (n->unseen >= n->amount / 16 || (lacked && !n->waits && !journal_writer_is_busy(n->writer)))
+    if (n->unseen >= n->amount / 16 || (lacked && !n->waits && !n->writer.busy))
         numbers_reserve(n, e);
 }
 
@@ -396,8 +349,7 @@ void numbers_received(struct numbers *n, macsec_endpoint *e, const macsec_receiv
     rate = receive_rates_of(&n->rates, got->sci);
     if (!again)
         receive_rates_count(rate);
-    asks = lacks ? receive_rates_lacked(rate, n->orders + !journal_writer_is_busy(n->writer), again)
-                 : receive_rates_accepted(rate);
+    asks = lacks ? receive_rates_lacked(rate, n->orders + !n->writer.busy, again) : receive_rates_accepted(rate);
     if (!asks)
         return;
     if (accept_for(n, e, got->sci, got->an, got->pn))
@@ -415,7 +367,7 @@ void numbers_begin(struct numbers *n, macsec_endpoint *e) {
 
 int numbers_start(struct numbers *n, macsec_endpoint *e) {
     numbers_begin(n, e);
-    return journal_writer_start(n->writer);
+    return journal_writer_start(&n->writer);
 }
 
 /* Has each enabled association a packet number reserved, if it has them before a frame lacks one? */
@@ -441,7 +393,7 @@ void numbers_reserve_soon(struct numbers *n, macsec_endpoint *e, int millisecond
     numbers_reserve(n, e);
     if (has_reserved(n, e))
         return;
-    journal_writer_wait(n->writer, milliseconds);
+    journal_writer_wait(&n->writer, milliseconds);
     numbers_go_on(n, e);
 }
 
@@ -510,11 +462,11 @@ void numbers_note_retired(struct numbers *n, uint16_t key, bool passes) {
 /* ---- The clock ---- */
 
 static void look_at_fill(struct numbers *n) {
-    size_t count = numbers_names(n);
-    bool filled = count * 100 >= numbers_names_max() * FILLED;
+    size_t count = n->names.count;
+    bool filled = count * 100 >= NUMBERS_NAMES_MAX * FILLED;
     if (filled && !n->filled)
         message("the journal is full to %d percent: it has %zu of at most %zu names. macsecd(8) says what to do",
-                FILLED, count, numbers_names_max());
+                FILLED, count, NUMBERS_NAMES_MAX);
     n->filled = filled;
     n->lacks = n->lacks && numbers_is_full(n);
 }
@@ -524,7 +476,7 @@ void numbers_tick(struct numbers *n, macsec_endpoint *e) {
     n->highest = n->rate > n->highest ? n->rate : n->highest - n->highest / FORGETS;
     n->rate = 0;
     n->age += n->age < STEADY_AFTER;
-    note_seconds(n, journal_writer_is_busy(n->writer) ? n->ticks : 0);
+    note_seconds(n, n->writer.busy ? n->ticks : 0);
     n->ticks++;
     receive_rates_tick(&n->rates);
     accept_all(n, e);
@@ -536,10 +488,10 @@ void numbers_tick(struct numbers *n, macsec_endpoint *e) {
 static void write_last(struct numbers *n, macsec_endpoint *e) {
     n->begun = false; /* nothing more is reserved */
     for (int i = 0; i < 4; i++) {
-        journal_writer_wait(n->writer, LAST);
+        journal_writer_wait(&n->writer, LAST);
         n->waits = false;
         numbers_go_on(n, e);
-        if (!journal_writer_is_busy(n->writer) && !has_order(n))
+        if (!n->writer.busy && !has_order(n))
             return;
     }
 }
@@ -548,7 +500,7 @@ static void write_last(struct numbers *n, macsec_endpoint *e) {
  * accepted stays reserved, and nothing that the next run needs is missing if the last records can't be written. */
 void numbers_close(struct numbers *n, macsec_endpoint *e) {
     write_last(n, e);
-    if (journal_writer_close(n->writer))
+    if (journal_writer_close(&n->writer))
         journal_close(&n->journal);
     names_free(&n->names);
 }

@@ -13,6 +13,8 @@ struct counts;
 #ifndef NUMBERS_FILE_LENGTH
 #define NUMBERS_FILE_LENGTH ((size_t)1 << 21)
 #endif
+/* The most names in it. The rest is for what is appended, and for the names of an order. */
+#define NUMBERS_NAMES_MAX (NUMBERS_FILE_LENGTH / MACSEC_RECORD_LENGTH / 8 * 7)
 
 /* ---- names.c: the names in the journal, and their records ---- */
 
@@ -130,8 +132,6 @@ void receive_rates_tick(struct receive_rates *p);
 
 /* ---- journal_writer.c: the thread that writes the journal ---- */
 
-struct journal_writer;
-
 /* What became of an order. */
 struct saved {
     bool good, cut; /* was it carried out, and has another program changed the length of the file? */
@@ -139,38 +139,73 @@ struct saved {
     double seconds;
 };
 
+enum writer_state { IDLE, ORDERED, CARRIED_OUT };
+
+struct journal_writer {
+    struct journal *journal;
+    pthread_t thread;
+    bool runs;  /* is there a thread? */
+    bool busy;  /* is an order under way? */
+    int events; /* an eventfd, written when an order was carried out, or another program has cut the file */
+    bool looks; /* is the thread to look at the file? */
+    pthread_mutex_t lock;
+    pthread_cond_t changed;
+    /* Guarded by the lock from here on. The journal and the result belong to the thread while the state is
+     * ORDERED, and to the other one else. */
+    enum writer_state state;
+    bool begun, ends;
+    int confined;
+    size_t count; /* of the records of an order */
+    bool anew, cut;
+    struct saved saved;
+};
+
 /* Makes a writer of this journal, which belongs to the thread while it works. */
-int journal_writer_open(struct journal_writer **s, struct journal *journal);
+int journal_writer_open(struct journal_writer *s, struct journal *journal);
 /* Starts the thread. Until then, orders are carried out at once. */
 int journal_writer_start(struct journal_writer *s);
-/* A descriptor that can be read when an order was carried out, or another program has cut the file. */
-int journal_writer_file(const struct journal_writer *s);
-/* Is an order under way? */
-bool journal_writer_is_busy(const struct journal_writer *s);
 /* Orders that so many `records` of the journal be written (journal_write). */
 void journal_writer_order(struct journal_writer *s, size_t count, bool anew);
 /* Has the order been carried out? Then the writer has none any more. Of `saved`, `cut` is filled in always. */
 bool journal_writer_is_done(struct journal_writer *s, struct saved *saved);
 /* Waits until the order has been carried out, at most so many milliseconds. */
 void journal_writer_wait(struct journal_writer *s, int milliseconds);
-/* Ends the thread and frees the writer, unless an order is under way. Returns false if one is. */
+/* Ends the thread and closes the eventfd, unless an order is under way. Returns false if one is. */
 bool journal_writer_close(struct journal_writer *s);
 
 /* ---- numbers.c: packet numbers that outlive a run ---- */
 
-struct numbers;
+struct numbers {
+    struct journal journal; /* the thread's, while it has an order */
+    struct names names;
+    struct receive_rates rates;
+    struct journal_writer writer;
+    struct counts *counts;
+    uint64_t grants;        /* how often a reservation of received packet numbers may have been reported */
+    bool begun;             /* may frames come now? */
+    bool lacks;             /* is it reported that there is no name for an association? */
+    uint64_t orders, done;  /* how many orders were given, and were carried out */
+    uint64_t amount;        /* of a reservation */
+    uint64_t unseen;        /* frames sent since the reservations were looked at */
+    uint64_t rate, highest; /* frames sent since the last tick, and the highest rate */
+    double slow;            /* how many seconds a synchronization takes */
+    unsigned ticks;         /* since the order was given */
+    unsigned age;           /* in ticks, until it is steady */
+    bool anew;              /* is the whole journal to be written, since the file is in doubt? */
+    bool failed;            /* did the last order fail, and is that reported? */
+    bool waits;             /* is no order to be given before the next tick? */
+    bool filled;            /* is it reported that the journal fills? */
+};
+
 /* Makes, and opens, the journal of this name. `named` is as for journals_misnamed. */
 int numbers_create(const char *name);
-int numbers_open(struct numbers **n, const char *name, const char *named, struct counts *counts);
+int numbers_open(struct numbers *n, const char *name, const char *named, struct counts *counts);
 /* Frames may come from now on: makes all reservations for sending. This waits for the disk, and so do calls before
  * it. */
 void numbers_begin(struct numbers *n, macsec_endpoint *e);
 /* Does what numbers_begin does, and starts the thread that writes the journal. */
 int numbers_start(struct numbers *n, macsec_endpoint *e);
-/* The descriptor of the journal's folder, and one that can be read when records were written. */
-int numbers_folder(const struct numbers *n);
-int numbers_file(const struct numbers *n);
-/* To be called when numbers_file can be read: reports the records to the endpoint, and has the next ones written. */
+/* To be called when the writer's eventfd can be read: reports the records, and has the next ones written. */
 void numbers_go_on(struct numbers *n, macsec_endpoint *e);
 /* Creates an endpoint with a copy of the journal, in which what numbers_note_accepted has noted replaces what is
  * reserved for receive associations. Returns the library's status. */
@@ -190,8 +225,6 @@ void numbers_end_receiving(struct numbers *n, macsec_endpoint *e);
 void numbers_reserve_soon(struct numbers *n, macsec_endpoint *e, int milliseconds);
 /* Notes that frames were sent, and whether one lacked a reservation; reserves in time. */
 void numbers_used(struct numbers *n, macsec_endpoint *e, unsigned frames, bool lacked);
-/* How often a reservation of received packet numbers may have been reported to the endpoint. */
-uint64_t numbers_grants(const struct numbers *n);
 /* Notes what became of a frame of LINK, and whether it had waited for a reservation; reserves in time. */
 void numbers_received(struct numbers *n, macsec_endpoint *e, const macsec_received *got, bool again);
 /* To be called each second: fits the reservations to the rate. */
@@ -209,10 +242,7 @@ void numbers_forget(struct numbers *n);
 uint64_t numbers_ticket(const struct numbers *n);
 /* Were the records of a ticket written, or could they not be? */
 bool numbers_is_written(const struct numbers *n, uint64_t ticket);
-/* How many names are in the journal, and how many there can be. */
-size_t numbers_names(const struct numbers *n);
-size_t numbers_names_max(void);
-/* Are there as many? And has the association that this command begins a name, or no key? */
+/* Are there as many names as there can be? And has the association that this command begins a name, or no key? */
 bool numbers_is_full(const struct numbers *n);
 bool numbers_has_name(const struct numbers *n, const macsec_endpoint *e, const macsec_command *c);
 /* Writes the last records, and closes the journal. */

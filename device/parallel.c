@@ -97,7 +97,7 @@ enum outcome parallel_from_client(struct device *d) {
         outcome = read_client_frames(d, &b);
     if (outcome != GONE)
         outcome = send_finished(d); /* before it is noted, since the peer waits */
-    numbers_used(d->numbers, d->endpoint, b.used, b.lacked > 0);
+    numbers_used(&d->numbers, d->endpoint, b.used, b.lacked > 0);
     return outcome;
 }
 

@@ -172,7 +172,7 @@ void answer_show(struct text *t, const struct device *d) {
     text_add(t, "%s\n", d->name);
     add_link(t, d);
     add_endpoint(t, d);
-    text_add(t, "  journal: %zu of %zu names\n", numbers_names(d->numbers), numbers_names_max());
+    text_add(t, "  journal: %zu of %zu names\n", d->numbers.names.count, NUMBERS_NAMES_MAX);
     if (d->counts.link_over > 0)
         text_add(t, "  over the link: %" PRIu64 " devices or addresses were found (LinkOver)\n", d->counts.link_over);
     text_add(t, "  receive ahead: dropped %" PRIu64 " without a reservation, %" PRIu64 " of an earlier run\n",

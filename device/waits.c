@@ -14,9 +14,9 @@ static int64_t now(void) {
 bool waits_keep(struct device *d, int client, const char *answer, size_t length) {
     struct waiting *w = &d->waits.clients[client];
     uint64_t ticket;
-    numbers_go_on(d->numbers, d->endpoint); /* `open` gives no order, and the mark of a key may wait for one */
-    ticket = numbers_ticket(d->numbers);
-    if (numbers_is_written(d->numbers, ticket) || length > sizeof w->answer)
+    numbers_go_on(&d->numbers, d->endpoint); /* `open` gives no order, and the mark of a key may wait for one */
+    ticket = numbers_ticket(&d->numbers);
+    if (numbers_is_written(&d->numbers, ticket) || length > sizeof w->answer)
         return false;
     memcpy(w->answer, answer, length);
     w->length = length;
@@ -44,7 +44,7 @@ void waits_client_gone(struct device *d, int client) {
 bool waits_send(struct device *d, int client) {
     struct waiting *w = &d->waits.clients[client];
     size_t length = w->length;
-    bool is_done = !w->rests && length > 0 && numbers_is_written(d->numbers, w->ticket);
+    bool is_done = !w->rests && length > 0 && numbers_is_written(&d->numbers, w->ticket);
     if (!waits_for(d, client) || (!is_done && now() < w->until))
         return false;
     waits_client_gone(d, client);

@@ -71,7 +71,7 @@ int confine_calls(enum thread thread, int own, int manager) {
 
 /* ---- Both ends ---- */
 
-static struct numbers *n;
+static struct numbers numbers, *const n = &numbers;
 static macsec_endpoint e = MACSEC_ENDPOINT_INIT, peer = MACSEC_ENDPOINT_INIT;
 static struct counts counts;
 static int out;
@@ -305,7 +305,7 @@ int main(int count, char **words) {
         return numbers_create("journal") == 0 ? 0 : 3;
     if (count > 3 && setenv("LIMIT", words[3], 1) != 0)
         return 1;
-    if (numbers_open(&n, "journal", "", &counts) != 0)
+    if (numbers_open(n, "journal", "", &counts) != 0)
         return 3;
     if (count == 6 && strcmp(words[1], "agree") == 0)
         return run_agree((unsigned)strtoul(words[4], NULL, 10), words[5]);

@@ -24,9 +24,9 @@ LEFT = 16
 # The names of a journal in which lines find none; a limit below it, since reading as many names as macsecd takes lasts
 # long in an unproved library; and for how many octets the memory may grow.
 FULL, GROWTH = 1800, 2 << 20
-LOWER = "numbers.c", "return NUMBERS_FILE_LENGTH / MACSEC_RECORD_LENGTH / 8 * 7;", "return 1750;"
+LOWER = "numbers.h", "(NUMBERS_FILE_LENGTH / MACSEC_RECORD_LENGTH / 8 * 7)", "(size_t)1750"
 # A limit that leaves two names beside those of the configuration.
-LOWEST = *LOWER[:2], "return 4;"
+LOWEST = *LOWER[:2], "(size_t)4"
 
 
 def memory_of(end: End) -> int:

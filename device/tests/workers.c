@@ -181,11 +181,6 @@ void numbers_used(struct numbers *n, macsec_endpoint *e, unsigned frames, bool l
         wrong("a reservation is needed");
 }
 
-uint64_t numbers_grants(const struct numbers *n) {
-    (void)n;
-    return 0;
-}
-
 void numbers_received(struct numbers *n, macsec_endpoint *e, const macsec_received *got, bool again) {
     (void)n, (void)e, (void)again;
     if (got->pn != 0)

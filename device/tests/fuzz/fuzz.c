@@ -62,7 +62,7 @@ struct device *fuzz_device(void) {
     fuzz_require(numbers_create(d->name) == 0, "no journal is made: STATE_DIRECTORY has one");
     fuzz_require(numbers_open(&d->numbers, d->name, "", &d->counts) == 0, "the journal can't be opened");
     d->endpoint = &d->handles[0];
-    numbers_begin(d->numbers, d->endpoint);
+    numbers_begin(&d->numbers, d->endpoint);
     d->config.max_frame = MACSEC_FRAME_MAX;
     d->link.socket = -1;
     d->link.index = 1;
