@@ -40,7 +40,7 @@ enum outcome frames_from_client(struct device *d) {
     enum outcome outcome = DONE, left;
     if (d->workers != NULL)
         return parallel_from_client(d);
-    for (unsigned i = link_waiting(&d->link); outcome == DONE && i < BATCH; i++) {
+    for (unsigned i = d->link.waiting; outcome == DONE && i < BATCH; i++) {
         struct frame frame;
         outcome = tap_read(&d->tap, &frame);
         if (outcome == DONE)

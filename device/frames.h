@@ -90,7 +90,6 @@ enum outcome link_read(struct link *l, struct unfinished frames[BATCH], unsigned
 void link_keep(struct link *l, unsigned index, struct received **spare);
 /* Adds a copy of a frame to those that wait to be sent. If BATCH frames wait, it is counted as refused. */
 void link_append(struct link *l, const uint8_t *octets, size_t length, struct counts *c);
-unsigned link_waiting(const struct link *l);
 /* Sends the frames that link_append has added. BUSY: some still wait, until LINK can be written to. */
 enum outcome link_flush(struct link *l, struct counts *c);
 /* Counts the frames that LINK's socket has lost since the last call. */
@@ -164,8 +163,6 @@ int tap_own(const struct config *c, uid_t user);
 int tap_open(struct tap *t, const struct config *c, const struct link *l);
 /* Reads a frame. It is there until the next call. */
 enum outcome tap_read(struct tap *t, struct frame *frame);
-/* Has tap_read another segment of what it has read, so that it makes no call? */
-bool tap_has_rest(const struct tap *t);
 /* Delivers a frame, and counts whether TAP took it. A frame that others can be joined to waits until tap_flush. */
 enum outcome tap_write(struct tap *t, const uint8_t *octets, size_t length, struct counts *c);
 enum outcome tap_flush(struct tap *t, struct counts *c);

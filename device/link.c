@@ -166,10 +166,6 @@ void link_count_lost(struct link *l, struct counts *c) {
     l->unreadable = 0;
 }
 
-unsigned link_waiting(const struct link *l) {
-    return l->waiting;
-}
-
 void link_append(struct link *l, const uint8_t *octets, size_t length, struct counts *c) {
     unsigned at = (l->first + l->waiting) % BATCH;
     if (l->waiting == BATCH) {

@@ -55,7 +55,7 @@ int loop_open(struct device *d) {
 
 /* While frames wait for LINK, none is read from TAP, so that its queue fills and the client slows down. */
 static int watch_ports(struct device *d, bool *blocked) {
-    bool waits = link_waiting(&d->link) > 0;
+    bool waits = d->link.waiting > 0;
     if (waits == *blocked)
         return 0;
     *blocked = waits;
@@ -75,7 +75,7 @@ static int on_link(struct device *d, uint32_t events) {
     enum outcome outcome = (events & EPOLLOUT) != 0 ? link_flush(&d->link, &d->counts) : DONE;
     if (outcome != GONE && (events & ~(uint32_t)EPOLLOUT) != 0)
         outcome = frames_from_link(d);
-    if (outcome == DONE && d->counts.tap_out != delivered && link_waiting(&d->link) == 0)
+    if (outcome == DONE && d->counts.tap_out != delivered && d->link.waiting == 0)
         outcome = frames_from_client(d);
     return end_of(d, outcome);
 }
@@ -182,7 +182,7 @@ static int on_event(struct device *d, const struct epoll_event *event) {
 
 /* Is a part of what was read from TAP left, and does LINK take it? TAP has no event for it. */
 static bool has_rest(const struct device *d) {
-    return tap_has_rest(&d->tap) && link_waiting(&d->link) == 0;
+    return d->tap.rest.at < d->tap.rest.of.length && d->link.waiting == 0;
 }
 
 /* Waits for events. While frames are in rings, it does jobs if there are none, and finished frames end the wait. */
@@ -193,7 +193,7 @@ static int wait_for_events(struct device *d, struct epoll_event events[EVENTS]) 
     count = epoll_wait(d->events, events, EVENTS, 0);
     if (count != 0 || workers_help(d->workers))
         return count;
-    count = epoll_wait(d->events, events, EVENTS, workers_sleep(d->workers, link_waiting(&d->link) == 0) ? left : 0);
+    count = epoll_wait(d->events, events, EVENTS, workers_sleep(d->workers, d->link.waiting == 0) ? left : 0);
     workers_woke(d->workers);
     return count;
 }

@@ -12,7 +12,7 @@ static enum outcome send_finished(struct device *d) {
     enum outcome outcome = DONE;
     while (outcome == DONE) {
         struct ring_place *p;
-        while (link_waiting(&d->link) < BATCH && (p = ring_first(r)) != NULL) {
+        while (d->link.waiting < BATCH && (p = ring_first(r)) != NULL) {
             macsec_sent sent = { p->out, p->length, MACSEC_OK, p->fate, 0, { 0 } };
             d->counts.link_refused += p->length == 0; /* its packet number is used */
             frames_sent(d, &sent);

@@ -159,10 +159,6 @@ enum outcome tap_read(struct tap *t, struct frame *frame) {
     return segments_next(&t->rest, frame) ? DONE : BUSY;
 }
 
-bool tap_has_rest(const struct tap *t) {
-    return t->rest.at < t->rest.of.length;
-}
-
 enum outcome tap_flush(struct tap *t, struct counts *c) {
     unsigned frames = t->joined.count;
     size_t length;

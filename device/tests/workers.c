@@ -28,9 +28,6 @@ static unsigned keys_last; /* how many turns there are between changes of keys, 
 static uint8_t wire[WIRE][MACSEC_FRAME_MAX];
 static size_t wire_length[WIRE];
 static unsigned wire_first, wire_count;
-static uint8_t waiting[BATCH][MACSEC_FRAME_MAX];
-static size_t waiting_length[BATCH];
-static unsigned waiting_first, waiting_count;
 static int patience;   /* in milliseconds */
 static uint64_t state; /* of random numbers */
 static uint8_t rising[256 + MOST];
@@ -102,21 +99,15 @@ enum outcome tap_flush(struct tap *t, struct counts *c) {
 
 /* ---- LINK ---- */
 
-unsigned link_waiting(const struct link *l) {
-    (void)l;
-    return waiting_count;
-}
-
 void link_append(struct link *l, const uint8_t *octets, size_t length, struct counts *c) {
-    unsigned at = (waiting_first + waiting_count) % BATCH;
-    (void)l;
-    if (waiting_count == BATCH) {
+    unsigned at = (l->first + l->waiting) % BATCH;
+    if (l->waiting == BATCH) {
         c->link_refused++;
         return;
     }
-    memcpy(waiting[at], octets, length);
-    waiting_length[at] = length;
-    waiting_count++;
+    memcpy(l->frames[at], octets, length);
+    l->lengths[at] = length;
+    l->waiting++;
 }
 
 /* Transmits a frame, or loses it. Packet numbers of a key have to rise by one each. */
@@ -137,22 +128,20 @@ static void transmit(const uint8_t *octets, size_t length) {
     wire_count++;
 }
 
-/* The receiver sends nothing, so what waits is the sender's. */
 enum outcome link_flush(struct link *l, struct counts *c) {
     unsigned taken = below(8) == 0 ? below(BATCH) : BATCH;
-    (void)l, (void)c;
-    if (taken > waiting_count)
-        taken = waiting_count;
+    if (taken > l->waiting)
+        taken = l->waiting;
     if (taken > WIRE - wire_count)
         taken = WIRE - wire_count;
     for (unsigned i = 0; i < taken; i++) {
-        unsigned at = (waiting_first + i) % BATCH;
-        transmit(waiting[at], waiting_length[at]);
+        unsigned at = (l->first + i) % BATCH;
+        transmit(l->frames[at], l->lengths[at]);
     }
-    a.counts.link_out += taken;
-    waiting_first = (waiting_first + taken) % BATCH;
-    waiting_count -= taken;
-    return waiting_count == 0 ? DONE : BUSY;
+    c->link_out += taken;
+    l->first = (l->first + taken) % BATCH;
+    l->waiting -= taken;
+    return l->waiting == 0 ? DONE : BUSY;
 }
 
 enum outcome link_read(struct link *l, struct unfinished frames[BATCH], unsigned *count) {
@@ -229,7 +218,7 @@ static void arrive(void) {
         (void)link_flush(&a.link, &a.counts);
         (void)frames_from_link(&b);
         drain();
-    } while (ring_count(workers_ring(a.workers, SENDING)) > 0 || waiting_count > 0 || wire_count > 0);
+    } while (ring_count(workers_ring(a.workers, SENDING)) > 0 || a.link.waiting > 0 || wire_count > 0);
 }
 
 /* A key for both: the receiver has it first, and the one before stays until the next change. */
@@ -283,7 +272,7 @@ static void wait_for(struct device *d) {
 /* One turn of both loops. */
 static void turn(void) {
     burst = below(4) == 0 ? 1 : below(3 * BATCH);
-    if (waiting_count == 0 && parallel_from_client(&a) == GONE)
+    if (a.link.waiting == 0 && parallel_from_client(&a) == GONE)
         wrong("the sender is gone");
     if (below(2) == 0)
         (void)link_flush(&a.link, &a.counts);
@@ -327,7 +316,7 @@ static void send_alone(void) {
     burst = 1;
     if (parallel_from_client(&a) == GONE || workers_under_way(a.workers, SENDING) != 0)
         wrong("a client frame that comes alone waits for a worker");
-    while (waiting_count > 0)
+    while (a.link.waiting > 0)
         (void)link_flush(&a.link, &a.counts);
     if (frames_from_link(&b) == GONE || workers_under_way(b.workers, RECEIVING) != 0)
         wrong("a frame of LINK that comes alone waits for a worker");
@@ -348,7 +337,7 @@ static void end_early(unsigned workers) {
             wrong("the device is gone");
         workers_close(c.workers);
         macsec_free(c.endpoint);
-        waiting_count = wire_count = 0;
+        wire_count = 0;
     }
 }
 
