@@ -53,9 +53,10 @@ static const char *const device_names[COUNT_OF_COUNTS] = {
 };
 /* end */
 
-void sci_text(const uint8_t sci[8], char text[SCI_TEXT]) {
+const char *sci_text(const uint8_t sci[8], char text[SCI_TEXT]) {
     for (int i = 0; i < 8; i++)
         snprintf(text + 2 * i, 3, "%02x", sci[i]);
+    return text;
 }
 
 /* The counts are members of one type, so they are an array too. */
@@ -177,11 +178,10 @@ void answer_counters(struct text *t, const struct device *d) {
 /* LINK, as `ip link` would show it: an isolated one is not in the host's namespace. */
 void answer_link(struct text *t, const struct device *d) {
     const uint8_t *a = d->link.address;
-    char path[NAMESPACE_PATH] = "shared";
-    if (!d->config.shared)
-        namespace_path(path, d->name);
+    char path[NAMESPACE_PATH];
     text_add(t, "link %s %s mtu %u address %02x:%02x:%02x:%02x:%02x:%02x namespace %s tap %s\n", d->link.name,
-             d->link.up ? "up" : "down", (unsigned)d->link.mtu, a[0], a[1], a[2], a[3], a[4], a[5], path, d->tap.name);
+             d->link.up ? "up" : "down", (unsigned)d->link.mtu, a[0], a[1], a[2], a[3], a[4], a[5],
+             d->config.shared ? "shared" : namespace_path(path, d->name), d->tap.name);
 }
 
 /* ---- JSON ---- */
@@ -231,9 +231,8 @@ static void add_json_receive(struct text *t, const struct device *d) {
     for (size_t place = 0; macsec_get_rx_sc(d->endpoint, place, sci) == MACSEC_OK; place++) {
         char name[SCI_TEXT];
         uint64_t values[RX];
-        sci_text(sci, name);
         (void)answer_rx_counters(d, sci, -1, values); /* the channel is there */
-        text_add(t, "%s{\"sci\":\"%s\",", place == 0 ? "" : ",", name);
+        text_add(t, "%s{\"sci\":\"%s\",", place == 0 ? "" : ",", sci_text(sci, name));
         add_object(t, "counters", rx_names, values, RX);
         add_json_associations(t, d, sci);
         text_add(t, "}");
@@ -242,17 +241,15 @@ static void add_json_receive(struct text *t, const struct device *d) {
 }
 
 void answer_json(struct text *t, const struct device *d) {
+    char path[NAMESPACE_PATH];
     uint64_t own[OWN], tx[TX];
     uint32_t left = 0;
     own_counters(d, own, tx);
     (void)macsec_keys_left(d->endpoint, &left); /* without an endpoint it is 0 */
     text_add(t, "{\"device\":\"%s\",\"tap\":\"%s\",\"link\":\"%s\",\"up\":%s,", d->name, d->tap.name, d->link.name,
              d->link.up ? "true" : "false");
-    if (!d->config.shared) {
-        char path[NAMESPACE_PATH];
-        namespace_path(path, d->name);
-        text_add(t, "\"namespace\":\"%s\",", path);
-    }
+    if (!d->config.shared)
+        text_add(t, "\"namespace\":\"%s\",", namespace_path(path, d->name));
     text_add(t, "\"port\":\"%s\",\"keys_left\":%u,", d->port.off ? "off" : "on", (unsigned)left);
     text_add(t, "\"journal_names\":%zu,\"journal_names_max\":%zu,", d->numbers.names.count, NUMBERS_NAMES_MAX);
     add_object(t, "device_counters", device_names, counts_of(d), COUNT_OF_COUNTS);

@@ -215,14 +215,13 @@ static void look_at_number(struct check *c, unsigned index) {
 static void look_at_association(struct check *c, const macsec_command *it) {
     bool sends = it->kind == MACSEC_COMMAND_TX_SA;
     char sci[SCI_TEXT];
-    sci_text(it->sci, sci);
     look_at_number(c, sends ? 4 : 5);
     if (sends && !it->flag)
         say(c, HINT, INTEGRITY_ALONE);
     if (sends && !c->has_sent && !c->enables)
         say(c, HINT, NOT_ENABLED_TX, it->an);
     if (!sends && !is_enabled(c, it))
-        say(c, HINT, NOT_ENABLED_RX, sci, it->an);
+        say(c, HINT, NOT_ENABLED_RX, sci_text(it->sci, sci), it->an);
     c->has_sent = c->has_sent || sends;
 }
 
@@ -245,10 +244,10 @@ static void look_at_end(struct check *c, const macsec_config *end) {
     uint8_t sci[8];
     memcpy(sci, end->sci, sizeof sci);
     memcpy(sci, c->address, sizeof c->address);
-    sci_text(sci, right);
     config_take_end(&c->config, end);
     if (c->is_ethernet && memcmp(end->sci, sci, sizeof sci) != 0)
-        say(c, HINT, "the SCI is not that of LINK %s, so another host may have it: write %s", c->config.link, right);
+        say(c, HINT, "the SCI is not that of LINK %s, so another host may have it: write %s", c->config.link,
+            sci_text(sci, right));
     if (c->is_ethernet && c->mtu != 0 && c->config.max_frame != fitting)
         say(c, HINT, "MAX does not fit the MTU %u of LINK %s: TAP's MTU is %u; write %u", (unsigned)c->mtu,
             c->config.link, (unsigned)tap_mtu(c->mtu, c->config.max_frame), (unsigned)fitting);

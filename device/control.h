@@ -51,7 +51,8 @@ void endpoint_load(struct device *d, struct text *t, const char *lines, size_t l
 enum { OWN_COUNTERS = 11, TX_COUNTERS = 4, RX_COUNTERS = 6 };
 /* end */
 
-void sci_text(const uint8_t sci[8], char text[SCI_TEXT]);
+/* Writes an SCI as text, and returns it. */
+const char *sci_text(const uint8_t sci[8], char text[SCI_TEXT]);
 /* The values of a receive channel, or, if `an` is not -1, of an association. Returns the library's status. */
 uint32_t answer_rx_counters(const struct device *d, const uint8_t sci[8], int an, uint64_t values[RX_COUNTERS]);
 void answer_result(struct text *t, struct result r);

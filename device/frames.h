@@ -178,9 +178,9 @@ bool holder_say(const struct tap *t, uid_t user);
 
 /* ---- namespace.c: the host's network namespace, which has TAP, and LINK's own ---- */
 
-/* The path of the namespace of the LINK of NAME, and its most octets. */
+/* The path of the namespace of the LINK of NAME, which is returned too, and its most octets. */
 enum { NAMESPACE_PATH = sizeof "/run/netns/macsec-" + IF_NAMESIZE };
-void namespace_path(char path[NAMESPACE_PATH], const char *name);
+const char *namespace_path(char path[NAMESPACE_PATH], const char *name);
 /* Opens TAP's file in the host's namespace, enters LINK's unless LINK is shared, and gives up CAP_SYS_ADMIN. To be
  * called before the journal is read and a socket of a device is opened. */
 int namespace_enter(struct tap *t, const struct config *c, const char *name);
@@ -250,10 +250,9 @@ struct history {
 void history_sent(struct history *h, const macsec_sent *sent);
 /* The frame is NULL if it is not there any more. */
 void history_received(struct history *h, const macsec_received *got, const struct frame *frame);
-/* Sets how long ago this time was. Returns false if it never was. */
-bool history_age(const struct history *h, uint64_t time, uint64_t *seconds);
-/* Sets how long ago a frame of this channel was delivered. Returns false if none was. */
-bool history_heard(const struct history *h, const uint8_t sci[8], uint64_t *seconds);
+/* How many seconds ago this time was, and a frame of this channel was delivered; -1 for never. */
+int64_t history_age(const struct history *h, uint64_t time);
+int64_t history_heard(const struct history *h, const uint8_t sci[8]);
 
 /* ---- frames.c: the path of frames ---- */
 

@@ -51,14 +51,13 @@ void history_received(struct history *h, const macsec_received *got, const struc
     }
 }
 
-bool history_age(const struct history *h, uint64_t time, uint64_t *seconds) {
-    *seconds = now(h) - time;
-    return time != 0;
+int64_t history_age(const struct history *h, uint64_t time) {
+    return time == 0 ? -1 : (int64_t)(now(h) - time);
 }
 
-bool history_heard(const struct history *h, const uint8_t sci[8], uint64_t *seconds) {
+int64_t history_heard(const struct history *h, const uint8_t sci[8]) {
     for (size_t i = 0; i < MACSEC_RX_CHANNEL_COUNT; i++)
         if (memcmp(h->heard[i].sci, sci, sizeof h->heard[i].sci) == 0)
-            return history_age(h, h->heard[i].time, seconds);
-    return false;
+            return history_age(h, h->heard[i].time);
+    return -1;
 }

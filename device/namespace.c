@@ -9,8 +9,9 @@
 /* The first descriptor that a service manager passes. */
 enum { PASSED = 3 };
 
-void namespace_path(char path[NAMESPACE_PATH], const char *name) {
+const char *namespace_path(char path[NAMESPACE_PATH], const char *name) {
     snprintf(path, NAMESPACE_PATH, "/run/netns/macsec-%s", name);
+    return path;
 }
 
 /* A file of /dev/net/tun belongs to the namespace in which it was opened. A service manager that starts macsecd in
@@ -54,8 +55,7 @@ static int isolate(int tun, const char *name) {
     char path[NAMESPACE_PATH];
     struct stat wanted;
     int file, result;
-    namespace_path(path, name);
-    file = open(path, O_RDONLY | O_CLOEXEC | O_NONBLOCK);
+    file = open(namespace_path(path, name), O_RDONLY | O_CLOEXEC | O_NONBLOCK);
     if (file < 0)
         return message_of_errno("LINK's network namespace %s, which `macsec-link isolate %s` makes", path, name);
     result = enter(file, path, name, &wanted);

@@ -19,8 +19,7 @@ static void answer_one_number(struct device *d, struct text *t, const struct wor
         answer_result(t, result_of(status));
         return;
     }
-    sci_text(c.sci, sci);
-    snprintf(begin, sizeof begin, "%s%s %u ", sends ? "tx" : "rx ", sends ? "" : sci, c.an);
+    snprintf(begin, sizeof begin, "%s%s %u ", sends ? "tx" : "rx ", sends ? "" : sci_text(c.sci, sci), c.an);
     answer_numbers(t, d);
     line = memmem(t->octets, t->length, begin, strlen(begin));
     if (line == NULL)

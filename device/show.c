@@ -5,24 +5,23 @@
 enum { AGE = 40, NUMBER = 24 };
 
 /* "3 s ago", "2 min ago", "never". */
-static void age_text(bool ever, uint64_t seconds, char text[AGE]) {
-    if (!ever)
-        snprintf(text, AGE, "never");
-    else if (seconds < 120)
-        snprintf(text, AGE, "%" PRIu64 " s ago", seconds);
+static const char *age_text(int64_t seconds, char text[AGE]) {
+    if (seconds < 0)
+        return "never";
+    if (seconds < 120)
+        snprintf(text, AGE, "%" PRId64 " s ago", seconds);
     else if (seconds < 7200)
-        snprintf(text, AGE, "%" PRIu64 " min ago", seconds / 60);
+        snprintf(text, AGE, "%" PRId64 " min ago", seconds / 60);
     else if (seconds < 172800)
-        snprintf(text, AGE, "%" PRIu64 " h ago", seconds / 3600);
+        snprintf(text, AGE, "%" PRId64 " h ago", seconds / 3600);
     else
-        snprintf(text, AGE, "%" PRIu64 " days ago", seconds / 86400);
+        snprintf(text, AGE, "%" PRId64 " days ago", seconds / 86400);
+    return text;
 }
 
-static void number_text(uint64_t number, uint64_t high, char text[NUMBER]) {
-    if (high != 0)
-        snprintf(text, NUMBER, "none left");
-    else
-        snprintf(text, NUMBER, "%" PRIu64, number);
+static const char *number_text(uint64_t number, uint64_t high, char text[NUMBER]) {
+    snprintf(text, NUMBER, "%" PRIu64, number);
+    return high != 0 ? "none left" : text;
 }
 
 /* Has this key's suite extended packet numbers? A key that names no suite has the endpoint's. */
@@ -40,21 +39,13 @@ uint64_t show_left(const struct device *d, const macsec_tx_sa *sa) {
     return sa->next_high != 0 || next > last ? 0 : last - next + 1;
 }
 
-static void left_text(uint64_t left, char text[NUMBER]) {
-    if (left > 1000000000000)
-        snprintf(text, NUMBER, "> 10^12");
-    else
-        snprintf(text, NUMBER, "%" PRIu64, left);
-}
-
 static void add_link(struct text *t, const struct device *d) {
     const uint8_t *a = d->link.address;
-    char path[NAMESPACE_PATH] = "";
-    if (!d->config.shared)
-        namespace_path(path, d->name);
+    char path[NAMESPACE_PATH];
     text_add(t, "  link %s: %s, MTU %u, %02x:%02x:%02x:%02x:%02x:%02x, %s%s\n", d->link.name,
              d->link.up ? "up" : "down", (unsigned)d->link.mtu, a[0], a[1], a[2], a[3], a[4], a[5],
-             d->config.shared ? "in the host's network namespace" : "in ", path);
+             d->config.shared ? "in the host's network namespace" : "in ",
+             d->config.shared ? "" : namespace_path(path, d->name));
     text_add(t, "  tap %s: port %s, segments %s\n", d->tap.name, d->port.off ? "off" : "on",
              d->tap.datagrams ? "TCP and UDP"
              : d->tap.joins   ? "TCP"
@@ -67,23 +58,17 @@ static void add_tag(struct text *t, const uint8_t tag[TAG_ROOM]) {
     char sci[SCI_TEXT];
     if ((tag[0] << 8 | tag[1]) != TYPE)
         return;
-    sci_text(tag + SCI_AT, sci);
-    text_add(t, ", SCI %s, AN %d", (tag[TCI_AT] & SC) != 0 ? sci : "none", tag[TCI_AT] & AN);
+    text_add(t, ", SCI %s, AN %d", (tag[TCI_AT] & SC) != 0 ? sci_text(tag + SCI_AT, sci) : "none", tag[TCI_AT] & AN);
 }
 
 static void add_last(struct text *t, const struct history *h) {
     char text[AGE];
-    uint64_t seconds;
-    bool ever = history_age(h, h->sent, &seconds);
-    age_text(ever, seconds, text);
-    text_add(t, "  last frame sent: %s\n", text);
-    ever = history_age(h, h->dropped, &seconds);
-    age_text(ever, seconds, text);
-    text_add(t, "  last drop: %s", text);
-    if (ever)
+    text_add(t, "  last frame sent: %s\n", age_text(history_age(h, h->sent), text));
+    text_add(t, "  last drop: %s", age_text(history_age(h, h->dropped), text));
+    if (h->dropped != 0)
         text_add(t, ", from %s: %s", h->from_link ? "the link" : "the client",
                  h->from_link ? macsec_verdict_name(h->why) : macsec_fate_name(h->why));
-    if (ever && h->from_link)
+    if (h->dropped != 0 && h->from_link)
         add_tag(t, h->tag);
     text_add(t, "\n");
 }
@@ -95,24 +80,25 @@ static void add_endpoint(struct text *t, const struct device *d) {
         text_add(t, "  no endpoint: a client opens one\n");
         return;
     }
-    sci_text(d->end.sci, name);
-    text_add(t, "  suite %s, SCI %s, %u keys left\n", macsec_suite_name(d->end.suite), name, (unsigned)left);
+    text_add(t, "  suite %s, SCI %s, %u keys left\n", macsec_suite_name(d->end.suite), sci_text(d->end.sci, name),
+             (unsigned)left);
 }
 
 static void add_transmit(struct text *t, const struct device *d) {
     bool any = false;
     for (uint8_t an = 0; an < MACSEC_AN_COUNT; an++) {
         macsec_tx_sa sa;
-        char next[NUMBER], left[NUMBER], state[AGE];
+        uint64_t left;
+        char next[NUMBER], rest[NUMBER], state[AGE];
         if (macsec_get_tx_sa(d->endpoint, an, &sa) != MACSEC_OK)
             continue;
         if (!any)
             text_add(t, "\nsends:\n  AN   key  state                        next PN         PNs left\n");
         any = true;
-        number_text(sa.next, sa.next_high, next);
-        left_text(show_left(d, &sa), left);
+        left = show_left(d, &sa);
         snprintf(state, sizeof state, "%s, %s", sa.on ? "on" : "off", sa.conf ? "encrypts" : "integrity only");
-        text_add(t, "  %2u  %4u  %-19s  %15s  %15s\n", an, sa.key, state, next, left);
+        text_add(t, "  %2u  %4u  %-19s  %15s  %15s\n", an, sa.key, state, number_text(sa.next, sa.next_high, next),
+                 left > 1000000000000 ? "> 10^12" : number_text(left, 0, rest));
     }
 }
 
@@ -146,9 +132,8 @@ static void add_associations(struct text *t, const struct device *d, const uint8
                 text_add(t, " %11s%s", columns[i].heading, i + 1 < COLUMNS ? "" : "\n");
         }
         any = true;
-        number_text(sa.next, sa.next_high, next);
-        number_text(sa.lowest, sa.lowest_high, lowest);
-        text_add(t, "  %2u  %4u  %-5s  %15s %15s", an, sa.key, sa.on ? "on" : "off", next, lowest);
+        text_add(t, "  %2u  %4u  %-5s  %15s %15s", an, sa.key, sa.on ? "on" : "off",
+                 number_text(sa.next, sa.next_high, next), number_text(sa.lowest, sa.lowest_high, lowest));
         for (size_t i = 0; i < COLUMNS; i++)
             text_add(t, " %11" PRIu64, values[columns[i].counter]);
         text_add(t, "\n");
@@ -159,11 +144,7 @@ static void add_peers(struct text *t, const struct device *d) {
     uint8_t sci[8];
     for (size_t place = 0; macsec_get_rx_sc(d->endpoint, place, sci) == MACSEC_OK; place++) {
         char name[SCI_TEXT], text[AGE];
-        uint64_t seconds = 0;
-        bool ever = history_heard(&d->history, sci, &seconds);
-        sci_text(sci, name);
-        age_text(ever, seconds, text);
-        text_add(t, "\npeer %s: last frame %s\n", name, text);
+        text_add(t, "\npeer %s: last frame %s\n", sci_text(sci, name), age_text(history_heard(&d->history, sci), text));
         add_associations(t, d, sci);
     }
 }
