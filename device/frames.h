@@ -193,6 +193,8 @@ struct rtnetlink {
     _Alignas(uint64_t) char buffer[32768]; /* as many octets as a message about a device has at most */
 };
 
+/* Asks by a socket for the state of the device of this index, or of all with NLM_F_DUMP. Returns false if it can't. */
+bool rtnetlink_ask(int socket, uint16_t flags, int index);
 int rtnetlink_open(struct device *d);
 /* Gives TAP LINK's carrier. */
 int rtnetlink_begin(struct device *d);

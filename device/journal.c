@@ -36,24 +36,12 @@ static void close_file(int *file) {
 
 /* ---- Reading and writing ---- */
 
-/* Writes all octets. Returns false with errno set if that fails. */
-static bool write_all(int file, const void *octets, size_t length, uint64_t at) {
+/* Reads or writes all octets from this offset of a file on. Returns false with errno set if that fails. */
+static bool pass_all(int file, bool writes, void *octets, size_t length, uint64_t at) {
     for (size_t done = 0; done < length;) {
-        const char *left = (const char *)octets + done;
-        ssize_t count = TEMP_FAILURE_RETRY(pwrite(file, left, length - done, (off_t)(at + done)));
-        if (count == 0)
-            errno = EIO;
-        if (count <= 0)
-            return false;
-        done += (size_t)count;
-    }
-    return true;
-}
-
-/* Reads as many octets from the start of a file. Returns false with errno set if that fails. */
-static bool read_all(int file, uint8_t *octets, size_t length) {
-    for (size_t done = 0; done < length;) {
-        ssize_t count = TEMP_FAILURE_RETRY(pread(file, octets + done, length - done, (off_t)done));
+        char *left = (char *)octets + done;
+        ssize_t count = TEMP_FAILURE_RETRY(writes ? pwrite(file, left, length - done, (off_t)(at + done))
+                                                  : pread(file, left, length - done, (off_t)(at + done)));
         if (count == 0)
             errno = EIO;
         if (count <= 0)
@@ -73,7 +61,7 @@ uint8_t *journal_read(int file, size_t *length) {
         return NULL;
     *length = (size_t)about.st_size;
     octets = malloc(*length + 1);
-    if (octets == NULL || read_all(file, octets, *length))
+    if (octets == NULL || pass_all(file, false, octets, *length, 0))
         return octets;
     free(octets);
     return NULL;
@@ -147,7 +135,7 @@ static bool is_whole(const struct journal *journal) {
 }
 
 static bool append(struct journal *journal) {
-    return is_whole(journal) && write_all(journal->file, journal->records, journal->call.length, journal->call.at);
+    return is_whole(journal) && pass_all(journal->file, true, journal->records, journal->call.length, journal->call.at);
 }
 
 /* Did a call make octets durable? A bad disk can say ENODATA, which means here that the file was cut. */
@@ -197,7 +185,7 @@ static bool lock_new(struct journal *journal) {
 
 static bool fill_new(struct journal *journal) {
     journal->length = (off_t)journal->call.length;
-    return write_all(journal->new_file, journal->records, journal->call.length, journal->call.at);
+    return pass_all(journal->new_file, true, journal->records, journal->call.length, journal->call.at);
 }
 
 static bool sync_new(struct journal *journal) {

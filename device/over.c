@@ -69,10 +69,6 @@ void over_note_address(struct device *d, const struct ifaddrmsg *about) {
 
 /* ---- The host's namespace ---- */
 
-static void ask(struct over *o, const void *request, size_t length) {
-    o->asked = TEMP_FAILURE_RETRY(send(o->socket, request, length, 0)) == (ssize_t)length; /* else in a second again */
-}
-
 /* Which number has LINK's namespace there? */
 static void ask_number(struct over *o) {
     const struct {
@@ -86,18 +82,8 @@ static void ask_number(struct over *o) {
                   { 0 },
                   { .rta_len = RTA_LENGTH(sizeof(int32_t)), .rta_type = NETNSA_PID },
                   o->process };
-    o->due = false;
-    ask(o, &request, sizeof request);
-}
-
-static void ask_devices(struct over *o) {
-    const struct {
-        struct nlmsghdr header;
-        struct ifinfomsg about;
-    } request = { { .nlmsg_len = sizeof request, .nlmsg_type = RTM_GETLINK, .nlmsg_flags = NLM_F_REQUEST | NLM_F_DUMP },
-                  { .ifi_family = AF_UNSPEC } };
-    o->found = 0;
-    ask(o, &request, sizeof request);
+    o->due = false; /* if it is not asked, it is in a second again */
+    o->asked = TEMP_FAILURE_RETRY(send(o->socket, &request, sizeof request, 0)) == (ssize_t)sizeof request;
 }
 
 void over_look(struct device *d) {
@@ -138,10 +124,12 @@ static void take(struct device *d, const struct nlmsghdr *header) {
         take_device(d, header);
     } else if (header->nlmsg_type == RTM_NEWNSID && header->nlmsg_len >= NLMSG_LENGTH(sizeof(struct rtgenmsg))) {
         o->number = number_of(a, (int)NLMSG_PAYLOAD(header, NLMSG_ALIGN(sizeof(struct rtgenmsg))), NETNSA_NSID);
-        if (o->number >= 0)
-            ask_devices(o);
-        else
+        if (o->number < 0) {
             finish(o); /* no device refers to it */
+        } else {
+            o->found = 0;
+            o->asked = rtnetlink_ask(o->socket, NLM_F_DUMP, 0);
+        }
     } else if (header->nlmsg_type == NLMSG_DONE || header->nlmsg_type == NLMSG_ERROR) {
         finish(o);
     }

@@ -13,20 +13,24 @@ enum { MESSAGES = 256 };
 /* The number by which an answer is known. A report has 0. */
 enum { ANSWER = 1 };
 
-/* Asks for the state of the device of this index. The answer is read as a report is. */
-static int ask(const struct rtnetlink *f, int index) {
+bool rtnetlink_ask(int socket, uint16_t flags, int index) {
     const struct {
         struct nlmsghdr header;
         struct ifinfomsg about;
-    } request = {
-        { .nlmsg_len = sizeof request, .nlmsg_type = RTM_GETLINK, .nlmsg_flags = NLM_F_REQUEST, .nlmsg_seq = ANSWER },
-        { .ifi_family = AF_UNSPEC, .ifi_index = index }
-    };
-    ssize_t sent = TEMP_FAILURE_RETRY(send(f->socket, &request, sizeof request, 0));
-    /* Without memory for it, the question is asked again in a second. */
-    if (sent == (ssize_t)sizeof request || errno == ENOBUFS || errno == ENOMEM || errno == EAGAIN)
-        return 0;
-    return message_of_errno("rtnetlink");
+    } request = { { .nlmsg_len = sizeof request,
+                    .nlmsg_type = RTM_GETLINK,
+                    .nlmsg_flags = NLM_F_REQUEST | flags,
+                    .nlmsg_seq = ANSWER },
+                  { .ifi_family = AF_UNSPEC, .ifi_index = index } };
+    return TEMP_FAILURE_RETRY(send(socket, &request, sizeof request, 0)) == (ssize_t)sizeof request;
+}
+
+/* Asks for LINK's state. The answer is read as a report is. Without memory the question is asked again in a second. */
+static bool ask(const struct device *d) {
+    if (rtnetlink_ask(d->rtnetlink.socket, 0, d->link.index) || errno == ENOBUFS || errno == ENOMEM || errno == EAGAIN)
+        return true;
+    message_of_errno("rtnetlink");
+    return false;
 }
 
 static void note_link_up(struct device *d, unsigned flags) {
@@ -63,7 +67,7 @@ bool rtnetlink_tick(struct device *d) {
     if (tap_address(&d->tap, address) && memcmp(address, d->link.address, sizeof address) != 0)
         link_make_promiscuous(&d->link);
     port_set_carrier(d);
-    return ask(&d->rtnetlink, d->link.index) == 0;
+    return ask(d);
 }
 
 static void note_attributes(struct device *d, const struct ifinfomsg *about, int left) {
@@ -145,7 +149,7 @@ bool rtnetlink_read(struct device *d) {
         } else { /* the queue is empty now */
             d->rtnetlink.lost = false;
             over_look(d);
-            if (ask(&d->rtnetlink, d->link.index) != 0)
+            if (!ask(d))
                 return false;
         }
     }
@@ -163,5 +167,5 @@ int rtnetlink_open(struct device *d) {
 
 int rtnetlink_begin(struct device *d) {
     over_look(d);
-    return ask(&d->rtnetlink, d->link.index) == 0 && rtnetlink_read(d) ? 0 : ENDS_FAILED;
+    return ask(d) && rtnetlink_read(d) ? 0 : ENDS_FAILED;
 }

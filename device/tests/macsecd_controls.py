@@ -195,7 +195,7 @@ CONTROLS: dict[str, list[tuple[str, str, str]]] = {
     "life": [("loop.c", ", SIGXFSZ };", " };"),
              ("rtnetlink.c", "header->nlmsg_type == RTM_DELLINK) {", "header->nlmsg_type == RTM_DELLINK && false) {"),
              ("rtnetlink.c", "    d->link.up = up;\n", "")],
-    "overflow": [("rtnetlink.c", "    port_set_carrier(d);\n    return ask(&d->rtnetlink, d->link.index) == 0;\n",
+    "overflow": [("rtnetlink.c", "    port_set_carrier(d);\n    return ask(d);\n",
                   "    return true;\n")],
     "signals": [("loop.c", "got.ssi_signo == SIGTERM || got.ssi_signo == SIGINT)", "got.ssi_signo == SIGINT)"),
                 ("loop.c", "SIGUSR2, ", ""),
