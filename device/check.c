@@ -3,11 +3,7 @@
  * read. No message repeats a word of the file other than a number, an SCI or a name, so none shows a key.
  *
  * `macsec-config --lint` says the same of the lines for the endpoint, in the same words. */
-#include "control.h"
-#include "frames.h"
-#include "numbers.h"
-#include "text.h"
-#include "workers.h"
+#include "device.h"
 #include <limits.h>
 #include <linux/if_arp.h>
 #include <stdarg.h>

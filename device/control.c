@@ -42,7 +42,7 @@ static uid_t user_of(int client) {
 
 /* Connections end in the order of this number: others' before root's, and then the one that is idle longest. */
 static uint64_t rank(const struct control *k, int i) {
-    return k->used[i] | (uint64_t)k->is_root[i] << 63;
+    return k->used[i] | (uint64_t)(k->user[i] == 0) << 63;
 }
 
 /* Finds a free place for a client. If there is none, an idle connection ends: never the owner's, and root's only for
@@ -53,7 +53,7 @@ static int make_place(struct device *d, bool for_root) {
     for (int i = 0; i < CLIENTS; i++) {
         if (k->clients[i] < 0)
             return i;
-        if (i != d->port.owner && (!k->is_root[i] || for_root) && (idle < 0 || rank(k, i) < rank(k, idle)))
+        if (i != d->port.owner && (k->user[i] != 0 || for_root) && (idle < 0 || rank(k, i) < rank(k, idle)))
             idle = i;
     }
     if (idle >= 0)
@@ -79,7 +79,6 @@ int control_accept(struct device *d) {
     (void)setsockopt(client, SOL_SOCKET, SO_SNDBUF, &octets, sizeof octets); /* else a long answer closes it */
     k->clients[at] = client;
     k->user[at] = user;
-    k->is_root[at] = user == 0;
     k->used[at] = ++k->uses;
     return at;
 }

@@ -86,11 +86,10 @@ bool requests_answer(struct device *d, struct text *t, int client, char *request
 enum { CLIENTS = 16, KEPT_ANSWER = 64 };
 
 struct waiting {
-    bool rests;    /* does it wait for nothing but the time? */
-    size_t length; /* of the answer; 0: there is none */
+    int64_t until; /* in milliseconds; 0: it does not wait */
+    size_t length; /* of the answer; 0: there is none, so it waits for nothing but the time */
     char answer[KEPT_ANSWER];
     uint64_t ticket;
-    int64_t until; /* in milliseconds */
 };
 
 struct waits {
@@ -136,7 +135,6 @@ bool budget_lets(struct device *d, int client, int64_t *milliseconds);
 struct control {
     int listener, clients[CLIENTS]; /* -1: there is none */
     uid_t user[CLIENTS];
-    bool is_root[CLIENTS];
     uint64_t used[CLIENTS]; /* which use of the socket was a client's last one */
     uint64_t uses;
     bool held_up; /* could the system not give a descriptor for a connection? Then it is tried again each second. */

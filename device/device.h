@@ -6,6 +6,7 @@
 #include "frames.h"
 #include "numbers.h"
 #include "text.h"
+#include "workers.h"
 
 struct device {
     const char *name;

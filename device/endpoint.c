@@ -1,6 +1,5 @@
 /* The endpoint, by the lines of requests and of the configuration. The library judges each line. */
 #include "device.h"
-#include "workers.h"
 
 /* What a command that was carried out means for the device. `passes`: a key agreement owns the device, so the key of
  * the command does not come again once it is retired. */
@@ -123,8 +122,15 @@ static struct result judge(const struct device *d, uint32_t status, const macsec
     return r;
 }
 
+/* Does the command begin an association that may need a name? It may if the association has none yet, or if `installs`
+ * says that an earlier line of `load` installs its key: the endpoint knows no name of such a key, be it in the journal
+ * or not. */
+static bool needs_name(const struct device *d, const macsec_command *c, bool installs) {
+    return lines_effect(c->kind) == BEGINS_SA && (installs || !numbers_has_name(&d->numbers, d->endpoint, c));
+}
+
 static struct result carry_out(struct device *d, uint32_t status, const macsec_command *c) {
-    struct result r = judge(d, status, c, lines_lack_name(&d->numbers, d->endpoint, c));
+    struct result r = judge(d, status, c, d->numbers.names.count >= NUMBERS_NAMES_MAX && needs_name(d, c, false));
     if (!is_refused(&r) && (r.status = lines_carry_out(&d->numbers, d->endpoint, c, &r.raised)) == MACSEC_OK)
         note(d, c, d->port.owner >= 0);
     return r;
@@ -140,15 +146,11 @@ struct result endpoint_command(struct device *d, const char *line, size_t length
 
 /* ---- All lines or none ---- */
 
-/* Does a line of `load` begin an association for which no name is left? Each line that may need one counts. It may if
- * the association has no name yet, or if an earlier line installs its key: the endpoint knows no name of such a key, be
- * it in the journal or not. */
+/* Is no name left for a line of `load`? Each line that may need one counts. */
 static bool lacks_name(const struct device *d, struct load *l, const macsec_command *c) {
     if (lines_effect(c->kind) == KEEPS_KEY)
         l->installs[c->key] = true;
-    if (lines_effect(c->kind) != BEGINS_SA || (!l->installs[c->key] && numbers_has_name(&d->numbers, d->endpoint, c)))
-        return false;
-    return d->numbers.names.count + l->names++ >= NUMBERS_NAMES_MAX;
+    return needs_name(d, c, l->installs[c->key]) && d->numbers.names.count + l->names++ >= NUMBERS_NAMES_MAX;
 }
 
 /* Takes a line. In place of a command that the endpoint does not get comes one that every endpoint refuses, a channel

@@ -1,6 +1,5 @@
 /* The path of frames. The library says what becomes of each one; this file moves octets and counts. */
 #include "device.h"
-#include "workers.h"
 
 static void count_fault(uint32_t status, uint64_t *too_short, uint64_t *too_long) {
     if (status == MACSEC_E_FRAME_SHORT)

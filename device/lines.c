@@ -32,10 +32,6 @@ enum effect lines_effect(uint32_t kind) {
     return NO_EFFECT;
 }
 
-bool lines_lack_name(const struct numbers *n, const macsec_endpoint *e, const macsec_command *c) {
-    return lines_effect(c->kind) == BEGINS_SA && numbers_is_full(n) && !numbers_has_name(n, e, c);
-}
-
 uint32_t lines_carry_out(struct numbers *n, macsec_endpoint *e, const macsec_command *c, uint64_t *raised) {
     uint32_t status;
     size_t place;

@@ -1,6 +1,5 @@
 /* Waiting: for frames, requests, reports, signals and the clock. */
 #include "device.h"
-#include "workers.h"
 #include <signal.h>
 #include <sys/epoll.h>
 #include <sys/signalfd.h>

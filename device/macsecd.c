@@ -1,7 +1,6 @@
 /* A MACsec device for Linux: a TAP device whose frames are protected on the network device below. man/macsecd.8 has the
  * manual. The library of macsec.h judges every frame; this program moves octets. */
 #include "device.h"
-#include "workers.h"
 #include <limits.h>
 
 static struct device device = { .handles = { MACSEC_ENDPOINT_INIT, MACSEC_ENDPOINT_INIT } };
@@ -42,7 +41,8 @@ static int start(struct device *d) {
     RETURN_IF_FAILED(loop_open(d));
     RETURN_IF_FAILED(confine_rights(d->numbers.journal.folder, c->unconfined));
     RETURN_IF_FAILED(configure(d));
-    RETURN_IF_FAILED(numbers_start(&d->numbers, d->endpoint)); /* the threads have no other rights either */
+    numbers_begin(&d->numbers, d->endpoint);
+    RETURN_IF_FAILED(journal_writer_start(&d->numbers.writer)); /* the threads have no other rights either */
     RETURN_IF_FAILED(service_start(&d->service));
     RETURN_IF_FAILED(workers_start(d->workers));
     RETURN_IF_FAILED(rtnetlink_begin(d));

@@ -87,10 +87,6 @@ int numbers_open(struct numbers *n, const char *name, const char *named, struct 
     return journal_writer_open(&n->writer, &n->journal);
 }
 
-bool numbers_is_full(const struct numbers *n) {
-    return n->names.count >= NUMBERS_NAMES_MAX;
-}
-
 bool numbers_has_name(const struct numbers *n, const macsec_endpoint *e, const macsec_command *c) {
     const uint8_t *sci = c->kind == MACSEC_COMMAND_RX_SA ? c->sci : NULL;
     uint64_t floor = 0;
@@ -365,11 +361,6 @@ void numbers_begin(struct numbers *n, macsec_endpoint *e) {
     numbers_reserve(n, e); /* the first reservation has shown how long the disk takes */
 }
 
-int numbers_start(struct numbers *n, macsec_endpoint *e) {
-    numbers_begin(n, e);
-    return journal_writer_start(&n->writer);
-}
-
 /* Has each enabled association a packet number reserved, if it has them before a frame lacks one? */
 static bool has_reserved(struct numbers *n, const macsec_endpoint *e) {
     macsec_tx_sa tx;
@@ -468,7 +459,7 @@ static void look_at_fill(struct numbers *n) {
         message("the journal is full to %d percent: it has %zu of at most %zu names. macsecd(8) says what to do",
                 FILLED, count, NUMBERS_NAMES_MAX);
     n->filled = filled;
-    n->lacks = n->lacks && numbers_is_full(n);
+    n->lacks = n->lacks && count >= NUMBERS_NAMES_MAX;
 }
 
 void numbers_tick(struct numbers *n, macsec_endpoint *e) {

@@ -203,8 +203,6 @@ int numbers_open(struct numbers *n, const char *name, const char *named, struct 
 /* Frames may come from now on: makes all reservations for sending. This waits for the disk, and so do calls before
  * it. */
 void numbers_begin(struct numbers *n, macsec_endpoint *e);
-/* Does what numbers_begin does, and starts the thread that writes the journal. */
-int numbers_start(struct numbers *n, macsec_endpoint *e);
 /* To be called when the writer's eventfd can be read: reports the records, and has the next ones written. */
 void numbers_go_on(struct numbers *n, macsec_endpoint *e);
 /* Creates an endpoint with a copy of the journal, in which what numbers_note_accepted has noted replaces what is
@@ -242,8 +240,7 @@ void numbers_forget(struct numbers *n);
 uint64_t numbers_ticket(const struct numbers *n);
 /* Were the records of a ticket written, or could they not be? */
 bool numbers_is_written(const struct numbers *n, uint64_t ticket);
-/* Are there as many names as there can be? And has the association that this command begins a name, or no key? */
-bool numbers_is_full(const struct numbers *n);
+/* Has the association that this command begins a name, or no key? */
 bool numbers_has_name(const struct numbers *n, const macsec_endpoint *e, const macsec_command *c);
 /* Writes the last records, and closes the journal. */
 void numbers_close(struct numbers *n, macsec_endpoint *e);
@@ -257,8 +254,6 @@ enum effect lines_effect(uint32_t kind);
 /* Carries out a command. If an association begins above the command's packet number, since lower ones may have been
  * used, `raised` is where; else it is 0. */
 uint32_t lines_carry_out(struct numbers *n, macsec_endpoint *e, const macsec_command *c, uint64_t *raised);
-/* Does the command begin an association that would need a name, while the journal has none left? */
-bool lines_lack_name(const struct numbers *n, const macsec_endpoint *e, const macsec_command *c);
 
 /* ---- journals.c: the journals of the host ---- */
 

@@ -5,7 +5,6 @@
  * these find what they would find without workers: a frame that was read before is counted, and was judged by what the
  * endpoint was then. */
 #include "device.h"
-#include "workers.h"
 
 static enum outcome send_finished(struct device *d) {
     struct ring *r = workers_ring(d->workers, SENDING);

@@ -35,7 +35,7 @@ bool port_may_change(const struct device *d, int client) {
 }
 
 bool port_may_own(const struct device *d, int client) {
-    return port_may_change(d, client) || (d->control.is_root[client] && !d->control.is_root[d->port.owner]);
+    return port_may_change(d, client) || (d->control.user[client] == 0 && d->control.user[d->port.owner] != 0);
 }
 
 void port_own(struct device *d, int client) {

@@ -27,24 +27,23 @@ bool waits_keep(struct device *d, int client, const char *answer, size_t length)
 }
 
 void waits_rest(struct device *d, int client, int64_t milliseconds) {
-    d->waits.clients[client] = (struct waiting){ .rests = true, .until = now() + milliseconds };
+    d->waits.clients[client] = (struct waiting){ .until = now() + milliseconds };
     d->waits.answers++;
 }
 
 bool waits_for(const struct device *d, int client) {
-    return d->waits.clients[client].rests || d->waits.clients[client].length > 0;
+    return d->waits.clients[client].until != 0;
 }
 
 void waits_client_gone(struct device *d, int client) {
     d->waits.answers -= waits_for(d, client);
-    d->waits.clients[client].rests = false;
-    d->waits.clients[client].length = 0;
+    d->waits.clients[client].until = 0;
 }
 
 bool waits_send(struct device *d, int client) {
     struct waiting *w = &d->waits.clients[client];
     size_t length = w->length;
-    bool is_done = !w->rests && length > 0 && numbers_is_written(&d->numbers, w->ticket);
+    bool is_done = length > 0 && numbers_is_written(&d->numbers, w->ticket);
     if (!waits_for(d, client) || (!is_done && now() < w->until))
         return false;
     waits_client_gone(d, client);
