@@ -122,8 +122,7 @@ void answer_numbers(struct text *t, const struct device *d) {
 
 /* ---- Counters ---- */
 
-/* The values of the endpoint's counters and of its transmit channel's, in the order of the library's structs; 0 if
- * there is no endpoint. */
+/* The counters of the endpoint and of its transmit channel, in the order of the structs; 0 if there is no endpoint. */
 static void own_counters(const struct device *d, uint64_t own[OWN], uint64_t tx[TX]) {
     macsec_counters all = { 0 };
     macsec_tx_counters sent = { 0 };

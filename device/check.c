@@ -152,8 +152,7 @@ static bool is_good(struct check *c, uint32_t status) {
     return status == MACSEC_OK;
 }
 
-/* Creates the endpoint. If that fails, the other lines are carried out at another endpoint, and only faults of their
- * text are known. */
+/* Creates the endpoint. If that fails, later lines are for another one, and only faults of their text are known. */
 static bool create(struct check *c, const struct commands *it, macsec_config *end) {
     static const macsec_config other = { { 2, 0, 0, 0, 0, 0, 0, 1 }, MACSEC_SUITE_GCM_AES_128, MACSEC_FORM_SCI, 1514 };
     uint32_t status = macsec_parse_end((const uint8_t *)it->line, it->length, end);

@@ -123,8 +123,7 @@ struct budget {
     int64_t began, used; /* when the request did, and the time of a processor until then */
 };
 
-/* To be called before a request of a client is carried out, and after it: `waited` if it may have waited for the
- * journal. */
+/* To be called before a request of a client, and after it. `waited`: it may have waited for the journal. */
 void budget_begin(struct budget *b);
 void budget_end(struct device *d, int client, bool waited);
 /* May the client make a request? If not, it may after so many milliseconds. */

@@ -8,8 +8,8 @@
 /* So many such frames are read in a second. The socket has space for twice as many of them, if they are short. */
 enum { FLOOD = 4096 };
 
-/* Where a frame has its EtherType, the TCI of a SecTAG with SC, which says that there is an SCI, and this SCI. */
-enum { TYPE_AT = 12, TYPE = 0x88e5, TCI_AT = 14, SC = 0x20, SCI_AT = 20, SCI = 8 };
+/* The EtherType of a SecTAG, and where its TCI is, with SC, which says that there is an SCI, and this SCI. */
+enum { TYPE = 0x88e5, TCI_AT = 14, SC = 0x20, SCI_AT = 20, SCI = 8 };
 
 /* Instructions of the program: before the channels, of a channel, and after them. */
 enum { BEFORE = 8, EACH = 5, AFTER = 1, PROGRAM = BEFORE + EACH * MACSEC_RX_CHANNEL_COUNT + AFTER };
@@ -19,8 +19,7 @@ static uint32_t word(const uint8_t *octets) {
 }
 
 /* Makes a program that drops frames without a SecTAG and those with an SCI of no channel. After a VLAN tag, which the
- * system has taken out, the endpoint looks for no SecTAG. A frame that is too short for a value to be loaded is
- * dropped. */
+ * system has taken out, the endpoint looks for no SecTAG. A frame that is too short for a load is dropped. */
 static unsigned short make_program(const struct device *d, struct sock_filter program[PROGRAM]) {
     static const struct sock_filter before[BEFORE] = {
         BPF_STMT(BPF_LD | BPF_B | BPF_ABS, (uint32_t)(SKF_AD_OFF + SKF_AD_VLAN_TAG_PRESENT)),

@@ -13,6 +13,9 @@ struct device;
 /* The most frames that one call takes from a device or gives to it, and that workers can have of a direction. */
 enum { BATCH = 64, RING = 128 };
 
+/* Where a frame has its first EtherType. */
+enum { TYPE_AT = 12 };
+
 /* ---- What the device counts, in addition to the endpoint: macsecctl(8) has a table ---- */
 
 struct counts {
@@ -78,6 +81,11 @@ struct unfinished {
 /* What became of a call to a device: it was done, it can't be done now, or the device is gone. */
 enum outcome { DONE, BUSY, GONE };
 
+/* Is the device gone after this error? One that is down or full has errors that pass. */
+static inline bool is_gone(int error) {
+    return error == EBADFD || error == EBADF || error == ENODEV || error == ENXIO;
+}
+
 /* Reads the address and the MTU of a network device, by any socket of its namespace. Returns its type, ARPHRD_.., or -1
  * after an error. */
 int link_type(int any, const char *name, uint8_t address[6], uint32_t *mtu);
@@ -134,8 +142,7 @@ struct joined {
     struct described whole;
 };
 
-/* Begins with a copy of a frame, while none waits. If `joins`, frames can follow it; datagrams only if the system takes
- * those. */
+/* Begins with a copy of a frame, while none waits. If `joins`, frames can follow, datagrams only if `datagrams` too. */
 void segments_keep(struct joined *j, const uint8_t *octets, size_t length, bool joins, bool datagrams);
 /* Adds a frame, if dividing what waits would give it again. Else it returns false. */
 bool segments_join(struct joined *j, const uint8_t *octets, size_t length);
@@ -158,8 +165,7 @@ uint32_t tap_mtu(uint32_t link_mtu, uint32_t max_frame);
 /* Gives a TAP that is there its owner. Returns 0, or the exit status after a message: ENDS_TAKEN if a process of
  * neither root nor this user, macsecd's, has TAP, or if TAP has another type and is up. */
 int tap_own(const struct config *c, uid_t user);
-/* Attaches the file to TAP, which gets its owner, LINK's address and this MTU. An isolated LINK's TAP has the MTU
- * already. */
+/* Attaches the file to TAP, which gets its owner, LINK's address and this MTU. An isolated LINK's TAP has it. */
 int tap_open(struct tap *t, const struct config *c, const struct link *l);
 /* Reads a frame. It is there until the next call. */
 enum outcome tap_read(struct tap *t, struct frame *frame);
@@ -198,8 +204,7 @@ bool rtnetlink_ask(int socket, uint16_t flags, int index);
 int rtnetlink_open(struct device *d);
 /* Gives TAP LINK's carrier. */
 int rtnetlink_begin(struct device *d);
-/* Reads a message of this socket into the buffer. Returns its length; 0 if none was there, or if it is not the
- * system's; or -1. */
+/* Reads a message of this socket into the buffer. Returns its length; 0 if it is empty, or not the system's; or -1. */
 ssize_t rtnetlink_message(struct rtnetlink *f, int socket);
 /* Reads what the system reports. Returns false, after a message, if LINK is gone. */
 bool rtnetlink_read(struct device *d);
@@ -311,8 +316,7 @@ enum outcome held_frames_tick(struct device *d);
 struct floods {
     unsigned frames; /* that had no SecTAG or no association, in this second */
     bool filtered;   /* does the system drop such frames? */
-    /* Frames dropped for their numbers alone, unreserved or of an earlier run; and for how many seconds to be silent.
-     */
+    /* Frames dropped for their numbers alone, unreserved or of an earlier run; how many seconds to be silent. */
     uint64_t drops[2];
     unsigned silence[2];
 };

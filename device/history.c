@@ -1,9 +1,6 @@
 /* When frames last went each way, and why the last one was dropped: for people who look at a running device. */
 #include "frames.h"
 
-/* Where a frame has its EtherType. */
-enum { TYPE_AT = 12 };
-
 /* The time by which a frame is noted. */
 static uint64_t now(const struct history *h) {
     return h->seconds + 1;

@@ -116,11 +116,6 @@ static struct unfinished frame_of(struct received *r, size_t length, struct msgh
     return frame;
 }
 
-/* Is the device gone after this error? A device that is down has errors that pass. */
-static bool is_gone(int error) {
-    return error == ENODEV || error == ENXIO || error == EBADF;
-}
-
 /* Prepares the headers that the last call may have changed. */
 static void prepare(struct link *l) {
     for (unsigned i = 0; i < BATCH - l->prepared; i++) {

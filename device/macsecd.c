@@ -97,8 +97,8 @@ static int read_device(struct config *c, const char *name) {
     return 0;
 }
 
-/* Prints what macsec-link needs of the configuration: LINK, TAP, the largest frame, whether LINK is isolated, and whose
- * TAP is. */
+/* Prints what macsec-link needs of NAME.conf: LINK, TAP, the largest frame, whether LINK is isolated, and TAP's user.
+ */
 static int print_settings(const char *name) {
     struct config c;
     const char *way;

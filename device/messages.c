@@ -21,8 +21,7 @@ struct said {
 /* Static, here and below: a process has one standard error, which all files use, also before there is a device. */
 static const char *device_name = "";
 
-/* Where lines go, and what keeps a call from waiting: the descriptor itself, a flag of the call, or a call before it.
- */
+/* Where lines go, and what keeps a call from waiting: the descriptor, a flag of the call, or a call before it. */
 static int lines = STDERR_FILENO;
 static enum { BY_DESCRIPTOR, BY_FLAG, BY_POLL } way;
 

@@ -149,8 +149,7 @@ static void fill_up(struct numbers *n, const macsec_endpoint *e, const uint8_t s
         (void)note_accepting(n, &record, sci, an, sa.key);
 }
 
-/* Each order also fills up what fast channels have used: a disk that becomes slow with this order can take long to come
- * to the next one. */
+/* Each order also fills up what fast channels have used: a disk that becomes slow now can take long until the next. */
 static void accept_more(struct numbers *n, const macsec_endpoint *e) {
     uint8_t sci[8];
     for (size_t place = 0; n->begun && macsec_get_rx_sc(e, place, sci) == MACSEC_OK; place++)

@@ -19,8 +19,7 @@ struct counts;
 /* ---- names.c: the names in the journal, and their records ---- */
 
 /* The octets of a name; the number of no key; how many names of keys that were given up stay in the journal; and how
- * many that have left can still be in the file before it is written anew: the next run has them if this one is killed.
- */
+ * many that have left can still be in the file before it is written anew: a run after a kill has them. */
 enum { NAME = 32, NO_KEY = MACSEC_KEY_COUNT, KEPT_NAMES = 256, LEFT_NAMES = 16 };
 
 struct name {
@@ -56,8 +55,7 @@ struct names {
     bool passes[MACSEC_KEY_COUNT]; /* has a key agreement brought the key of this number? */
 };
 
-/* Takes the names of a journal that has room for so many, to which names are added up to `most`. Returns false if
- * memory runs out. */
+/* Takes the names of a journal with this room. Others are added up to `most`. Returns false if memory runs out. */
 bool names_read(struct names *n, macsec_journal *journal, size_t room, size_t most);
 /* The name in a record, or NULL if it is new. It is valid until the next call that adds or removes names. */
 struct name *names_find(const struct names *n, const uint8_t *record);
@@ -80,8 +78,7 @@ bool names_has(const struct names *n, uint32_t key, const uint8_t *sci, uint8_t 
 void names_give_up(struct names *n, uint32_t key);
 /* The number of this key, or of all keys if it is NO_KEY, will be given to another key: names forget it. */
 void names_detach(struct names *n, uint32_t key);
-/* Lets the unused names of receive associations go that are not in the endpoint any more. Returns whether there are
- * any. */
+/* Lets go the unused names of receive associations that the endpoint has no more. Returns whether there are any. */
 bool names_end(struct names *n, const macsec_endpoint *e);
 /* Takes the records that have changed, as many as there is room for, and lets names go. Returns how many. No order may
  * be under way. */
@@ -200,8 +197,7 @@ struct numbers {
 /* Makes, and opens, the journal of this name. `named` is as for journals_misnamed. */
 int numbers_create(const char *name);
 int numbers_open(struct numbers *n, const char *name, const char *named, struct counts *counts);
-/* Frames may come from now on: makes all reservations for sending. This waits for the disk, and so do calls before
- * it. */
+/* Frames may come from now on: makes all reservations for sending. It waits for the disk, as calls before it do. */
 void numbers_begin(struct numbers *n, macsec_endpoint *e);
 /* To be called when the writer's eventfd can be read: reports the records, and has the next ones written. */
 void numbers_go_on(struct numbers *n, macsec_endpoint *e);

@@ -7,8 +7,8 @@
 #include "frames.h"
 #include <arpa/inet.h>
 
-/* EtherTypes, and where a frame's first one is. */
-enum { TYPE_AT = 12, VLAN = 0x8100, PROVIDER_VLAN = 0x88a8, IPV4 = 0x0800, IPV6 = 0x86dd };
+/* EtherTypes. */
+enum { VLAN = 0x8100, PROVIDER_VLAN = 0x88a8, IPV4 = 0x0800, IPV6 = 0x86dd };
 /* Octets of the header of IPv6, and the least ones of the others; protocols. */
 enum { IPV4_MIN = 20, IPV6_HEADER = 40, TCP_MIN = 20, UDP_HEADER = 8, TCP = 6, UDP = 17 };
 /* TCP: where the sequence number, the header's length, the flags and the checksum are; flags. And UDP's checksum. */
@@ -119,8 +119,7 @@ static void fit_ip(const struct segments *s, uint8_t *ip, size_t data) {
     put16(ip + 10, ~add(0, ip, s->transport - s->ip));
 }
 
-/* Writes this segment's headers. Where the checksum is to be, they have the sum of the addresses, the protocol and the
- * length. */
+/* Writes this segment's headers. In the checksum's place is the sum of the addresses, protocol and length. */
 static void fit(const struct segments *s, uint8_t *head, size_t data) {
     uint8_t *it = head + s->transport;
     uint32_t own = (uint32_t)(s->header - s->transport + data), sequence;

@@ -74,8 +74,7 @@ static int undo(const struct tap *t) {
     return ENDS_TAKEN;
 }
 
-/* Without an owner every user can attach to TAP while macsecd does not run, and read and send the client's frames in
- * clear. */
+/* Without an owner every user can attach to TAP while macsecd does not run, and read and send frames in clear. */
 static int set_owner(const struct tap *t, const struct config *c) {
     if (ioctl(t->file, TUNSETOWNER, (unsigned long)c->user) == 0 &&
         (!has_group(t->name) || ioctl(t->file, TUNSETGROUP, (unsigned long)c->user_group) == 0))
@@ -139,11 +138,6 @@ int tap_open(struct tap *t, const struct config *c, const struct link *l) {
     if ((request.ifr_flags & IFF_PERSIST) == 0 && persist(t, c) != 0)
         return ENDS_FAILED;
     return set_properties(t, c, l);
-}
-
-/* A TAP that is down, or full, has errors that pass. */
-static bool is_gone(int error) {
-    return error == EBADFD || error == EBADF || error == ENODEV || error == ENXIO;
 }
 
 enum outcome tap_read(struct tap *t, struct frame *frame) {

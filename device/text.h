@@ -120,8 +120,7 @@ void config_take_end(struct config *c, const macsec_config *end);
 
 /* ---- check.c: `macsecd --check` ---- */
 
-/* Prints every fault of the configuration of this name or path, and what is likely to be a slip. Returns the exit
- * status. */
+/* Prints every fault of the configuration of this name or path, and likely slips. Returns the exit status. */
 int check_configuration(const char *name);
 
 #endif

@@ -81,8 +81,7 @@ struct ring *workers_ring(struct workers *w, enum direction direction);
 unsigned workers_under_way(const struct workers *w, enum direction direction);
 /* Copies of the endpoint's key of this number, which the jobs of this key need. NULL: it can't be taken. */
 struct copies *workers_copies(struct workers *w, const macsec_endpoint *e, uint16_t number);
-/* Waits for the jobs that are under way and frees all copies: to be called when a line was carried out, or the endpoint
- * is another one. */
+/* Waits for the jobs that are under way and frees all copies: to be called after a line, and with another endpoint. */
 void workers_forget(struct workers *w);
 /* Puts the frame of the free place into the ring, with a job for a key, or without one if that is NULL. */
 void workers_put(struct workers *w, enum direction direction, struct copies *copies);
