@@ -24,15 +24,11 @@ static enum outcome send_finished(struct device *d) {
     return outcome;
 }
 
-/* Plans a client frame into the ring, which has a free place. Returns its fate. */
+/* Plans a client frame into the ring, which has a free place, while the port is on. Returns its fate. */
 static uint32_t plan_client_frame(struct device *d, const struct frame *frame) {
     struct ring_place *p = ring_free(workers_ring(d->workers, SENDING));
     struct copies *copies = NULL;
     macsec_planned planned;
-    if (d->port.off) {
-        d->counts.port_out++;
-        return MACSEC_FATE_NONE;
-    }
     (void)macsec_plan_send(d->endpoint, &p->slot, frame->octets, frame->length, &planned); /* as in macsec_send */
     p->length = 0;
     p->fate = planned.fate;
@@ -84,7 +80,7 @@ static enum outcome read_client_frames(struct device *d, struct client_batch *b)
             return outcome;
         if (alone && i == 1)
             plans = can_plan(d);
-        frames_note_fate(d, b, plans ? plan_client_frame(d, &frame) : frames_send(d, &frame));
+        frames_note_fate(d, b, plans && !d->port.off ? plan_client_frame(d, &frame) : frames_send(d, &frame));
     }
     return outcome;
 }

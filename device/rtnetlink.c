@@ -86,10 +86,8 @@ static bool read_report(struct device *d, const struct nlmsghdr *header) {
     if (header->nlmsg_type == RTM_NEWADDR && header->nlmsg_len >= NLMSG_LENGTH(sizeof(struct ifaddrmsg)))
         over_note_address(d, NLMSG_DATA(header));
     if (header->nlmsg_len < NLMSG_LENGTH(sizeof *about) ||
-        (header->nlmsg_type != RTM_NEWLINK && header->nlmsg_type != RTM_DELLINK))
-        return true;
-    /* Reports of a bridge, about a device that leaves it, have another family. */
-    if (about->ifi_family != AF_UNSPEC)
+        (header->nlmsg_type != RTM_NEWLINK && header->nlmsg_type != RTM_DELLINK) ||
+        about->ifi_family != AF_UNSPEC) /* that of a bridge, which reports a device that leaves it, is another one */
         return true;
     if (header->nlmsg_type == RTM_NEWLINK)
         over_note(d, about, (int)IFLA_PAYLOAD(header));
