@@ -33,8 +33,8 @@ pub fn parsed_lines_are_commanded()
     ensures { (e : Ahead) (text : List ℕ) (status : ℕ) (row : CommandRow) → CommandsParsed e text status row }
 {}
 
-/// All commands of a load leave what a list of calls leaves, each of which carries out a command or installs a key. A
-/// load that is refused changes nothing. So each law about lists of calls is about loads, too.
+/// All commands of a load leave what a list of calls leaves, each of which carries out a command or installs a key as a
+/// renewal. So each law about lists of calls is about loads, too. That a refused load changes nothing is in `Loads`.
 pub fn loads_are_calls()
     ensures { (e : Ahead) (commands : List (Option Command)) → LoadIsCalls e commands }
 {}
