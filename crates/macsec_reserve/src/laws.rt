@@ -12,12 +12,15 @@ ghost use Rattle.macsec_secy.specs.State.{State};
 ghost use Rattle.macsec_secy.specs.Step.{Input};
 ghost use Rattle.macsec_suite.specs.KeyRows.{InstalledKey};
 ghost use Rattle.macsec_suite.specs.declared.key_row.NewKey.{NewKey};
-ghost use Rattle.macsec_reserve.specs.Forgotten.{BecomesKnown, ForgetsAlike, IsAsBefore, RefusesKnown, RepeatsNoIvForgetting, StaysKnown};
+ghost use Rattle.macsec_reserve.specs.Forgotten.{BecomesKnown, ForgetsAlike, IsAsBefore, RefusesKnown};
+ghost use Rattle.macsec_reserve.specs.Forgotten.{RepeatsNoIvForgetting, StaysKnown};
 ghost use Rattle.macsec_reserve.specs.OfKeys.{RepeatsNoIvOfKeys, RepeatsNoIvOfKeysForgetting};
 ghost use Rattle.macsec_reserve.specs.Keeping.{Keeping, KeepingInput, alone};
-ghost use Rattle.macsec_reserve.specs.Renewing.{GivesUpOctets, KeepsFloors, RefusesGivenUp, StaysGivenUp, StaysGivenUpBy};
+ghost use Rattle.macsec_reserve.specs.Renewing.{GivesUpOctets, KeepsFloors, RefusesGivenUp, StaysGivenUp};
+ghost use Rattle.macsec_reserve.specs.Renewing.{StaysGivenUpBy};
 ghost use Rattle.macsec_reserve.specs.RenewingRuns.{OctetsHaveOneKey, RepeatsNoIvRenewing};
-ghost use Rattle.macsec_reserve.specs.Replay.{DeliversAbove, NeverDeliversAgain, NeverDeliversAgainUnder, SavesAccepted};
+ghost use Rattle.macsec_reserve.specs.Replay.{DeliversAbove, NeverDeliversAgain, NeverDeliversAgainUnder};
+ghost use Rattle.macsec_reserve.specs.Replay.{SavesAccepted};
 ghost use Rattle.macsec_reserve.specs.Transparent.{IsTheMachine, IsTheMachineAlone};
 ghost use Rattle.macsec_reserve.specs.TwoEnds.{RepeatsNoIvAtBoth, RepeatsNoIvAtBothAfterCrashes};
 ghost use Rattle.macsec_reserve.specs.Unique.{RepeatsNoIv, RepeatsNoIvAfterCrashes};
@@ -29,7 +32,8 @@ use macsec_suite::laws::equal_ivs;
 
 /// Over all runs of a history, whatever the moment at which each ended, no two frames are sealed with the same key
 /// octets and the same IV. Premises: every later run reads the same salt of the journal, and what was reported durable
-/// to a run (`durable`), or its records, with any octets around them (`crashes`).
+/// to a run (`durable`), or its records, with any octets around them (`crashes`); and keys with the same octets have
+/// the same suite and, with extended packet numbers, the same salt.
 pub fn repeats_no_iv()
     ensures durable { (runs : List Run) → RepeatsNoIv runs }
     ensures crashes { (runs : List Run) → RepeatsNoIvAfterCrashes runs }
@@ -40,9 +44,9 @@ pub fn repeats_no_iv()
     protects_frames();
 }
 
-/// The same over all runs of two ends, each with its own journal. Premises, in addition to the premises of `repeats_no_iv`
-/// for each end: the ends' SCIs differ, keys with the same octets at both agree as above, and with extended packet
-/// numbers their own SSCIs differ.
+/// The same over all runs of two ends, each with its own journal. Premises, in addition to the premises of
+/// `repeats_no_iv` for each end: the ends' SCIs differ, keys with the same octets at both agree as above, and with
+/// extended packet numbers their own SSCIs differ.
 pub fn repeats_no_iv_at_both()
     ensures durable { (runs others : List Run) → RepeatsNoIvAtBoth runs others }
     ensures crashes { (runs others : List Run) → RepeatsNoIvAtBothAfterCrashes runs others }
@@ -67,7 +71,8 @@ pub fn reduces()
 /// At each moment of a run a frame that is delivered while late frames are dropped has a packet number above all that
 /// the journal had saved for its association when the run began.
 pub fn delivers_above()
-    ensures { (run : Run) (inputs : List KeepingInput) (frame : List ℕ) (row : RxRow) (delivered : List ℕ) → DeliversAbove run inputs frame row delivered }
+    ensures { (run : Run) (inputs : List KeepingInput) (frame : List ℕ) (row : RxRow) (delivered : List ℕ)
+        → DeliversAbove run inputs frame row delivered }
 {
     // A law that the proof cites; the call does nothing.
     rows_agree();
@@ -76,7 +81,8 @@ pub fn delivers_above()
 /// While the replay window is 0, what is to be saved of a receive association covers each packet number that it has
 /// accepted.
 pub fn saves_accepted()
-    ensures { (salt : List ℕ) (s : State) (sci : Sci) (an : ℕ) (row : RxRow) (n : ℕ) → SavesAccepted salt s sci an row n }
+    ensures { (salt : List ℕ) (s : State) (sci : Sci) (an : ℕ) (row : RxRow) (n : ℕ)
+        → SavesAccepted salt s sci an row n }
 {}
 
 /// What a run accepted before it saved the association's number, at replay window 0, is not delivered again by a later
@@ -84,7 +90,8 @@ pub fn saves_accepted()
 /// key octets.
 pub fn never_delivers_again()
     ensures named { (run later : Run) (name : List ℕ) (n : ℕ) → NeverDeliversAgain run later name n }
-    ensures keyed { (run later : Run) (bytes : List ℕ) (sci : Sci) (an n : ℕ) → NeverDeliversAgainUnder run later bytes sci an n }
+    ensures keyed { (run later : Run) (bytes : List ℕ) (sci : Sci) (an n : ℕ)
+        → NeverDeliversAgainUnder run later bytes sci an n }
 {
     // Laws that the proof cites; the calls do nothing.
     rows_agree();
@@ -132,9 +139,9 @@ pub fn refuses_forgotten_keys()
     rows_agree();
 }
 
-/// When a new key takes the row of a retired one, the retired key's octets are given up: `Keeper::renew_forgetting` refuses
-/// them from then on, also if only their fingerprint was left, whatever the inputs and the renewals are. No floor falls:
-/// what an earlier run may have used stays refused.
+/// When a new key takes the row of a retired one, the retired key's octets are given up: `Keeper::renew_forgetting`
+/// refuses them from then on, also if only their fingerprint was left, whatever the inputs and the renewals are. No
+/// floor falls: what an earlier run may have used stays refused.
 pub fn renewing_gives_up_octets()
     ensures gives_up { (k : Keeping) (key : NewKey) (bytes : List ℕ) → GivesUpOctets k key bytes }
     ensures stays { (k : Keeping) (key : NewKey) (bytes : List ℕ) → StaysGivenUp k key bytes }
@@ -144,13 +151,14 @@ pub fn renewing_gives_up_octets()
 {}
 
 /// One run of an endpoint that renews keys, with a journal or without one: each key is installed by
-/// `Keeper::renew_forgetting`, and each other command is carried out by `Keeper::command_forgetting`. The first promise: no
-/// two frames are sealed with the same key octets and the same IV, however many keys took the row of another one
-/// (`ivs`). Octets of a key that was installed do not return: if an SA uses a key with these octets later, it is that
-/// key, and the key's first unused packet number has not fallen (`octets`).
+/// `Keeper::renew_forgetting`, and each other command is carried out by `Keeper::command_forgetting`. The first
+/// promise: no two frames are sealed with the same key octets and the same IV, however many keys took the row of
+/// another one (`ivs`). Octets of a key that was installed do not return: if an SA uses a key with these octets later,
+/// it is that key, and the key's first unused packet number has not fallen (`octets`).
 pub fn renews_keys_safely()
     ensures ivs { (k : Keeping) (inputs : List KeepingInput) → RepeatsNoIvRenewing k inputs }
-    ensures octets { (k : Keeping) (inputs : List KeepingInput) (n : ℕ) (key : InstalledKey) (m : ℕ) (later : InstalledKey) → OctetsHaveOneKey k inputs n key m later }
+    ensures octets { (k : Keeping) (inputs : List KeepingInput) (n : ℕ) (key : InstalledKey) (m : ℕ)
+        (later : InstalledKey) → OctetsHaveOneKey k inputs n key m later }
 {
     // Laws that the proof cites; the calls do nothing.
     equal_ivs();
@@ -173,9 +181,9 @@ pub fn repeats_no_iv_forgetting()
     rows_agree();
 }
 
-/// The first promise with a weaker premise: a later run reads what was reported durable under the names of its own keys. So
-/// names of keys that no later run has may leave the journal. It is of endpoints that forget no key (`kept`), and of those that
-/// forget the keys that they retire (`forgetting`).
+/// The first promise with a weaker premise: a later run reads what was reported durable under the names of its own
+/// keys. So names of keys that no later run has may leave the journal. It is of endpoints that forget no key (`kept`),
+/// and of those that forget the keys that they retire (`forgetting`).
 pub fn repeats_no_iv_of_keys()
     ensures kept { (runs : List Run) → RepeatsNoIvOfKeys runs }
     ensures forgetting { (runs : List Run) → RepeatsNoIvOfKeysForgetting runs }
