@@ -89,11 +89,11 @@ delivers_each_listed_forgetting a input = delivers_each_listed_with a input
 -- With the option, an endpoint that forgets keys also accepts only what is reserved. No premise is about soundness: no
 -- command changes what is reserved, nor the journal's salt and records.
 
-option_kept : (l : Ahead) (input : KeepingInput) → (ahead_forgetting_step l input).1.ahead ≡ l.ahead
+pub option_kept : (l : Ahead) (input : KeepingInput) → (ahead_forgetting_step l input).1.ahead ≡ l.ahead
 option_kept l (now_durable r) = refl
 option_kept l (endpoint_input input) = ap (λ x. x.1.ahead) (forgetting_is l input) ∙ (option_by _ _ l input _).0
 
-taken_kept : (l : Ahead) (input : KeepingInput) (inputs : Inputs) (name : List ℕ) →
+pub taken_kept : (l : Ahead) (input : KeepingInput) (inputs : Inputs) (name : List ℕ) →
     max (highest (ahead_forgetting_step l input).1.taken name) (highest (reported_in inputs) name) ≤ max
     (highest l.taken name) (highest (reported_in (input ∷ inputs)) name)
 taken_kept l (now_durable r) inputs name = taken_step l (now_durable r) inputs name
@@ -246,10 +246,10 @@ no_iv_at_both_forgetting alike law ahead other runs others sounds sounds' histor
 -- key
 -- octets.
 
-abbrev OtherSeal : SentIn → SentIn → Type 0
+abbrev pub OtherSeal : SentIn → SentIn → Type 0
 OtherSeal x y = HasOtherIv x.seal y.seal
 
-numbers_tell : EndpointLaws → (s t : State) → IsSound s → IsSound t → (x y : InstalledKey) → Contains s.keys x →
+pub numbers_tell : EndpointLaws → (s t : State) → IsSound s → IsSound t → (x y : InstalledKey) → Contains s.keys x →
     Contains t.keys y → AgreeOnKey x y → (n m : ℕ) → n ≤ last_of x.suite → m ≤ last_of y.suite → n < m →
     iv_of x.suite s.config.sci x.ssci x.salt n ≡ iv_of y.suite t.config.sci y.ssci y.salt m → ⊥
 numbers_tell laws s t sound sound' x y here there agree n m n_most m_most less iv =

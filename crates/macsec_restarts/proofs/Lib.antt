@@ -16,4 +16,6 @@ mod KeptOrder
 mod ForgettingEnds
 mod Forgetting
 mod RunsWith
+mod RenewingKeepers
+mod RenewingAhead
 mod OnDisk

@@ -12,6 +12,7 @@ pub mod AheadForgetting
 pub mod ForgettingOrder
 pub mod Used
 pub mod Kept
+pub mod RenewingRuns
 pub mod ForgettingEnds
 pub mod StrictLists
 pub mod OnDisk

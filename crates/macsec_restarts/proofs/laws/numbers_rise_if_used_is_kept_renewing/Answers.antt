@@ -1,0 +1,14 @@
+use Rattle.macsec_restarts.proofs.RenewingAhead.{is_weaker_with, rises_if_used_is_kept_with}
+use Rattle.macsec_restarts.proofs.RenewingKeepers.{rises_if_used_is_kept_renewing}
+use Rattle.macsec_restarts.proofs.laws.numbers_rise_if_used_is_kept_renewing.Goals as goal
+
+pub returns-clause-keeper : goal.returns-clause-keeper
+returns-clause-keeper c = rises_if_used_is_kept_renewing (assumption)
+    (record { ivs = c.renews_keys_safely.ensures.ivs; octets = c.renews_keys_safely.ensures.octets })
+
+pub returns-clause-kept : goal.returns-clause-kept
+returns-clause-kept c = rises_if_used_is_kept_with (assumption)
+    (record { ivs = c.renews_keys_safely.ensures.ivs; octets = c.renews_keys_safely.ensures.octets })
+
+pub returns-clause-weaker : goal.returns-clause-weaker
+returns-clause-weaker c = is_weaker_with
