@@ -40,9 +40,8 @@ uint32_t lines_carry_out(struct numbers *n, macsec_endpoint *e, const macsec_com
         numbers_note_accepted(n, e, c->sci);
     if (c->kind == MACSEC_COMMAND_TX_DEL)
         numbers_note_sent(n, e);
-    status = macsec_carry_out(e, c);
-    if (status == MACSEC_E_KEY_NUMBER_USED)
-        status = macsec_renew_key(e, &c->sak); /* the number may be that of a retired key */
+    /* The number of a key may be that of a retired one. */
+    status = c->kind == MACSEC_COMMAND_KEY ? macsec_renew_key(e, &c->sak) : macsec_carry_out(e, c);
     /* An association whose packet numbers may have been used begins above them. */
     return status == MACSEC_E_PN_FLOOR ? macsec_load(e, c, 1, raised, &place) : status;
 }

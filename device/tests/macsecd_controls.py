@@ -192,7 +192,7 @@ CONTROLS: dict[str, list[tuple[str, str, str]]] = {
              ("macsecctl.c", "fail(words[1], 2) : load(file, lines);", "fail(words[1], 2) : load(file, lines) & 1;"),
              ("macsecctl.c", "length == strlen(faults[i].name) && ", "length > 99 && ")],
     "handover": [("frames.c", "if (sent->length > 0)", "if (sent->length > 0 && sent->key != 2)"),
-                 ("lines.c", "status == MACSEC_E_KEY_NUMBER_USED", "false")],
+                 ("lines.c", "c->kind == MACSEC_COMMAND_KEY", "false")],
     "life": [("loop.c", ", SIGXFSZ };", " };"),
              ("rtnetlink.c", "header->nlmsg_type == RTM_DELLINK) {", "header->nlmsg_type == RTM_DELLINK && false) {"),
              ("rtnetlink.c", "    d->link.up = up;\n", "")],
