@@ -9,14 +9,12 @@
 //! `wanted_to_accept` returns the reservation to make durable next, and `rx_floor` the number above which an SA can
 //! begin. An `EndTable` is the table of `specs/Ends.antt`. After the creation of the endpoint no call allocates, except
 //! `renew_key`, which installs a key also under the number of a retired one, and `load`, which carries out commands all
-//! or none (`specs/Loading.antt`): it works on a copy, which nothing else sees. No law over restarts is about runs with
-//! them. From then on `command_renewing` refuses the octets of keys whose row a new key took; before, it is
-//! `command_forgetting` (`specs/Renewing.antt`).
+//! or none (`specs/Loading.antt`): it works on a copy, which nothing else sees. After that `command_renewing` refuses
+//! the octets of keys whose row a new key took; before, it is `command_forgetting` (`specs/Renewing.antt`).
 //!
-//! The laws of this endpoint over restarts are in `macsec_restarts`. `accepts_above`, `accepts_once_reserved`,
-//! `begins_above_its_end`, `comes_in_order_once_ahead` and `is_keeping_inside` are about runs in which no key is
-//! forgotten; `forgets_alike_ahead`, `accepts_above_forgetting` and `comes_in_order_once_forgetting` are about those in
-//! which a command forgets the key that it retires.
+//! The laws of this endpoint over restarts are in `macsec_restarts`. Those with `forgetting` in their names are about
+//! runs in which a command forgets the key that it retires, and those with `renewing` about runs that also renew keys.
+//! `is_keeping_inside` and `forgets_alike_ahead` say how the endpoint compares with one that does less.
 #![tactic(auto)]
 
 mod ends;
