@@ -17,8 +17,9 @@ use Rattle.macsec_restarts.{
     Names.{EndpointLaws, false, get_or, HasOtherIv, highest, if◌then◌else◌, Inputs, InstalledKey, IsSound, Keeping},
     Names.{KeepingInput, Key, lets_through, List, map, max, newly_accepted, newly_sent, None},
     Names.{now_durable, operator_command, Option, reduced_reserves, Refusal, refl, reported_in, reservations},
-    Names.{Rises, Run, RunWith, salt_of, seal_of, SentIn, Some, subst, suc, sym, take, true, zero, ℕ},
-    RenewingKeepers.{Goes, goes, is_weaker_renewing, no_iv_if_used_is_kept_renewing, RenewingLaws},
+    Names.{Rises, Run, RunWith, salt_of, seal_of, sending_name, SentIn, Some, subst, suc, sym, take, true, zero, ℕ},
+    RenewingKeepers.{each_between, Goes, goes, is_weaker_renewing, IsBetween, no_iv_if_used_is_kept_renewing},
+    RenewingKeepers.RenewingLaws,
     RenewingKeepers.{rises_if_used_is_kept_renewing, seals_renewing_in_all},
   },
   specs.RenewingRuns.{accepted_by_run, accepted_from_renewing, AcceptsAboveIfKeptWith, AcceptsAboveWith},
@@ -198,6 +199,22 @@ is_weaker_with r later salt durable =
     subst (λ ys. CoversAll later ys (sent_by_run r)) (sent_same later)
     (subst (CoversAll later (sent_in_renewing (inside_run later))) (sent_same r) inside)
 
+-- what a run sends is above what the journal reserved when it began, and at most what was reported durable to it
+pub each_between_with : (r : RunWith) → All (IsBetween (opening_of r).k r.run.inputs) (sent_by_run r)
+each_between_with r =
+    subst (All (IsBetween (opening_of r).k r.run.inputs)) (sent_same r)
+    (All-weaker (IsBetween (opening_of r).k inside) (IsBetween (opening_of r).k r.run.inputs) (λ x it. record {
+      above = it.above;
+      within = subst (λ rs. x.number ≤ max (highest (opening_of r).k.granted (name_of x)) (highest rs (name_of x)))
+          (reports_inside r.run.inputs (opening_of r)) it.within;
+    }) (sent_in_renewing (inside_run r)) (each_between inside (opening_of r).k refl))
+  where
+    inside : Inputs
+    inside = through_renewing (opening_of r) r.run.inputs
+
+    name_of : SentIn → List ℕ
+    name_of x = sending_name (salt_of r.run.journal) x.seal.key
+
 -- ---- what a step keeps
 
 pub renews_field : (a : Ahead) (input : KeepingInput) → (ahead_forgetting_step a input).1.renews ≡ a.renews
@@ -237,9 +254,9 @@ taken_renewing a input inputs name = taken_kept a input inputs name
 
 -- ---- what it accepts
 
-record IsTaken (a : Ahead) (inputs : Inputs) (d : Delivery) : Type 0 where
-  above : highest a.k.before (delivery_name a.k.salt d) < d.number
-  within : d.number ≤ max (highest a.taken (delivery_name a.k.salt d))
+pub record IsTaken (a : Ahead) (inputs : Inputs) (d : Delivery) : Type 0 where
+  pub above : highest a.k.before (delivery_name a.k.salt d) < d.number
+  pub within : d.number ≤ max (highest a.taken (delivery_name a.k.salt d))
       (highest (reported_in inputs) (delivery_name a.k.salt d))
 
 each_taken : (inputs : Inputs) (a : Ahead) → a.ahead ≡ true → All (IsTaken a inputs) (accepted_from_renewing a inputs)
@@ -263,7 +280,7 @@ each_taken (input ∷ inputs) a on =
       within = omega (arith, within, taken_renewing a input inputs name);
     }) (accepted_from_renewing after inputs) (each_taken inputs after (option_renewing a input ∙ on)))
 
-taken_in : (r : RunWith) → r.ahead ≡ true → (d : Delivery) → Contains (accepted_by_run r) d →
+pub taken_in : (r : RunWith) → r.ahead ≡ true → (d : Delivery) → Contains (accepted_by_run r) d →
     IsTaken (opening_of r) r.run.inputs d
 taken_in r on d there = All-contains (IsTaken (opening_of r) r.run.inputs) (accepted_by_run r) d
     (each_taken r.run.inputs (opening_of r) on) there

@@ -23,7 +23,7 @@ ghost use Rattle.macsec_restarts.specs.AheadSteps.{WantsEnough};
 ghost use Rattle.macsec_restarts.specs.Delivered.{DeliversEachListed, DeliversFromSas};
 ghost use Rattle.macsec_restarts.specs.ForgettingOrder.{ComesInOrderOnceForgetting};
 ghost use Rattle.macsec_restarts.specs.Happenings.{Happening};
-ghost use Rattle.macsec_restarts.specs.OnDisk.{RisesOnDisk};
+ghost use Rattle.macsec_restarts.specs.OnDisk.{RisesOnDisk, RisesOnDiskRenewing};
 ghost use Rattle.macsec_restarts.specs.Order.{ComesInOrderOnce};
 ghost use Rattle.macsec_restarts.specs.Origin.{AlwaysComesFromOther, ComesFromOther};
 ghost use Rattle.macsec_restarts.specs.Sent.{ListsEachUse, NumbersRise, SealsEachFrame};
@@ -433,3 +433,12 @@ pub fn accepts_above_if_kept_renewing()
     ensures kept { (runs : List RunWith) → AcceptsAboveIfKeptWith runs }
     ensures weaker { (run later : RunWith) → IsWeakerToAcceptWith run later }
 {}
+
+/// `rises_on_disk` for endpoints that renew keys. Each run reserves ahead of receiving or not; for what is accepted
+/// both do.
+pub fn rises_on_disk_renewing()
+    ensures { (form : Form) (salt : List ℕ) (events : List Event) → RisesOnDiskRenewing form salt events }
+{
+    // The law that the proof cites; the call does nothing.
+    keeps_history();
+}

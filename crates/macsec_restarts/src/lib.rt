@@ -37,7 +37,8 @@
 //! - `accepts_above_if_kept_renewing`: a later run accepts only higher packet numbers than an earlier run accepted.
 //!
 //! Proved over the journal of `macsec_journal`, on a disk that fails: `rises_on_disk`, what a later run sends and
-//! accepts has higher packet numbers, whatever other names were let go.
+//! accepts has higher packet numbers, whatever other names were let go; also of endpoints that renew keys
+//! (`rises_on_disk_renewing`).
 //!
 //! Proved of each step of endpoints that forget keys: `lists_each_delivery_forgetting`,
 //! `begins_above_its_end_forgetting`.
