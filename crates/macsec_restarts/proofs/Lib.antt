@@ -4,18 +4,18 @@ mod Origins
 mod Sends
 mod InOrder
 mod RowSteps
-mod AheadInside
+pub mod AheadInside
 mod AheadEnds
 mod AheadPast
 mod Pushed
 mod AheadOrder
 mod SameBut
-mod AheadForgets
+pub mod AheadForgets
 mod Examples
 mod KeptOrder
 mod ForgettingEnds
-mod Forgetting
+pub mod Forgetting
 mod RunsWith
-mod RenewingKeepers
-mod RenewingAhead
+pub mod RenewingKeepers
+pub mod RenewingAhead
 mod OnDisk
