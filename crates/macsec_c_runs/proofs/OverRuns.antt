@@ -1,7 +1,7 @@
 -- Runs of calls, by the keeping endpoints inside, and what the runs accept.
 use Rattle.std.proofs.Common.{◌≡◌, ◌∙◌, ◌++◌, ◌∷◌, ◌<◌, ◌≤◌, ◌||◌, ℕ, zero, suc, List, [], Bool, true, false, Option}
 use Rattle.std.proofs.Common.{Some, None, refl, ap, ap₂, sym, subst, if◌then◌else◌, Contains, arith, ◌^◌, ◌-◌, nat_le}
-use Rattle.std.proofs.Common.{All, AllPairs, get_or, map, take}
+use Rattle.std.proofs.Common.{All, AllPairs, get_or, map, max, take}
 use Rattle.std.proofs.lemmas.List.Elements.{All-append, All-contains, All-head, All-map, All-nil, All-tail, All-weaker}
 use Rattle.macsec_aes.specs.Keys.{key_bytes}
 use Rattle.macsec_suite.specs.KeyRows.{InstalledKey}
@@ -13,6 +13,7 @@ use Rattle.macsec_secy.specs.Commands.{uses}
 use Rattle.macsec_secy.specs.Sound.{IsSound}
 use Rattle.macsec_secy.specs.Step.{Input, client_frame, link_frame, operator_command}
 use Rattle.macsec_reserve.specs.declared.reservation.Reservation.{Reservation}
+use Rattle.macsec_reserve.proofs.HighestOf.{highest-append}
 use Rattle.macsec_reserve.proofs.Reduced.{reduced_reserves}
 use Rattle.macsec_reserve.specs.Forgetting.{fingerprint}
 use Rattle.macsec_reserve.specs.Histories.{Run, reported_in}
@@ -25,8 +26,8 @@ use Rattle.macsec_ahead.specs.Ahead.{Ahead}
 use Rattle.macsec_ahead.specs.Renewing.{installs_given_up, unless_given_up, unless_refused}
 use Rattle.macsec_restarts.proofs.AheadForgets.{before_kept, by_forgetting, field_forgetting, salt_kept}
 use Rattle.macsec_restarts.proofs.AheadInside.{IsWithin, within_input}
-use Rattle.macsec_restarts.proofs.Forgetting.{option_kept, pairs-map}
-use Rattle.macsec_restarts.proofs.RenewingAhead.{goes_inside, option_renewing, renews_field}
+use Rattle.macsec_restarts.proofs.Forgetting.{option_kept, pairs-map, taken_kept}
+use Rattle.macsec_restarts.proofs.RenewingAhead.{goes_inside, option_renewing, renews_field, taken_renewing}
 use Rattle.macsec_restarts.proofs.RenewingKeepers.{Goes, goes_forgetting, is_weaker_renewing, seals_renewing_in_all}
 use Rattle.macsec_restarts.specs.AheadForgetting.{ahead_forgetting_step}
 use Rattle.macsec_restarts.specs.AheadRuns.{delivery_name, newly_accepted}
@@ -39,9 +40,9 @@ use Rattle.macsec_restarts.specs.Used.{seal_of}
 use Rattle.macsec_c_calls.specs.GivenUp.{Call, after_call, after_calls, client, command, durable, link, renewal}
 use Rattle.macsec_c_runs.proofs.Calls.{Fits, call_goes, call_stays, takes}
 use Rattle.macsec_c_runs.specs.Runs.{AcceptsAbove, AcceptsAboveOverCalls, AgreeOnKeys, CallRun, IsCovered, IsRun}
-use Rattle.macsec_c_runs.specs.Runs.{IsWeaker, KeepsAccepted, KeepsUsed, NoIvOverCalls, NumbersRiseOverCalls}
+use Rattle.macsec_c_runs.specs.Runs.{IsWeaker, IsWeakerToAccept, KeepsAccepted, KeepsUsed, NoIvOverCalls}
 use Rattle.macsec_c_runs.specs.Runs.{accepted, accepted_by, input_of, opening, reported, sent, sent_by, sent_in_all}
-use Rattle.macsec_c_runs.specs.Runs.{states}
+use Rattle.macsec_c_runs.specs.Runs.{NumbersRiseOverCalls, states}
 
 abbrev Inputs : Type 0
 Inputs = List KeepingInput
@@ -294,31 +295,67 @@ call_keeps e (command (Key key)) = by_given (installs_given_up e (Key key))
     by_given false = record { option = option_kept e input; goes = forgetting_goes e input }
 call_keeps e call = record { option = option_renewing e (input_of call); goes = goes_inside e (input_of call) }
 
-abbrev IsAboveFloor : Ahead → Delivery → Type 0
-IsAboveFloor e d = highest e.k.before (delivery_name e.k.salt d) < d.number
+one_taken : (e : Ahead) (call : Call) (name : List ℕ) → highest (after_call e call).taken name ≤
+    max (highest e.taken name) (highest (reported_in (input_of call ∷ [])) name)
+one_taken e (command (Key key)) name = by_given (installs_given_up e (Key key))
+  where
+    by_given : (b : Bool) → highest (unless_given_up b e (Key key)).1.taken name ≤ max (highest e.taken name) 0
+    by_given true = omega arith
+    by_given false = omega (arith, taken_kept e (endpoint_input (operator_command (Key key))) [] name)
+one_taken e call name = omega (arith, taken_renewing e (input_of call) [] name)
 
-each_above : (calls : List Call) (e : Ahead) → e.ahead ≡ true → All (IsAboveFloor e) (accepted_by e calls)
-each_above [] e on = All-nil (IsAboveFloor e)
-each_above (call ∷ calls) e on =
+reported_first : (call : Call) (calls : List Call) (name : List ℕ) → highest (reported (call ∷ calls)) name ≡
+    max (highest (reported_in (input_of call ∷ [])) name) (highest (reported calls) name)
+reported_first (durable r) calls name = highest-append (r ∷ []) (reported calls) name
+reported_first call calls name = omega arith
+
+record IsTaken (e : Ahead) (calls : List Call) (d : Delivery) : Type 0 where
+  above : highest e.k.before (delivery_name e.k.salt d) < d.number
+  within : d.number ≤ max (highest e.taken (delivery_name e.k.salt d))
+      (highest (reported calls) (delivery_name e.k.salt d))
+
+each_taken : (calls : List Call) (e : Ahead) → e.ahead ≡ true → All (IsTaken e calls) (accepted_by e calls)
+each_taken [] e on = All-nil (IsTaken e [])
+each_taken (call ∷ calls) e on =
     let after = after_call e call in
     let it = call_keeps e call in
-    All-append (IsAboveFloor e) (newly_accepted e (input_of call)) (accepted_by after calls)
-    (All-weaker (IsWithin e.k.before e.k.salt (highest e.taken)) (IsAboveFloor e) (λ d now. now.above)
+    let P = IsTaken e (call ∷ calls) in
+    All-append P (newly_accepted e (input_of call)) (accepted_by after calls)
+    (All-weaker (IsWithin e.k.before e.k.salt (highest e.taken)) P
+    (λ d now. record { above = now.above; within = omega (arith, now.within) })
     (newly_accepted e (input_of call)) (within_input e on (input_of call)))
-    (All-weaker (IsAboveFloor after) (IsAboveFloor e) (λ d later.
-    let above : highest after.k.before (delivery_name e.k.salt d) < d.number =
-    subst (λ salt. highest after.k.before (delivery_name salt d) < d.number) it.goes.salt later in
-    omega (arith, it.goes.floors (delivery_name e.k.salt d), above)) (accepted_by after calls)
-    (each_above calls after (it.option ∙ on)))
+    (All-weaker (IsTaken after calls) P (λ d later.
+    let name = delivery_name e.k.salt d in
+    let above : highest after.k.before name < d.number =
+    subst (λ salt. highest after.k.before (delivery_name salt d) < d.number) it.goes.salt later.above in
+    let within : d.number ≤ max (highest after.taken name) (highest (reported calls) name) =
+    subst (λ salt. d.number ≤ max (highest after.taken (delivery_name salt d))
+    (highest (reported calls) (delivery_name salt d))) it.goes.salt later.within in
+    record {
+      above = omega (arith, it.goes.floors name, above);
+      within = omega (arith, within, one_taken e call name, reported_first call calls name);
+    }) (accepted_by after calls) (each_taken calls after (it.option ∙ on)))
+
+taken_in : (r : CallRun) → r.ahead ≡ true → (d : Delivery) → Contains (accepted r) d → IsTaken (opening r) r.calls d
+taken_in r on d there =
+    All-contains (IsTaken (opening r) r.calls) (accepted r) d (each_taken r.calls (opening r) on) there
 
 above_kept : (r later : CallRun) → KeepsAccepted r later → AcceptsAbove r later
 above_kept r later keeps d e on here there same = omega (
   arith,
   keeps d e here there same,
-  All-contains (IsAboveFloor (opening later)) (accepted later) e (each_above later.calls (opening later) on) there,
+  (taken_in later on e there).above,
   reduced_reserves (reservations later.journal) (delivery_name (salt_of later.journal) e),
 )
 
 pub accepts_above_over_calls : (rs : List CallRun) → AcceptsAboveOverCalls rs
 accepts_above_over_calls rs keeps i j d before within =
     above_kept (get_or rs i d) (get_or rs j d) (keeps i j d before within)
+
+pub is_weaker_to_accept : (r later : CallRun) → IsWeakerToAccept r later
+is_weaker_to_accept r later on salt durable' d e here there same =
+    let own = delivery_name (salt_of r.journal) d in
+    let name : delivery_name (salt_of later.journal) e ≡ own = rw (salt, ← same.bytes, ← same.sci, ← same.an) in
+    let reaches : d.number ≤ highest (reservations later.journal) own =
+    omega (arith, (taken_in r on d here).within, durable' own) in
+    rw name reaches

@@ -105,6 +105,13 @@ KeepsAccepted r later =
     (d e : Delivery) → Contains (accepted r) d → Contains (accepted later) e → AreOfOneSa d e →
     d.number ≤ highest (reservations later.journal) (delivery_name (salt_of later.journal) e)
 
+-- if the earlier run had `ahead`, it is enough that the later one reads what was reported durable
+abbrev pub IsWeakerToAccept : CallRun → CallRun → Type 0
+IsWeakerToAccept r later =
+    r.ahead ≡ true → salt_of later.journal ≡ salt_of r.journal →
+    ((name : List ℕ) → highest (reported r.calls) name ≤ highest (reservations later.journal) name) →
+    KeepsAccepted r later
+
 -- ---- the promises
 
 -- no IV is used twice under the octets of a key, over all runs

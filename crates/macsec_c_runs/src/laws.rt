@@ -2,7 +2,7 @@
 
 ghost use Rattle.std.specs.Prelude.{List};
 ghost use Rattle.macsec_c_runs.specs.Runs.{AcceptsAboveOverCalls, CallRun, IsWeaker, NoIvOverCalls};
-ghost use Rattle.macsec_c_runs.specs.Runs.{NumbersRiseOverCalls};
+ghost use Rattle.macsec_c_runs.specs.Runs.{IsWeakerToAccept, NumbersRiseOverCalls};
 
 use macsec_restarts::laws::{
     no_iv_if_used_is_kept_renewing, numbers_rise_if_used_is_kept_renewing,
@@ -29,7 +29,9 @@ pub fn numbers_rise_over_calls()
 }
 
 /// What a later run of calls with `ahead` accepts from an SA has higher packet numbers than all that an earlier run
-/// accepted from it, if the later run reads what was accepted before, of the SAs from which it accepts.
+/// accepted from it, if the later run reads what was accepted before, of the SAs from which it accepts (`kept`). If the
+/// earlier run had `ahead`, it is enough that the later one reads what was reported durable (`weaker`).
 pub fn accepts_above_over_calls()
-    ensures { (runs : List CallRun) → AcceptsAboveOverCalls runs }
+    ensures kept { (runs : List CallRun) → AcceptsAboveOverCalls runs }
+    ensures weaker { (run later : CallRun) → IsWeakerToAccept run later }
 {}

@@ -6,7 +6,7 @@ use Rattle.macsec_journal.specs.{
 use Rattle.macsec_restarts.{
   proofs.{
     Forgetting.accepts_reserved_forgetting,
-    Names.{◌<◌, ◌≡◌, ◌≤◌, All-contains, arith, Contains, delivery_name, get_or, highest, List, opening},
+    Names.{◌≡◌, ◌≤◌, All-contains, arith, Contains, delivery_name, get_or, highest, List, opening},
     Names.{reduced_reserves, refl, reported, reservations, RunWith, salt_of, SameSalt, sending_name, sent_from},
     Names.{SentIn, subst, sym, true, ℕ},
     RenewingAhead.{each_between_with, taken_in},

@@ -243,7 +243,7 @@ taken_by_refusal : (r : Option Refusal) (key : NewKey) (a : Ahead) → (unless_r
 taken_by_refusal None key a = refl
 taken_by_refusal (Some r) key a = refl
 
-taken_renewing : (a : Ahead) (input : KeepingInput) (inputs : Inputs) (name : List ℕ) →
+pub taken_renewing : (a : Ahead) (input : KeepingInput) (inputs : Inputs) (name : List ℕ) →
     max (highest (ahead_renewing_step a input).1.taken name) (highest (reported_in inputs) name) ≤
     max (highest a.taken name) (highest (reported_in (input ∷ inputs)) name)
 taken_renewing a (endpoint_input (operator_command (Key key))) inputs name =
