@@ -93,7 +93,7 @@ reported [] = []
 reported (durable r ∷ calls) = r ∷ reported calls
 reported (call ∷ calls) = reported calls
 
--- it is enough that the later run reads the same salt, and what was reported durable to the earlier run
+-- it is enough, of two runs, that the later one reads the same salt, and what was reported durable to the earlier one
 abbrev pub IsWeaker : CallRun → CallRun → Type 0
 IsWeaker r later =
     IsRun r → IsRun later → salt_of later.journal ≡ salt_of r.journal →

@@ -9,7 +9,9 @@ use macsec_restarts::laws::{
 };
 
 /// No IV twice over several runs of calls: `no_iv_if_used_is_kept_renewing` of `macsec_restarts`, for callers in C. A
-/// key may also be installed by a command, unless the journal gives up its octets.
+/// key may also be installed by a command. Premises: each run is one (`IsRun`: sound, and no command installs octets
+/// that the journal gives up); keys that SAs use in two runs and that have the same octets agree; and each later run
+/// reads what was used before, under the names under which it sends.
 pub fn no_iv_over_calls()
     ensures { (runs : List CallRun) → NoIvOverCalls runs }
 {
@@ -17,9 +19,9 @@ pub fn no_iv_over_calls()
     no_iv_if_used_is_kept_renewing();
 }
 
-/// The packet numbers that are used under the octets of a key rise over all runs of calls, if each later run reads what
-/// was used before, under the names under which it sends (`kept`). It is enough that it reads what was reported durable
-/// (`weaker`).
+/// The packet numbers that are used under the octets of a key rise over all runs of calls. Premises: each run is one
+/// (`IsRun`), and each later run reads what was used before, under the names under which it sends (`kept`). It is
+/// enough that it reads the same salt, and what was reported durable (`weaker`).
 pub fn numbers_rise_over_calls()
     ensures kept { (runs : List CallRun) → NumbersRiseOverCalls runs }
     ensures weaker { (run later : CallRun) → IsWeaker run later }
@@ -30,7 +32,8 @@ pub fn numbers_rise_over_calls()
 
 /// What a later run of calls with `ahead` accepts from an SA has higher packet numbers than all that an earlier run
 /// accepted from it, if the later run reads what was accepted before, of the SAs from which it accepts (`kept`). If the
-/// earlier run had `ahead`, it is enough that the later one reads what was reported durable (`weaker`).
+/// earlier run had `ahead`, it is enough that the later one reads the same salt, and what was reported durable
+/// (`weaker`).
 pub fn accepts_above_over_calls()
     ensures kept { (runs : List CallRun) → AcceptsAboveOverCalls runs }
     ensures weaker { (run later : CallRun) → IsWeakerToAccept run later }

@@ -391,10 +391,11 @@ pub fn rises_on_disk()
 // ---- endpoints that renew keys: a new key may take the row of a retired one, and retired keys are forgotten
 
 /// No IV twice over several runs of an endpoint that renews keys, each run with the option to reserve ahead of
-/// receiving or without it (`kept`), and of the `Keeper` (`keeper`). Each key is installed as a renewal, so a run may
-/// have any number of keys. Premises: the endpoint is sound at each moment; keys that SAs use and that have the same
-/// octets agree; and each later run reads what was used before, under the names under which it sends. For the last of
-/// these it is enough that it reads what was reported durable (`weaker` of `numbers_rise_if_used_is_kept_renewing`).
+/// receiving or without it (`kept`), and of the `Keeper` (`keeper`). Each key is installed as a renewal, so a run
+/// may have any number of keys. Premises: the endpoint is sound at each moment; keys that SAs use in two runs, and
+/// that have the same octets, agree; and each later run reads what was used before, under the names under which it
+/// sends. For the last of these it is enough that it reads the same salt, and what was reported durable (`weaker`
+/// of `numbers_rise_if_used_is_kept_renewing`, of `kept` alone).
 pub fn no_iv_if_used_is_kept_renewing()
     ensures keeper { (runs : List Run) → NoIvIfUsedIsKeptRenewing runs }
     ensures kept { (runs : List RunWith) → NoIvIfUsedIsKeptWith runs }
@@ -409,8 +410,9 @@ pub fn no_iv_if_used_is_kept_renewing()
 }
 
 /// The packet numbers that an endpoint which renews keys uses under the octets of a key rise over all its runs, with
-/// the option or without it (`kept`), and so do those of the `Keeper` (`keeper`), if each later run reads what was used
-/// before, under the names under which it sends. That it reads what was reported durable is enough (`weaker`).
+/// the option or without it (`kept`), and so do those of the `Keeper` (`keeper`), if the endpoint is sound at each
+/// moment, and each later run reads what was used before, under the names under which it sends. For `kept` it is enough
+/// that it reads the same salt, and what was reported durable (`weaker`).
 pub fn numbers_rise_if_used_is_kept_renewing()
     ensures keeper { (runs : List Run) → RisesIfUsedIsKeptRenewing runs }
     ensures kept { (runs : List RunWith) → RisesIfUsedIsKeptWith runs }
@@ -427,8 +429,8 @@ pub fn numbers_rise_if_used_is_kept_renewing()
 
 /// What a later run with the option accepts from an SA has higher packet numbers than all that an earlier run accepted
 /// from it, of an endpoint that renews keys, if the later run reads what was accepted before, of the SAs from which it
-/// accepts (`kept`). If the earlier run had the option, it is enough that the later one reads what was reported durable
-/// (`weaker`).
+/// accepts (`kept`). If the earlier run had the option, it is enough that the later one reads the same salt, and what
+/// was reported durable (`weaker`).
 pub fn accepts_above_if_kept_renewing()
     ensures kept { (runs : List RunWith) → AcceptsAboveIfKeptWith runs }
     ensures weaker { (run later : RunWith) → IsWeakerToAcceptWith run later }
