@@ -1,5 +1,6 @@
 -- The key of a job: what it is when it is prepared, and when two of them are the same.
-use Rattle.std.specs.Prelude.{ℕ, List, Bool, ◌==◌, ◌&&◌, if◌then◌else◌, Option, Some, None}
+use Rattle.std.specs.Prelude.{◌≡◌, ℕ, List, replicate, Bool, ◌==◌, ◌&&◌, if◌then◌else◌, Option, Some, None}
+use Rattle.macsec_aes.specs.Keys.{key_bytes}
 use Rattle.macsec_gcm.specs.Octets.{same_octets}
 use Rattle.macsec_suite.specs.declared.key_row.KeyRow.{KeyRow}
 use Rattle.macsec_suite.specs.declared.refusal.Refusal.{Refusal}
@@ -14,13 +15,23 @@ use Rattle.macsec_jobs.specs.declared.planned_key.PlannedKey.{PlannedKey}
 abbrev pub key_of : PlannedKey → PreparedKey
 key_of k = prepared_from k.suite k.bytes k.offset
 
+-- nothing is left of a key: its octets are zeros
+abbrev pub IsGone : PlannedKey → Type 0
+IsGone k = key_bytes k.bytes ≡ replicate 16 0
+
 -- the key of a row
 abbrev pub planned_of : KeyRow → PlannedKey
-planned_of row = record { number = row.key.number; suite = row.suite_key.suite; offset = row.key.offset; bytes = row.key.bytes }
+planned_of row = record {
+  number = row.key.number;
+  suite = row.suite_key.suite;
+  offset = row.key.offset;
+  bytes = row.key.bytes;
+}
 
 -- prepared, the two are the same key
 abbrev pub same_prepared : PreparedKey → PreparedKey → Bool
-same_prepared a b = number_of_suite a.suite == number_of_suite b.suite && (a.offset == b.offset && same_octets a.bytes b.bytes)
+same_prepared a b =
+    number_of_suite a.suite == number_of_suite b.suite && (a.offset == b.offset && same_octets a.bytes b.bytes)
 
 -- and they have the same number
 abbrev pub same_key : PlannedKey → PlannedKey → Bool

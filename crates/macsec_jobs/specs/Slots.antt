@@ -1,5 +1,6 @@
 -- A slot: a frame, what is to be done with it, and the key for that.
-use Rattle.std.specs.Prelude.{◌≡◌, ◌≤◌, ℕ, ◌+◌, List, [], length, take, nat_lt, Bool, true, false, not, if◌then◌else◌, Option, Some, None, IfSome}
+use Rattle.std.specs.Prelude.{◌≡◌, ◌≤◌, ℕ, ◌+◌, List, [], length, take, nat_lt, Bool, true, false, not, if◌then◌else◌}
+use Rattle.std.specs.Prelude.{Option, Some, None, IfSome}
 use Rattle.macsec_tag.specs.Frame.{MpduParts}
 use Rattle.macsec_tag.specs.Limits.{max_frame_len, min_frame_len}
 use Rattle.macsec_tag.specs.Table.{reading, tagged}
@@ -14,7 +15,7 @@ use Rattle.macsec_jobs.specs.declared.job_fault.JobFault.TheVariants.{NoJob, Oth
 use Rattle.macsec_jobs.specs.declared.planned_key.PlannedKey.{PlannedKey}
 use Rattle.macsec_jobs.specs.declared.work.Work.{Work}
 use Rattle.macsec_jobs.specs.declared.work.Work.TheVariants.{Nothing, Seal, Open, Finish}
-use Rattle.macsec_jobs.specs.PlannedKeys.{is_installed, key_of, same_key}
+use Rattle.macsec_jobs.specs.PlannedKeys.{IsGone, is_installed, key_of, same_key}
 
 pub record SlotState : Type 0 where
   pub work : Work
@@ -70,7 +71,7 @@ frame_planned s = frame_made s.work s.key s.frame
 
 -- ---- what is true of every slot
 
--- the job is for this key, and for a frame of this length
+-- without a frame there is no key. A job is for this key, and for a frame of this length
 pub record IsSealable (job : SealJob) (key : PlannedKey) (frame : List ℕ) : Type 0 where
   pub number : key.number ≡ job.key.number
   pub least : min_frame_len ≤ length frame
@@ -82,13 +83,14 @@ pub record IsOpenedFrom (o : OpenedFrame) (key : PlannedKey) (frame out : List �
   pub opened : (p : MpduParts) → reading frame ≡ tagged p → IsOpenedBy o (key_of key) p out
 
 abbrev pub IsWork : Work → PlannedKey → List ℕ → List ℕ → Type 0
-IsWork Nothing key frame out = Unit {0}
+IsWork Nothing key frame out = IsGone key
 IsWork (Seal job) key frame out = IsSealable job key frame
 IsWork (Open job) key frame out = job.key ≡ key.number
 IsWork (Finish opened) key frame out = IfSome opened (λ o. IsOpenedFrom o key frame out)
 
 -- the buffers hold the longest frame, and the work is for the frame at the beginning of the first
-pub record IsSlot (work : Work) (key : PlannedKey) (frame_length : ℕ) (frame out : List ℕ) (frame_space out_space : ℕ) : Type 0 where
+pub record IsSlot
+    (work : Work) (key : PlannedKey) (frame_length : ℕ) (frame out : List ℕ) (frame_space out_space : ℕ) : Type 0 where
   pub frame_room : frame_space ≡ max_frame_len
   pub out_room : out_space ≡ max_frame_len
   pub fits : frame_length ≤ max_frame_len

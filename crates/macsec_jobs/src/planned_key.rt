@@ -1,7 +1,7 @@
 //! The key of a job.
 
 ghost use Rattle.std.specs.Prelude.{◌≡◌};
-ghost use Rattle.macsec_jobs.specs.PlannedKeys.{key_of, planned_of, same_key, same_prepared};
+ghost use Rattle.macsec_jobs.specs.PlannedKeys.{IsGone, key_of, planned_of, same_key, same_prepared};
 
 use macsec_aes::Key;
 use macsec_suite::{KeyNumber, KeyRow, Suite};
@@ -21,7 +21,9 @@ pub struct PlannedKey {
 
 impl PlannedKey {
     /// A key of zeros, for a slot without a job.
-    pub(crate) fn none() -> PlannedKey {
+    pub(crate) fn none() -> PlannedKey
+        ensures { IsGone result }
+    {
         PlannedKey {
             number: KeyNumber::default(),
             suite: Suite::Gcm128,

@@ -1,6 +1,7 @@
 //! A frame on its way through the cipher.
 
-ghost use Rattle.std.specs.Prelude.{◌≡◌, ◌≤◌, ◌+◌, ℕ, List, length, false, not, option_map, take, true, IfOk, IfSome, IsSome, OnErr, OnOk};
+ghost use Rattle.std.specs.Prelude.{◌≡◌, ◌≤◌, ◌+◌, ℕ, List, drop, length, false, not, option_map, take, true, IfOk};
+ghost use Rattle.std.specs.Prelude.{IfSome, IsSome, OnErr, OnOk};
 ghost use Rattle.std.specs.Borrow.{Bor};
 ghost use Rattle.macsec_tag.specs.Limits.{max_frame_len, min_frame_len};
 ghost use Rattle.macsec_suite.specs.KeyRows.{key_row, prepared_key, the_key};
@@ -10,10 +11,12 @@ ghost use Rattle.macsec_secy.specs.Sound.{IsSound};
 ghost use Rattle.macsec_secy.specs.Step.{client_frame, frame_fault, link_frame};
 ghost use Rattle.macsec_reserve.specs.Keeping.{endpoint_input};
 ghost use Rattle.macsec_ahead.specs.Ahead.{ahead_step, kept};
-ghost use Rattle.macsec_jobs.specs.Answers.{PlansWork, frame_fault_of, is_job, job_fault_of, output_of_finished, output_of_plan};
+ghost use Rattle.macsec_jobs.specs.Answers.{PlansWork, frame_fault_of, is_job, job_fault_of, output_of_finished};
+ghost use Rattle.macsec_jobs.specs.Answers.{output_of_plan};
 ghost use Rattle.macsec_jobs.specs.declared.work.Work.TheVariants.{Seal};
-ghost use Rattle.macsec_jobs.specs.PlannedKeys.{is_installed, key_of};
-ghost use Rattle.macsec_jobs.specs.Slots.{frame_planned, is_idle, is_opening, is_received, is_sealing, open_fault, seal_fault, usable};
+ghost use Rattle.macsec_jobs.specs.PlannedKeys.{IsGone, is_installed, key_of};
+ghost use Rattle.macsec_jobs.specs.Slots.{frame_planned, is_idle, is_opening, is_received, is_sealing, open_fault};
+ghost use Rattle.macsec_jobs.specs.Slots.{seal_fault, usable};
 
 use crate::{Finished, JobFault, JobKey, PlannedKey, Reception, SendPlan, Work};
 use macsec_ahead::{AheadKeeper, LimitedReceived, OutsidePn};
@@ -26,8 +29,8 @@ use std::alloc::{AllocError, Global};
 use std::marker::Model;
 use std::mem;
 
-/// A frame, the job that was planned for it, and the buffer that the job writes. Contracts see the job with its key, and
-/// the frame.
+/// A frame, the job that was planned for it, and the buffer that the job writes. Contracts see the job with its key,
+/// and the frame.
 #[derive(Drop)]
 pub struct Slot {
     work: Work,
@@ -49,7 +52,8 @@ impl Model for Slot {
     ghost view = { λ s. record { work = s.work; key = s.key; frame = take s.frame_length s.frame.items } };
 
     // The buffers hold the longest frame. The job fits the frame and the key. An opened frame was opened with the key.
-    ghost invariant = { λ s. IsSlot s.work s.key s.frame_length s.frame.items s.out.items (vec_len s.frame) (vec_len s.out) };
+    ghost invariant = { λ s. IsSlot s.work s.key s.frame_length s.frame.items s.out.items (vec_len s.frame)
+        (vec_len s.out) };
 }
 
 impl Slot {
@@ -66,9 +70,10 @@ impl Slot {
         })
     }
 
-    /// Whether the slot has no frame.
+    /// Whether the slot has no frame. Then it has no octet of a key either.
     pub fn is_idle(&self) -> bool
-        ensures { result ≡ is_idle self.now.work }
+        ensures idle { result ≡ is_idle self.now.work }
+        ensures gone { result ≡ true → IsGone self.now.key }
     {
         match &self.work {
             Work::Nothing => true,
@@ -93,9 +98,11 @@ impl Slot {
         self.key.number.number()
     }
 
-    /// Gives up the frame. The packet number of a frame that was to be sealed is used, and a link frame is not received.
+    /// Gives up the frame. The packet number of a frame that was to be sealed is used, and a link frame is not
+    /// received. Nothing of the key stays.
     pub fn clear(&mut self)
-        ensures { is_idle self.new.work ≡ true }
+        ensures idle { is_idle self.new.work ≡ true }
+        ensures gone { IsGone self.new.key }
     {
         self.work = Work::Nothing;
         self.key = PlannedKey::none();
@@ -109,7 +116,8 @@ impl Slot {
     ) -> Result<SendPlan, FrameFault>
         requires idle { is_idle self.old.work ≡ true }
         ensures after { endpoint.new ≡ (ahead_step endpoint.old (endpoint_input (client_frame frame.now))).1 }
-        ensures output { kept (output_of_plan result self.new frame.now) ≡ (ahead_step endpoint.old (endpoint_input (client_frame frame.now))).0 }
+        ensures output { kept (output_of_plan result self.new frame.now)
+            ≡ (ahead_step endpoint.old (endpoint_input (client_frame frame.now))).0 }
         ensures sealing { is_sealing self.new.work ≡ is_job result }
         ensures left { is_idle self.new.work ≡ not (is_job result) }
     {
@@ -141,15 +149,18 @@ impl Slot {
         self.work = Work::Seal(job);
     }
 
-    /// Writes the protected frame to the start of `out` and returns its length. The slot is then without a frame. The key
-    /// must be the one of the plan.
+    /// Writes the protected frame to the start of `out` and returns its length. What is behind it stays. The slot is
+    /// then without a frame, and nothing of the key stays. The key must be the one of the plan.
     ///
     /// Errors: `NoJob`, `OtherKey`, then `Space`. Then the slot and `out` are unchanged.
     pub fn seal(&mut self, key: &JobKey, out: &mut [u8]) -> Result<usize, JobFault>
-        ensures fault { job_fault_of result ≡ seal_fault self.old.work self.old.key self.old.frame key.now (length out.old) }
+        ensures fault { job_fault_of result
+            ≡ seal_fault self.old.work self.old.key self.old.frame key.now (length out.old) }
         ensures sealed { IfOk result (λ n. take n out.new ≡ frame_planned self.old) }
         ensures within { IfOk result (λ n. n ≤ length out.old) }
+        ensures rest { IfOk result (λ n. drop n out.new ≡ drop n out.old) }
         ensures spent { OnOk result (is_idle self.new.work ≡ true) }
+        ensures gone { OnOk result (IsGone self.new.key) }
         ensures kept { OnErr result (self.new ≡ self.old) }
         ensures unwritten { OnErr result (out.new ≡ out.old) }
     {
@@ -159,7 +170,8 @@ impl Slot {
         match mem::replace(&mut self.work, Work::Nothing) {
             Work::Seal(job) => {
                 let frame = &self.frame.as_slice()[..self.frame_length];
-                let length = job.seal(key.suite_key(), frame, out);
+                let length = job.length(self.frame_length);
+                job.seal(key.suite_key(), frame, &mut out[..length]);
                 self.key = PlannedKey::none();
                 Ok(length)
             }
@@ -199,7 +211,8 @@ impl Slot {
         ensures fault { frame_fault_of result ≡ frame_fault frame.now }
         ensures job { IfOk result (λ job. job ≡ is_opening self.new.work) }
         ensures frame { OnOk result (self.new.frame ≡ frame.now) }
-        ensures planned { OnOk result (PlansWork self.new.work self.new.key (job_of_frame keeper.now.secy frame.now) keeper.now.secy.keys) }
+        ensures planned { OnOk result (PlansWork self.new.work self.new.key
+            (job_of_frame keeper.now.secy frame.now) keeper.now.secy.keys) }
         ensures left { OnErr result (is_idle self.new.work ≡ true) }
     {
         if frame.len() < MIN_FRAME_LEN {
@@ -248,8 +261,9 @@ impl Slot {
     }
 
     /// Receives the link frame of the slot, as `AheadKeeper::receive`. What was opened is used if this endpoint has the
-    /// key with which it was opened, and would now open the frame in the same way. The delivered octets are at the start
-    /// of `out`, which has `MAX_FRAME_LEN` octets or more. The slot is then without a frame.
+    /// key with which it was opened, and would now open the frame in the same way. The delivered octets are at the
+    /// start of `out`, which has `MAX_FRAME_LEN` octets or more. The slot is then without a frame, and nothing of the
+    /// key stays.
     pub fn finish_receive(
         &mut self,
         endpoint: &mut AheadKeeper,
@@ -258,8 +272,10 @@ impl Slot {
         requires received { is_received self.old.work ≡ true }
         requires room { max_frame_len ≤ length out.old }
         ensures after { endpoint.new ≡ (ahead_step endpoint.old (endpoint_input (link_frame self.old.frame))).1 }
-        ensures output { output_of_finished result self.old.frame out.new ≡ (ahead_step endpoint.old (endpoint_input (link_frame self.old.frame))).0 }
+        ensures output { output_of_finished result self.old.frame out.new
+            ≡ (ahead_step endpoint.old (endpoint_input (link_frame self.old.frame))).0 }
         ensures left { is_idle self.new.work ≡ true }
+        ensures gone { IsGone self.new.key }
     {
         let opened = usable(&self.work, &self.key, endpoint.keeper());
         let frame = &self.frame.as_slice()[..self.frame_length];
@@ -314,7 +330,8 @@ fn receive_frame(
     requires opened { OpensFrame opened.now endpoint.old.k.secy.keys frame.now room.old }
     requires out { max_frame_len ≤ length out.old }
     ensures after { endpoint.new ≡ (ahead_step endpoint.old (endpoint_input (link_frame frame.now))).1 }
-    ensures output { output_of_finished result frame.now out.new ≡ (ahead_step endpoint.old (endpoint_input (link_frame frame.now))).0 }
+    ensures output { output_of_finished result frame.now out.new
+        ≡ (ahead_step endpoint.old (endpoint_input (link_frame frame.now))).0 }
 {
     // The proof cites this law; the call does nothing.
     lengths_of_frames();
