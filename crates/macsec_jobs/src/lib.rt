@@ -1,15 +1,16 @@
 //! Slots for frames whose work of the cipher is left to other threads, over an endpoint of `macsec_ahead`.
 //!
-//! A `Slot` has one frame, the job that was planned for it, and the buffer that the job writes. A `JobKey` is a key of an
-//! endpoint that was prepared once more. The two need no endpoint, so each may be in another thread.
+//! A `Slot` has one frame, the job that was planned for it, and the buffer that the job writes. A `JobKey` is a key of
+//! an endpoint that was prepared once more. The two need no endpoint, so each may be in another thread.
 //!
-//! Proved: `plan_send` is the step of `AheadKeeper::send`, and `frame_planned` of the slot is the frame of the step's output.
-//! `seal` writes that frame, if the key is the one of the plan (`specs/Slots.antt`, `seal_fault`), and leaves the slot
-//! without a frame: so a job is sealed at most once. `finish_receive` is the step of `AheadKeeper::receive` for the frame of
-//! the slot, with any endpoint, whatever was opened before and with whatever key. Only these functions write a slot, so only
-//! what the step delivers is delivered: a slot with an opened frame keeps the key with which the frame was opened, and the
-//! endpoint uses what was opened only if it has the same key under the same number. By their types only `Slot::new` takes
-//! an allocator.
+//! Proved: `plan_send` is the step of `AheadKeeper::send`, and `frame_planned` of the slot is the frame of the
+//! step's output. `seal` writes that frame and nothing behind it, if the key is the one of the plan
+//! (`specs/Slots.antt`, `seal_fault`), and leaves the slot without a frame: so a job is sealed at most once. A slot
+//! without a frame has no octet of a key (`IsGone`, an invariant). `finish_receive` is the step of
+//! `AheadKeeper::receive` for the frame of the slot, with any endpoint, whatever was opened before and with
+//! whatever key. Only these functions write a slot, so only what the step delivers is delivered: a slot with an
+//! opened frame keeps the key with which the frame was opened, and the endpoint uses what was opened only if it has
+//! the same key under the same number. By their types only `Slot::new` takes an allocator.
 //!
 //! What a slot saves is tested, not proved: no clause says that `finish_receive` does not open a frame again.
 #![tactic(auto)]
