@@ -24,7 +24,7 @@ record HasOctetsOf (keys after : List InstalledKey) (n : ℕ) : Type 0 where
   octets : (the_key after n).bytes ≡ (the_key keys n).bytes
 
 -- no SA uses a key that is given up
-uses_it : (rows : List RxRow) (row : RxRow) (key : ℕ) → IsMember rows row → row.key ≡ key → rx_uses rows key ≡ true
+pub uses_it : (rows : List RxRow) (row : RxRow) (key : ℕ) → IsMember rows row → row.key ≡ key → rx_uses rows key ≡ true
 uses_it [] _ _ there _ = absurd there
 uses_it (r ∷ _) _ key (inl here) same = rw (eq-eqb r.key key (rw (here, same)))
 uses_it (r ∷ rows) row key (inr later) same = or_true (r.key == key) _ (uses_it rows row key later same)

@@ -266,7 +266,7 @@ last_inside [] r last = cc
 last_inside (p ∷ []) r last = ap (λ o. Some (inside_of (unwrap_or o r))) last
 last_inside (p ∷ q ∷ more) r last = last_inside (q ∷ more) r last
 
-last_there : (rs : List RunWith) → (r : RunWith) → last_of rs ≡ Some r → IsMember rs r
+pub last_there : (rs : List RunWith) → (r : RunWith) → last_of rs ≡ Some r → IsMember rs r
 last_there [] r last = cc
 last_there (p ∷ []) r last = inl cc
 last_there (p ∷ q ∷ more) r last = inr (last_there (q ∷ more) r last)

@@ -18,4 +18,6 @@ pub mod Forgetting
 mod RunsWith
 pub mod RenewingKeepers
 pub mod RenewingAhead
+mod RenewingSends
+mod RenewingOrigins
 mod OnDisk

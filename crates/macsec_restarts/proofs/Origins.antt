@@ -8,11 +8,11 @@ use Rattle.macsec_restarts.{
     Names.{[], ◌++◌, ◌∙◌, ◌∷◌, ◌≡◌, ◌≤◌, ◌⊎◌, A, AgreeOnKey, AgreeOnKeys, All, All-cons, All-contains, All-head},
     Names.{All-nil, All-tail, AllPairs, AllPairs-cons, ap, append-nil, append_assoc, AreOctets, ArePeers, AtEach, B},
     Names.{closing, comes_in, contained, Contains, End, endpoint_input, EndpointLaws, Events, get_or, Grammar},
-    Names.{Happening, IfSome, if◌then◌else◌, inl, Inputs, inr, InstalledKey, is_xpn, IsDeliveredFrom, IsFrom},
+    Names.{Happening, IfSome, if◌then◌else◌, inl, Inputs, inr, InstalledKey, is_xpn, IsDeliveredFrom},
     Names.{IsGenuineAt, IsHistory, IsMember, IsSameEnd, IsSound, iv_of, iv_of_parts, IvParts, judgement_of, Keeping},
     Names.{KeepingInput, KeepsDurable, key_row_facts, last_of, last_run, link_frame, List, map, map-append, member},
     Names.{MpduParts, no_pairs, None, one_alone, opening, Option, pairs-head, pairs-tail, reading, refl, Run, runs_of},
-    Names.{RxRow, SameSalt, sealed_in_all, sent_in_all, SentIn, Some, State, StaysSound, Strict, suc, sym, take},
+    Names.{RxRow, SameSalt, sealed_in_all, sent_in_all, SentIn, Some, State, StaysSound, Strict, subst, suc, sym, take},
     Names.{the_key, true, use_opened, use_opened_in, WasSent, zero, ℕ},
     Pushed.{at_end, closing-input, either_list, in_front, is_next, IsNext, new_input, new_run, same_runs, with_input},
     Pushed.with_last,
@@ -22,6 +22,7 @@ use Rattle.macsec_restarts.{
   specs.{Origin.{AlwaysComesFromOther, ComesFromOther}, Used.{ArePeersAtAll, ComesFromOtherAtAll, IsSoundHistory}},
 }
 use Rattle.macsec_secy.specs.{Delivers.{IsOfOtherSender, IsOpened}, Kept.KeyStaysIn}
+use Rattle.macsec_suite.specs.IvLaws.{HaveSameSender}
 use Rattle.macsec_tag.specs.Frame.{IsTagged}
 
 -- The premises on two ends of all that happens hold of each beginning of it.
@@ -207,52 +208,86 @@ sent_more sends added it = record {
 
 -- ---- an earlier run of the own end
 
--- two keys of one end, in two of its runs
-record AreOneKey (s t : State) (x y : InstalledKey) : Type 0 where
-  sci : s.config.sci ≡ t.config.sci
-  suite : x.suite ≡ y.suite
-  salt : is_xpn y.suite ≡ true → x.salt ≡ y.salt
-  ssci : is_xpn y.suite ≡ true → x.ssci ≡ y.ssci
+-- a frame that was sealed under this key, in this state
+pub record IsSealedWith (s : State) (x : SentIn) (key : InstalledKey) : Type 0 where
+  pub sound : IsSound s
+  pub there : Contains s.keys key
+  pub most : x.number ≤ last_of key.suite
+  pub iv : x.seal.iv ≡ iv_of key.suite s.config.sci key.ssci key.salt x.number
 
-not_of_earlier_run : EndpointLaws → (s t : State) (row : RxRow) (number : ℕ) (p : MpduParts) (x : SentIn) → IsSound s →
-    IsSound t → IsOfOtherSender t row →
-    number ≤ last_of (the_key t.keys row.key).suite → (from : IsFrom s x.seal x.number) →
-    AreOneKey s t from.key (the_key t.keys row.key) → x.seal ≡ use_to_open_by t row number p → ⊥
-not_of_earlier_run laws s t row number p x sound sound' of most from one asked =
-    let key = the_key t.keys row.key in
-    let facts = key_row_facts laws t key sound' of.key.there in
-    let facts' = key_row_facts laws s from.key sound from.there in
-    let own : IvParts = record { sci = s.config.sci; ssci = from.key.ssci; salt = from.key.salt; pn = x.number } in
-    let other : IvParts = record { sci = row.sci; ssci = row.ssci; salt = key.salt; pn = number } in
-    let iv : iv_of_parts key.suite own ≡ iv_of_parts key.suite other = ap (λ u. iv_of_parts u own) (sym one.suite) ∙
-    sym from.iv ∙ ap (λ u. u.iv) asked in
-    differ key.suite own other (laws.equal_ivs key.suite own other
-    (record { sci = sound.own_sci.count; ssci = facts'.ssci; salt = facts'.salt; pn = rw one.suite at from.most })
-    (record { sci = of.sci_count; ssci = of.ssci; salt = facts.salt; pn = most }) one.salt iv)
+abbrev parts_sent : State → InstalledKey → ℕ → IvParts
+parts_sent s key n = record { sci = s.config.sci; ssci = key.ssci; salt = key.salt; pn = n }
+
+abbrev parts_asked : State → RxRow → ℕ → IvParts
+parts_asked t row n = record { sci = row.sci; ssci = row.ssci; salt = (the_key t.keys row.key).salt; pn = n }
+
+-- if an SA opens it, under a key that agrees, it is from the SA's sender
+pub same_sender : EndpointLaws → (s t : State) (row : RxRow) (number : ℕ) (p : MpduParts) (x : SentIn)
+    (key : InstalledKey) → IsSealedWith s x key → IsSound t → IsOfOtherSender t row →
+    number ≤ last_of (the_key t.keys row.key).suite → AgreeOnKey key (the_key t.keys row.key) →
+    x.seal ≡ use_to_open_by t row number p →
+    HaveSameSender (the_key t.keys row.key).suite (parts_sent s key x.number) (parts_asked t row number)
+same_sender laws s t row number p x key sealed sound of most agree asked =
+    let own = the_key t.keys row.key in
+    let facts = key_row_facts laws t own sound of.key.there in
+    let facts' = key_row_facts laws s key sealed.sound sealed.there in
+    let sent = parts_sent s key x.number in
+    let iv : iv_of_parts own.suite sent ≡ iv_of_parts own.suite (parts_asked t row number) =
+    ap (λ u. iv_of_parts u sent) (sym agree.suite) ∙ sym sealed.iv ∙ ap (λ u. u.iv) asked in
+    laws.equal_ivs own.suite sent (parts_asked t row number) (record {
+      sci = sealed.sound.own_sci.count;
+      ssci = facts'.ssci;
+      salt = facts'.salt;
+      pn = rw agree.suite at sealed.most;
+    }) (record { sci = of.sci_count; ssci = of.ssci; salt = facts.salt; pn = most })
+    (λ xpn. agree.salt (rw (agree.suite, xpn))) iv
+
+-- two keys of one end, at two of its moments
+pub record AreOneKey (s t : State) (x y : InstalledKey) : Type 0 where
+  pub sci : s.config.sci ≡ t.config.sci
+  pub agree : AgreeOnKey x y
+  pub ssci : is_xpn y.suite ≡ true → x.ssci ≡ y.ssci
+
+-- so no SA opens what its own end sealed
+pub not_of_own : EndpointLaws → (s t : State) (row : RxRow) (number : ℕ) (p : MpduParts) (x : SentIn)
+    (key : InstalledKey) → IsSealedWith s x key → IsSound t → IsOfOtherSender t row →
+    number ≤ last_of (the_key t.keys row.key).suite → AreOneKey s t key (the_key t.keys row.key) →
+    x.seal ≡ use_to_open_by t row number p → ⊥
+not_of_own laws s t row number p x key sealed sound of most one asked =
+    differ (the_key t.keys row.key).suite (parts_sent s key x.number) (parts_asked t row number)
+    (same_sender laws s t row number p x key sealed sound of most one.agree asked)
     (λ xpn same. of.other_ssci xpn (sym (one.ssci xpn) ∙ same)) (λ same. of.other_sci (sym one.sci ∙ same))
 
 -- ---- what was opened was sent in a run of one of the ends
 
-sealed_before : (runs others : List Run) (s : State) (frame : List ℕ) (row : RxRow) (delivered : List ℕ) →
+pub opened_among : (sends : List SentIn) (s : State) (frame : List ℕ) (row : RxRow) (delivered : List ℕ) →
     (judgement_of s frame).row ≡ Some row → (it : IsOpened s frame row delivered) →
-    IfSome (use_opened s frame) (Contains (sealed_in_all runs ++ sealed_in_all others)) →
-    (x : SentIn) × IsMember (sent_in_all runs ++ sent_in_all others) x ×
-    (x.seal ≡ use_to_open_by s row (judgement_of s frame).number it.p)
-sealed_before runs others s frame row _ of_row it genuine =
+    IfSome (use_opened s frame) (Contains (map seal_of_sent sends)) →
+    (x : SentIn) × IsMember sends x × (x.seal ≡ use_to_open_by s row (judgement_of s frame).number it.p)
+opened_among sends s frame row _ of_row it genuine =
     let j = judgement_of s frame in
     let opening' = use_to_open_by s row j.number it.p in
     let opened : use_opened s frame ≡ Some opening' =
     ap (λ o. use_opened_in s j o (reading frame)) of_row ∙ ap (λ r. use_opened_in s j (Some row) r) it.reads ∙
     ap (λ b. if b then Some opening' else None) it.thirteen in
     let there = rw opened at genuine in
-    from_map _ _ opening' (rw (seals_of_both runs others) (member _ opening' there))
+    from_map seal_of_sent sends opening' (member (map seal_of_sent sends) opening' there)
+
+sealed_before : (runs others : List Run) (s : State) (frame : List ℕ) (row : RxRow) (delivered : List ℕ) →
+    (judgement_of s frame).row ≡ Some row → (it : IsOpened s frame row delivered) →
+    IfSome (use_opened s frame) (Contains (sealed_in_all runs ++ sealed_in_all others)) →
+    (x : SentIn) × IsMember (sent_in_all runs ++ sent_in_all others) x ×
+    (x.seal ≡ use_to_open_by s row (judgement_of s frame).number it.p)
+sealed_before runs others s frame row delivered of_row it genuine =
+    opened_among (sent_in_all runs ++ sent_in_all others) s frame row delivered of_row it
+    (subst (λ us. IfSome (use_opened s frame) (Contains us)) (sym seals_of_both) genuine)
   where
-    seals_of_both : (ps qs : List Run) → map seal_of_sent (sent_in_all ps ++ sent_in_all qs) ≡ sealed_in_all ps ++
-        sealed_in_all qs
-    seals_of_both ps qs = rw (
-      map-append seal_of_sent (sent_in_all ps) (sent_in_all qs),
-      seals_of_runs ps,
-      seals_of_runs qs,
+    seals_of_both : map seal_of_sent (sent_in_all runs ++ sent_in_all others) ≡
+        sealed_in_all runs ++ sealed_in_all others
+    seals_of_both = rw (
+      map-append seal_of_sent (sent_in_all runs) (sent_in_all others),
+      seals_of_runs runs,
+      seals_of_runs others,
     ) refl
 
 -- ---- one end, and the other
@@ -338,12 +373,15 @@ comes laws grammar runs others are run last frame octets row delivered genuine s
         by_run (inr pair) =
             let from = is.it.from in
             let agree = pair.0 from.key key from.there of.key.there (sym from.bytes ∙ bytes) in
-            not_of_earlier_run laws (closing is.run).secy s row number opened.p x (closing_sound is.run is.sound) sound
-            of most from (record {
+            not_of_own laws (closing is.run).secy s row number opened.p x from.key (record {
+              sound = closing_sound is.run is.sound;
+              there = from.there;
+              most = from.most;
+              iv = from.iv;
+            }) sound of most (record {
               sci = ap (λ c. c.sci) (own_config is.run is.sound) ∙ pair.1.sci ∙
                   ap (λ c. c.sci) (sym (own_config run sound_run));
-              suite = agree.suite;
-              salt = λ xpn. agree.salt (rw (agree.suite, xpn));
+              agree = agree;
               ssci = λ xpn. pair.1.ssci from.key key from.there of.key.there (sym from.bytes ∙ bytes)
                   (rw (agree.suite, xpn));
             }) asked

@@ -58,7 +58,7 @@ step_inside a input false is = ap (λ x. x.k) (renewing_stays a input is)
 -- ---- a run
 
 -- the inputs that reach the keeping endpoint inside
-abbrev through_renewing : Ahead → Inputs → Inputs
+abbrev pub through_renewing : Ahead → Inputs → Inputs
 through_renewing a [] = []
 through_renewing a (input ∷ inputs) =
     if lets_through a input then input ∷ through_renewing (ahead_renewing_step a input).1 inputs
@@ -68,11 +68,11 @@ abbrev inside_run : RunWith → Run
 inside_run r = record (r.run) { inputs = through_renewing (opening_of r) r.run.inputs }
 
 -- the keeping endpoint at a moment of its run is the one inside at some moment
-abbrev HasMoment : Ahead → Inputs → Inputs → ℕ → Type 0
+abbrev pub HasMoment : Ahead → Inputs → Inputs → ℕ → Type 0
 HasMoment a those inputs n =
     (m : ℕ) × (renewing_after a.k (take n those) ≡ (ahead_renewing_after a (take m inputs)).k)
 
-moment_inside : (inputs : Inputs) (a : Ahead) (n : ℕ) → HasMoment a (through_renewing a inputs) inputs n
+pub moment_inside : (inputs : Inputs) (a : Ahead) (n : ℕ) → HasMoment a (through_renewing a inputs) inputs n
 moment_inside [] a zero = (0, refl)
 moment_inside [] a (suc n) = (0, refl)
 moment_inside (input ∷ inputs) a n =

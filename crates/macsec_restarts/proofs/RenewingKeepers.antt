@@ -226,7 +226,7 @@ is_on s frame row by = by_case (sent_by (tx_options s) s.keys s.tx frame)
     by_case (inl none) = let no : None ≡ Some row = sym none ∙ by in cc
     by_case (inr on) = sym on ∙ by
 
-is_used : (s : State) (frame : List ℕ) (row : TxRow) → (sending_of s frame).by ≡ Some row → uses s row.key ≡ true
+pub is_used : (s : State) (frame : List ℕ) (row : TxRow) → (sending_of s frame).by ≡ Some row → uses s row.key ≡ true
 is_used s frame row by = by_test (tx_uses s.tx row.key) refl
   where
     by_test : (b : Bool) → tx_uses s.tx row.key ≡ b → (b || rx_uses s.rx.rows row.key) ≡ true

@@ -188,18 +188,23 @@ pairs_first R by ahead e (h ∷ more) before pairs =
     one_less R by e (runs_at ahead e before) h (runs_at ahead e (before ++ h ∷ [])) (grows ahead e before h)
     (pairs_first R by ahead e more (before ++ h ∷ []) (rw (append_assoc before (h ∷ []) more) pairs))
 
-sound_one_less : (e : End) (rs : List RunWith) (h : Happening) (after : List RunWith) → Grows e rs h after →
-    All IsSoundWith after → All IsSoundWith rs
-sound_one_less e _ _ _ (stays_as_it_is h) sounds = sounds
-sound_one_less e rs _ _ (begins_run _ _ b) sounds = first_all IsSoundWith rs _ sounds
-sound_one_less e rs _ _ (gets_input input) sounds = all_less _ input (λ r. sound_less r.ahead input r.run) rs sounds
+all_one_less : (P : RunWith → Type 0) → ((input : KeepingInput) (r : RunWith) → P (push input r) → P r) →
+    (e : End) (rs : List RunWith) (h : Happening) (after : List RunWith) → Grows e rs h after → All P after → All P rs
+all_one_less P less e _ _ _ (stays_as_it_is h) all = all
+all_one_less P less e rs _ _ (begins_run _ _ b) all = first_all P rs _ all
+all_one_less P less e rs _ _ (gets_input input) all = all_less P input (less input) rs all
+
+pub runs_first : (P : RunWith → Type 0) → ((input : KeepingInput) (r : RunWith) → P (push input r) → P r) →
+    (ahead : End → ℕ → Bool) (e : End) (more before : Events) → All P (runs_at ahead e (before ++ more)) →
+    All P (runs_at ahead e before)
+runs_first P less _ e [] before all = rw (append-nil before) at all
+runs_first P less ahead e (h ∷ more) before all =
+    all_one_less P less e (runs_at ahead e before) h (runs_at ahead e (before ++ h ∷ [])) (grows ahead e before h)
+    (runs_first P less ahead e more (before ++ h ∷ []) (rw (append_assoc before (h ∷ []) more) all))
 
 pub sound_first : (ahead : End → ℕ → Bool) (e : End) (more before : Events) →
     All IsSoundWith (runs_at ahead e (before ++ more)) → All IsSoundWith (runs_at ahead e before)
-sound_first _ e [] before sounds = rw (append-nil before) at sounds
-sound_first ahead e (h ∷ more) before sounds =
-    sound_one_less e (runs_at ahead e before) h (runs_at ahead e (before ++ h ∷ [])) (grows ahead e before h)
-    (sound_first ahead e more (before ++ h ∷ []) (rw (append_assoc before (h ∷ []) more) sounds))
+sound_first ahead e more before = runs_first IsSoundWith (λ input r. sound_less r.ahead input r.run) ahead e more before
 
 -- ---- the endpoint that forgets none
 

@@ -13,6 +13,7 @@ pub mod ForgettingOrder
 pub mod Used
 pub mod Kept
 pub mod RenewingRuns
+pub mod RenewingOrder
 pub mod ForgettingEnds
 pub mod StrictLists
 pub mod OnDisk

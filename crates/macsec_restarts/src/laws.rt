@@ -32,6 +32,7 @@ ghost use Rattle.macsec_restarts.specs.ForgettingEnds.{NeverDeliversAgainWith, R
 ghost use Rattle.macsec_restarts.specs.ForgettingEnds.{RemembersEndForgetting};
 ghost use Rattle.macsec_restarts.specs.Kept.{ComesInOrderIfKept, ComesInOrderIfRead, IsWeakerToDeliver, IsWeakerToSend};
 ghost use Rattle.macsec_restarts.specs.Kept.{PeersAtEach, RunWith};
+ghost use Rattle.macsec_restarts.specs.RenewingOrder.{ComesFromOtherRenewing};
 ghost use Rattle.macsec_restarts.specs.RenewingRuns.{AcceptsAboveIfKeptWith, IsWeakerToAcceptWith, IsWeakerWith};
 ghost use Rattle.macsec_restarts.specs.RenewingRuns.{NoIvIfUsedIsKeptRenewing, NoIvIfUsedIsKeptWith};
 ghost use Rattle.macsec_restarts.specs.RenewingRuns.{RisesIfUsedIsKeptRenewing, RisesIfUsedIsKeptWith};
@@ -443,4 +444,22 @@ pub fn rises_on_disk_renewing()
 {
     // The law that the proof cites; the call does nothing.
     keeps_history();
+}
+
+/// Origin, of endpoints that renew keys: at each moment, the other end has sent each frame that an end delivered on an
+/// SA, under the same key octets and with the same packet number. Premises: both ends are sound at each moment; and
+/// wherever the end delivers a frame on an SA, it validates strictly, the frame is octets, no ICV is forged, and the
+/// ends are peers so far: keys that SAs use in any two runs, and that have the same octets, agree, and all runs of an
+/// end have its SCI and, under an XPN suite, one own SSCI for the same key octets. Journals do not matter.
+pub fn comes_from_other_renewing()
+    ensures { (ahead : End → ℕ → Bool) (events : List Happening) → ComesFromOtherRenewing ahead events }
+{
+    // Laws that the proof cites; the calls do nothing.
+    reads_by_grammar();
+    equal_ivs();
+    keys_stay();
+    rx_rows_stay();
+    protects_frames();
+    delivers_in_time();
+    renews_keys_safely();
 }

@@ -1,0 +1,95 @@
+-- Two ends whose endpoints renew keys, and restart: origin. Each run begins beside a
+-- journal, with the option to reserve ahead of receiving or without it.
+use Rattle.std.specs.Prelude.{◌≡◌, ℕ, List, [], ◌∷◌, ◌++◌, take, Bool, true, IfSome, Contains}
+use Rattle.std.specs.List.{All, AllPairs}
+use Rattle.macsec_suite.specs.KeyRows.{InstalledKey}
+use Rattle.macsec_suite.specs.Suites.{is_xpn}
+use Rattle.macsec_commands.specs.declared.event.End.{End}
+use Rattle.macsec_commands.specs.declared.event.End.TheVariants.{A, B}
+use Rattle.macsec_commands.specs.declared.mode.Mode.TheVariants.{Strict}
+use Rattle.macsec_link.specs.World.{other_end}
+use Rattle.macsec_reserve.specs.Keeping.{KeepingInput}
+use Rattle.macsec_ahead.specs.Ahead.{Ahead}
+use Rattle.macsec_restarts.specs.AheadRuns.{newly_delivered_with}
+use Rattle.macsec_restarts.specs.Delivered.{Delivery}
+use Rattle.macsec_restarts.specs.Happenings.{AtEach, Happening, begins, comes_in, same_end}
+use Rattle.macsec_restarts.specs.Kept.{IsGenuineFrom, RunWith, last_of, runs_at}
+use Rattle.macsec_restarts.specs.Peers.{HasOctets}
+use Rattle.macsec_restarts.specs.RenewingRuns.{AgreeOnKeysWith, IsSoundRun, IsUsedIn}
+use Rattle.macsec_restarts.specs.RenewingRuns.{ahead_renewing_after}
+use Rattle.macsec_restarts.specs.RenewingRuns.{ahead_renewing_step, opening_of, sent_by_all, states_of}
+use Rattle.macsec_restarts.specs.Used.{WasSentAs}
+
+-- ---- what is delivered
+
+abbrev pub delivered_from_renewing : Ahead → List KeepingInput → List Delivery
+delivered_from_renewing a [] = []
+delivered_from_renewing a (input ∷ inputs) =
+    newly_delivered_with a input ++ delivered_from_renewing (ahead_renewing_step a input).1 inputs
+
+abbrev pub delivered_by_run : RunWith → List Delivery
+delivered_by_run r = delivered_from_renewing (opening_of r) r.run.inputs
+
+abbrev pub delivered_by_all : List RunWith → List Delivery
+delivered_by_all [] = []
+delivered_by_all (r ∷ rs) = delivered_by_run r ++ delivered_by_all rs
+
+-- the endpoint after the run
+abbrev pub closing_renewing : RunWith → Ahead
+closing_renewing r = ahead_renewing_after (opening_of r) r.run.inputs
+
+-- ---- the premises on both ends
+
+-- two runs of one end: the same SCI and, under an XPN suite, the same own SSCI for the same key octets, if SAs use
+-- the keys
+pub record IsSameEndWith (r later : RunWith) : Type 0 where
+  pub sci : r.run.config.sci ≡ later.run.config.sci
+  pub ssci : (x y : InstalledKey) → IsUsedIn (states_of r) x → IsUsedIn (states_of later) y → x.bytes ≡ y.bytes →
+      is_xpn x.suite ≡ true → x.ssci ≡ y.ssci
+
+-- keys with the same octets agree in all runs of both ends, and all runs of an end have its SCI and own SSCIs. Only
+-- keys that SAs use matter
+pub record ArePeersRenewing (ra rb : List RunWith) : Type 0 where
+  pub agree_a : AllPairs AgreeOnKeysWith ra
+  pub agree_b : AllPairs AgreeOnKeysWith rb
+  pub agree : All (λ r. All (AgreeOnKeysWith r) rb) ra
+  pub one_a : AllPairs IsSameEndWith ra
+  pub one_b : AllPairs IsSameEndWith rb
+
+-- a frame of octets whose ICV is not forged, and peers so far
+pub record IsFromPeers (ra rb : List RunWith) (a : Ahead) (h : Happening) (input : KeepingInput) : Type 0 where
+  pub octets : HasOctets h
+  pub genuine : IsGenuineFrom (sent_by_all ra ++ sent_by_all rb) a input
+  pub peers : ArePeersRenewing ra rb
+
+-- what is asked of the last run of an end, wherever an input of it comes in
+abbrev pub AskedOfLast : (End → ℕ → Bool) → End → (List Happening → RunWith → KeepingInput → Type 0) →
+    List Happening → Happening → Type 0
+AskedOfLast ahead e Asked before (begins f config journal) = Unit {0}
+AskedOfLast ahead e Asked before (comes_in f input) =
+    same_end e f ≡ true → IfSome (last_of (runs_at ahead e before)) (λ r. Asked before r input)
+
+-- ---- origin
+
+-- where the input delivers a frame from an SA, the end validates strictly
+pub record IsFromPeersStrictly (ra rb : List RunWith) (a : Ahead) (h : Happening) (input : KeepingInput) : Type 0 where
+  pub strict : a.k.secy.options.mode ≡ Strict
+  pub from : IsFromPeers ra rb a h input
+
+abbrev pub IsOriginAt : (End → ℕ → Bool) → End → List Happening → RunWith → KeepingInput → Type 0
+IsOriginAt ahead e before r input =
+    (d : Delivery) → Contains (newly_delivered_with (closing_renewing r) input) d →
+    IsFromPeersStrictly (runs_at ahead A before) (runs_at ahead B before) (closing_renewing r) (comes_in e input) input
+
+-- the other end sent each frame that an end delivered on an SA, under the same key octets and with the same packet
+-- number
+abbrev pub ComesFromOtherWith : (End → ℕ → Bool) → End → List Happening → Type 0
+ComesFromOtherWith ahead e events =
+    All (WasSentAs (sent_by_all (runs_at ahead (other_end e) events))) (delivered_by_all (runs_at ahead e events))
+
+-- at each moment
+abbrev pub ComesFromOtherRenewing : (End → ℕ → Bool) → List Happening → Type 0
+ComesFromOtherRenewing ahead events =
+    (e : End) → ((f : End) → All IsSoundRun (runs_at ahead f events)) →
+    AtEach (AskedOfLast ahead e (IsOriginAt ahead e)) [] events →
+    (k : ℕ) → ComesFromOtherWith ahead e (take k events)
