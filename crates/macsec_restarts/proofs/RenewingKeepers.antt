@@ -417,7 +417,7 @@ seals_renewing_in_all (run ∷ runs) = rw (
   seals_renewing_in_all runs,
 )
 
-across_seals : (xs ys : List SentIn) → All (λ x. All (OtherSeal x) ys) xs →
+pub across_seals : (xs ys : List SentIn) → All (λ x. All (OtherSeal x) ys) xs →
     All (λ u. All (HasOtherIv u) (map seal_of ys)) (map seal_of xs)
 across_seals xs ys across = All-map (λ u. All (HasOtherIv u) (map seal_of ys)) seal_of xs
     (All-weaker (λ x. All (OtherSeal x) ys) (λ x. All (HasOtherIv x.seal) (map seal_of ys))

@@ -1,5 +1,7 @@
 -- What the runs of an endpoint that renews keys send: the key of each frame at its moment, and the key of its octets
 -- later.
+use Rattle.macsec_link.proofs.Seals.{are_own_parts, own_parts}
+use Rattle.macsec_link.proofs.EndpointLaws.{differ}
 use Rattle.macsec_reserve.specs.{
   Forgetting.as_taken,
   Renewing.{forgetting_refusal, unless_refused as unless_not_taken},
@@ -8,20 +10,24 @@ use Rattle.macsec_reserve.specs.{
 use Rattle.macsec_restarts.{
   proofs.{
     AheadForgets.forgets_field,
-    Names.{[], ◌∙◌, ◌∷◌, ◌≡◌, ◌≤◌, Ahead, All, All-append, All-head, All-nil, All-tail, All-weaker, ap, Bool},
-    Names.{Contains, endpoint_input, EndpointLaws, false, if◌then◌else◌, inl, Inputs, inr, InstalledKey, IsMember},
-    Names.{IsSound, iv_of, Keeping, keeping_step, KeepingInput, Key, last_of, lets_through, List, newly_sent, None},
-    Names.{operator_command, Option, refl, Refusal, retired_by, RunWith, SentIn, Some, subst, suc, sym, take, taken},
+    Forgetting.OtherSeal,
+    Names.{[], ◌∙◌, ◌∷◌, ◌≡◌, ◌≤◌, Ahead, All, All-append, All-contains, All-head, All-nil, All-tail, All-weaker, ap},
+    Names.{Bool, contained, Contains, endpoint_input, EndpointLaws, false, get_or, HasOtherIv, if◌then◌else◌, inl},
+    Names.{Inputs, inr, InstalledKey, IsMember, IsSound, iv_of, iv_of_parts, IvParts, Keeping, keeping_step},
+    Names.{KeepingInput, Key, last_of, lets_through, List, map, newly_sent, None, operator_command, Option},
+    Names.{pairs-append, refl, Refusal, retired_by, RunWith, seal_of, SentIn, Some, subst, suc, sym, take, taken},
     Names.{the_key, true, ℕ},
-    RenewingAhead.{moment_inside, renewing_stays, renews_inside, through_renewing},
-    RenewingKeepers.{is_used, RenewingLaws},
+    RenewingAhead.{moment_inside, no_iv_if_used_is_kept_with, renewing_stays, renews_inside, through_renewing},
+    RenewingKeepers.{across_seals, is_used, RenewingLaws},
     Sends.{each_new, is_new, IsNew, keys_stay},
   },
+  specs.RenewingOrder.{AreOfTwoEndsWith, NoIvAtBothRenewing},
   specs.RenewingRuns.{ahead_renewing_after, ahead_renewing_step, IsSoundRun, IsUsedIn, opening_of, sent_by_all},
   specs.RenewingRuns.{sent_by_run, sent_from_renewing, states_of},
 }
 use Rattle.macsec_secy.specs.{Commands.uses, Kept.IsLaterKey, Protects.OpensAs}
 use Rattle.macsec_suite.specs.{
+  IvLaws.AreIvParts,
   KeyRows.key_row,
   declared.{key_row.NewKey.NewKey, suite.Suite.Suite},
 }
@@ -191,3 +197,40 @@ by_runs laws (r ∷ rs) sounds =
 pub used_then : (r : RunWith) {x : SentIn} (it : IsSentThen (opening_of r) r.run.inputs x) →
     IsUsedIn (states_of r) it.key
 used_then r it = record { moment = it.moment; there = it.there; used = it.used }
+
+-- ---- at both ends
+
+differ_across : EndpointLaws → (r q : RunWith) → AreOfTwoEndsWith r q → (x y : SentIn) →
+    IsSentThen (opening_of r) r.run.inputs x → IsSentThen (opening_of q) q.run.inputs y → OtherSeal x y
+differ_across laws r q two x y it other bytes iv =
+    let s = states_of r it.moment in
+    let t = states_of q other.moment in
+    let same = two.keys it.key other.key (used_then r it) (used_then q other) (sym it.bytes ∙ bytes ∙ other.bytes) in
+    let suite = it.key.suite in
+    let own : IvParts = own_parts s it.key x.number in
+    let theirs : IvParts = own_parts t other.key y.number in
+    let equal : iv_of_parts suite own ≡ iv_of_parts suite theirs =
+    sym it.iv ∙ iv ∙ other.iv ∙ ap (λ u. iv_of_parts u theirs) (sym same.agree.suite) in
+    differ suite own theirs (laws.equal_ivs suite own theirs
+    (are_own_parts laws s it.key x.number (it.sound 0) it.there it.most)
+    (subst (λ (u : Suite). AreIvParts u theirs) (sym same.agree.suite)
+    (are_own_parts laws t other.key y.number (other.sound 0) other.there other.most)) same.agree.salt equal)
+    same.ssci (λ scis. two.sci (ap (λ c. c.sci) (sym it.config) ∙ scis ∙ ap (λ c. c.sci) other.config))
+
+pub no_iv_at_both_renewing : EndpointLaws → RenewingLaws → (ra rb : List RunWith) → NoIvAtBothRenewing ra rb
+no_iv_at_both_renewing laws renews ra rb a b two =
+    pairs-append HasOtherIv (map seal_of (sent_by_all ra)) (map seal_of (sent_by_all rb))
+    (no_iv_if_used_is_kept_with laws renews ra a.sound a.agree a.keeps)
+    (no_iv_if_used_is_kept_with laws renews rb b.sound b.agree b.keeps)
+    (across_seals (sent_by_all ra) (sent_by_all rb) across)
+  where
+    one_of : (r q : RunWith) → IsMember ra r → IsMember rb q → AreOfTwoEndsWith r q
+    one_of r q among among' = All-contains (AreOfTwoEndsWith r) rb q
+        (All-contains (λ p. All (AreOfTwoEndsWith p) rb) ra r two (contained ra r among)) (contained rb q among')
+
+    across : All (λ x. All (OtherSeal x) (sent_by_all rb)) (sent_by_all ra)
+    across i d within j e within' =
+        let is = by_runs laws ra a.sound i d within in
+        let is' = by_runs laws rb b.sound j e within' in
+        differ_across laws is.run is'.run (one_of is.run is'.run is.among is'.among)
+        (get_or (sent_by_all ra) i d) (get_or (sent_by_all rb) j e) is.it is'.it

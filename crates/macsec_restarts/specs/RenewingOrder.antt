@@ -1,6 +1,6 @@
--- Two ends whose endpoints renew keys, and restart: origin. Each run begins beside a
+-- Two ends whose endpoints renew keys, and restart: no IV at both ends, and origin. Each run begins beside a
 -- journal, with the option to reserve ahead of receiving or without it.
-use Rattle.std.specs.Prelude.{◌≡◌, ℕ, List, [], ◌∷◌, ◌++◌, take, Bool, true, IfSome, Contains}
+use Rattle.std.specs.Prelude.{◌≡◌, ◌≢◌, ℕ, List, [], ◌∷◌, ◌++◌, map, take, Bool, true, IfSome, Contains}
 use Rattle.std.specs.List.{All, AllPairs}
 use Rattle.macsec_suite.specs.KeyRows.{InstalledKey}
 use Rattle.macsec_suite.specs.Suites.{is_xpn}
@@ -9,16 +9,39 @@ use Rattle.macsec_commands.specs.declared.event.End.TheVariants.{A, B}
 use Rattle.macsec_commands.specs.declared.mode.Mode.TheVariants.{Strict}
 use Rattle.macsec_link.specs.World.{other_end}
 use Rattle.macsec_reserve.specs.Keeping.{KeepingInput}
+use Rattle.macsec_reserve.specs.TwoEnds.{AgreeAtBoth}
+use Rattle.macsec_reserve.specs.Unique.{HasOtherIv}
 use Rattle.macsec_ahead.specs.Ahead.{Ahead}
 use Rattle.macsec_restarts.specs.AheadRuns.{newly_delivered_with}
 use Rattle.macsec_restarts.specs.Delivered.{Delivery}
 use Rattle.macsec_restarts.specs.Happenings.{AtEach, Happening, begins, comes_in, same_end}
 use Rattle.macsec_restarts.specs.Kept.{IsGenuineFrom, RunWith, last_of, runs_at}
 use Rattle.macsec_restarts.specs.Peers.{HasOctets}
-use Rattle.macsec_restarts.specs.RenewingRuns.{AgreeOnKeysWith, IsSoundRun, IsUsedIn}
+use Rattle.macsec_restarts.specs.RenewingRuns.{AgreeOnKeysWith, IsSoundRun, IsUsedIn, KeepsUsedWith}
 use Rattle.macsec_restarts.specs.RenewingRuns.{ahead_renewing_after}
 use Rattle.macsec_restarts.specs.RenewingRuns.{ahead_renewing_step, opening_of, sent_by_all, states_of}
-use Rattle.macsec_restarts.specs.Used.{WasSentAs}
+use Rattle.macsec_restarts.specs.Used.{WasSentAs, seal_of}
+
+-- ---- no IV at both ends
+
+-- a run of one end and a run of the other: their SCIs differ, and keys with the same octets that SAs use agree; under
+-- an XPN suite their own SSCIs differ
+pub record AreOfTwoEndsWith (r other : RunWith) : Type 0 where
+  pub sci : r.run.config.sci ≢ other.run.config.sci
+  pub keys : (x y : InstalledKey) → IsUsedIn (states_of r) x → IsUsedIn (states_of other) y → x.bytes ≡ y.bytes →
+      AgreeAtBoth x y
+
+-- the premises under which one end repeats no IV
+pub record IsHistoryWith (rs : List RunWith) : Type 0 where
+  pub sound : All IsSoundRun rs
+  pub agree : AllPairs AgreeOnKeysWith rs
+  pub keeps : AllPairs KeepsUsedWith rs
+
+-- then no two frames of both ends have the same key octets and the same IV
+abbrev pub NoIvAtBothRenewing : List RunWith → List RunWith → Type 0
+NoIvAtBothRenewing ra rb =
+    IsHistoryWith ra → IsHistoryWith rb → All (λ r. All (AreOfTwoEndsWith r) rb) ra →
+    AllPairs HasOtherIv (map seal_of (sent_by_all ra) ++ map seal_of (sent_by_all rb))
 
 -- ---- what is delivered
 

@@ -32,7 +32,7 @@ ghost use Rattle.macsec_restarts.specs.ForgettingEnds.{NeverDeliversAgainWith, R
 ghost use Rattle.macsec_restarts.specs.ForgettingEnds.{RemembersEndForgetting};
 ghost use Rattle.macsec_restarts.specs.Kept.{ComesInOrderIfKept, ComesInOrderIfRead, IsWeakerToDeliver, IsWeakerToSend};
 ghost use Rattle.macsec_restarts.specs.Kept.{PeersAtEach, RunWith};
-ghost use Rattle.macsec_restarts.specs.RenewingOrder.{ComesFromOtherRenewing};
+ghost use Rattle.macsec_restarts.specs.RenewingOrder.{ComesFromOtherRenewing, NoIvAtBothRenewing};
 ghost use Rattle.macsec_restarts.specs.RenewingRuns.{AcceptsAboveIfKeptWith, IsWeakerToAcceptWith, IsWeakerWith};
 ghost use Rattle.macsec_restarts.specs.RenewingRuns.{NoIvIfUsedIsKeptRenewing, NoIvIfUsedIsKeptWith};
 ghost use Rattle.macsec_restarts.specs.RenewingRuns.{RisesIfUsedIsKeptRenewing, RisesIfUsedIsKeptWith};
@@ -444,6 +444,21 @@ pub fn rises_on_disk_renewing()
 {
     // The law that the proof cites; the call does nothing.
     keeps_history();
+}
+
+/// No IV at both ends, of endpoints that renew keys, each run with the option or without it. Premises: each end meets
+/// the premises of `no_iv_if_used_is_kept_renewing`; the ends' SCIs differ; and keys that SAs use at both ends, and
+/// that have the same octets, agree and, under an XPN suite, have different own SSCIs.
+pub fn no_iv_at_both_renewing()
+    ensures { (ra rb : List RunWith) → NoIvAtBothRenewing ra rb }
+{
+    // Laws that the proof cites; the calls do nothing.
+    equal_ivs();
+    keys_stay();
+    rx_rows_stay();
+    protects_frames();
+    delivers_in_time();
+    renews_keys_safely();
 }
 
 /// Origin, of endpoints that renew keys: at each moment, the other end has sent each frame that an end delivered on an

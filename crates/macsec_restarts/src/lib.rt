@@ -35,6 +35,7 @@
 //! - `no_iv_if_used_is_kept_renewing`: over all runs no two frames are sealed with the same key octets and the same IV.
 //! - `numbers_rise_if_used_is_kept_renewing`: the packet numbers that are used under the octets of a key rise.
 //! - `accepts_above_if_kept_renewing`: a later run accepts only higher packet numbers than an earlier run accepted.
+//! - `no_iv_at_both_renewing`: over all runs of both ends no two frames have the same key octets and the same IV.
 //! - `comes_from_other_renewing`: what a strictly validating end delivers from an SA was sent before by the other end,
 //!   whatever the journals are.
 //!
