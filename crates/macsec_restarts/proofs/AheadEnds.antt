@@ -459,7 +459,7 @@ abbrev pub past_of : Ahead → ℕ → Sci → ℕ → ℕ
 past_of a key sci an = max (row_end (rx_row a.k.secy.rx.rows sci an) key) (end_of a.ended key sci an)
 
 -- the same step of a keeping endpoint
-keeping_row_step : (k : Keeping) (input : Input) (sci : Sci) (an : ℕ) →
+pub keeping_row_step : (k : Keeping) (input : Input) (sci : Sci) (an : ℕ) →
     RowStep input (rx_row k.secy.rx.rows sci an) (rx_row (keeping_step k (endpoint_input input)).1.secy.rx.rows sci an)
 keeping_row_step k input sci an =
     by_keeping (λ s. RowStep input (rx_row k.secy.rx.rows sci an) (rx_row s.rx.rows sci an)) k input
@@ -471,7 +471,7 @@ ahead_row_step a input sci an =
     by_inside (λ k. RowStep input (rx_row a.k.secy.rx.rows sci an) (rx_row k.secy.rx.rows sci an)) a
     (endpoint_input input) (still input (rx_row a.k.secy.rx.rows sci an)) (keeping_row_step a.k input sci an)
 
-past_by : (input : Input) (o o' : Option RxRow) (key : ℕ) (old new : ℕ) → RowStep input o o' → old ≤ new →
+pub past_by : (input : Input) (o o' : Option RxRow) (key : ℕ) (old new : ℕ) → RowStep input o o' → old ≤ new →
     ((row : RxRow) → o ≡ Some row → o' ≡ None → row.key ≡ key → end_of_row row ≤ new) →
     max (row_end o key) old ≤ max (row_end o' key) new
 past_by _ None _ _ _ _ stepped grows ended = omega (arith, grows)
@@ -511,6 +511,14 @@ past_step a (endpoint_input input) key sci an keeps = by_ends (ends_step a (endp
     by_ends (inr grows) = inr (past_by input (rx_row a.k.secy.rx.rows sci an) (rx_row after.k.secy.rx.rows sci an) key
         (end_of a.ended key sci an) (end_of after.ended key sci an) (ahead_row_step a input sci an) grows ended)
 
+-- a first PN that is not refused
+pub first_new : (first last : ℕ) → 1 ≤ first → (nat_lt 0 first && nat_le first last) ≡ false → last < first
+first_new first last least new = by_part (and_cases (nat_lt 0 first) (nat_le first last) new)
+  where
+    by_part : (nat_lt 0 first ≡ false) ⊎ (nat_le first last ≡ false) → last < first
+    by_part (inl none') = absurd (omega (arith, least, ltb-false 0 first none'))
+    by_part (inr above') = leb-false first last above'
+
 -- an SA that a step creates begins above what may have been accepted from it under its key
 pub created_above : (a : Ahead) (input : KeepingInput) (sci : Sci) (an : ℕ) (row : RxRow) →
     rx_row a.k.secy.rx.rows sci an ≡ None →
@@ -531,10 +539,3 @@ created_above a (endpoint_input input) sci an row none there lets =
     not_again : (again : Bool) (it : Standing) → is_through again it ≡ true → again ≡ false
     not_again true _ is = cc
     not_again false _ _ = refl
-
-    first_new : (first last : ℕ) → 1 ≤ first → (nat_lt 0 first && nat_le first last) ≡ false → last < first
-    first_new first last least new = by_part (and_cases (nat_lt 0 first) (nat_le first last) new)
-      where
-        by_part : (nat_lt 0 first ≡ false) ⊎ (nat_le first last ≡ false) → last < first
-        by_part (inl none') = absurd (omega (arith, least, ltb-false 0 first none'))
-        by_part (inr above') = leb-false first last above'

@@ -70,7 +70,7 @@ module _ (laws : EndpointLaws) where
       let one = apart.by_bytes (the_key s.keys n) (the_key s.keys m) first.there second.there same in
       rw (← first.number, one, second.number)
 
-  row_key : (s : State) → IsSound s → (sci : Sci) (an : ℕ) (row : RxRow) → rx_row s.rx.rows sci an ≡ Some row →
+  pub row_key : (s : State) → IsSound s → (sci : Sci) (an : ℕ) (row : RxRow) → rx_row s.rx.rows sci an ≡ Some row →
       IsSome (key_row s.keys row.key)
   row_key s sound sci an row there = All-contains (λ r. IsSome (key_row s.keys r.key)) _ row sound.rx_keys
       (contained _ row (found_row sci an _ row there))

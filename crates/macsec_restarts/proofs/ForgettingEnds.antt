@@ -27,7 +27,7 @@ use Rattle.macsec_secy.proofs.GivenUp.{stays_replaced}
 -- ---- what forgetting leaves
 
 -- the receive SAs are those of the keeping endpoint's step
-same_rx : (k : Keeping) (input : KeepingInput) →
+pub same_rx : (k : Keeping) (input : KeepingInput) →
     (forgetting_step k input).1.secy.rx ≡ (keeping_step k (taken k input)).1.secy.rx
 same_rx k input = forgets_field (λ x. x.secy.rx) (λ x n. refl) (retired_by input) (keeping_step k (taken k input))
 
@@ -41,7 +41,7 @@ still_given_up (Some n) answer m up = by_both _
     by_both true = stays_replaced _ m n _ up
     by_both false = up
 
-given_up_forgetting : (k : Keeping) (input : KeepingInput) (n : ℕ) → IsGivenUp k.secy n →
+pub given_up_forgetting : (k : Keeping) (input : KeepingInput) (n : ℕ) → IsGivenUp k.secy n →
     IsGivenUp (forgetting_step k input).1.secy n
 given_up_forgetting k _ n up = still_given_up _ _ n (keeps_given_up k _ n up)
 
@@ -61,7 +61,7 @@ gives_up k (Retire n) = λ done'.
     still_given_up (Some n) (keeping_step k (endpoint_input (operator_command (Retire n)))) n (retires k n done')
 gives_up k c = tt
 
-forgetting_ends_step : (a : Ahead) (input : KeepingInput) (key : ℕ) (sci : Sci) (an : ℕ) →
+pub forgetting_ends_step : (a : Ahead) (input : KeepingInput) (key : ℕ) (sci : Sci) (an : ℕ) →
     StaysUnless a (ahead_forgetting_step a input).1 key sci an
 forgetting_ends_step a (now_durable r) key sci an = ends_step a (now_durable r) key sci an
 forgetting_ends_step a (endpoint_input (operator_command c)) key sci an =

@@ -20,4 +20,7 @@ pub mod RenewingKeepers
 pub mod RenewingAhead
 mod RenewingSends
 mod RenewingOrigins
+mod RenewingKeys
+mod RenewingPast
+mod RenewingOrder
 mod OnDisk

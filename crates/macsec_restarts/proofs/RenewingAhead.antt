@@ -35,7 +35,7 @@ use Rattle.macsec_suite.specs.declared.key_row.NewKey.{NewKey}
 
 -- ---- a step takes the step of the keeping endpoint inside, or nothing changes
 
-renewed_inside : (r : Option Refusal) (key : NewKey) (a : Ahead) →
+pub renewed_inside : (r : Option Refusal) (key : NewKey) (a : Ahead) →
     (unless_refused r key a).k ≡ unless_not_taken r (as_taken a.k key) a.k
 renewed_inside None key a = refl
 renewed_inside (Some r) key a = refl

@@ -113,7 +113,7 @@ by_input stay s input sci an row later false kept there there' =
 by_input _ s (operator_command c) sci an _ _ true deleted there there' = deleted_by s c sci an deleted there there'
 by_input stay s _ _ _ _ _ true deleted there there' = cc
 
-next_stays : RowsStay → (k : Keeping) (input : KeepingInput) (sci : Sci) (an : ℕ) (row later : RxRow) →
+pub next_stays : RowsStay → (k : Keeping) (input : KeepingInput) (sci : Sci) (an : ℕ) (row later : RxRow) →
     rx_row k.secy.rx.rows sci an ≡ Some row →
     rx_row (keeping_step k input).1.secy.rx.rows sci an ≡ Some later → row.next ≤ later.next
 next_stays _ k (now_durable r) sci an row later there = stays_there row later _ sci an there
@@ -438,24 +438,18 @@ at_most_one k (endpoint_input (link_frame frame)) = by_delivery (frame_fault fra
     by_delivery f o d = no_pairs Before
 at_most_one k _ = no_pairs Before
 
-module _ (laws : EndpointLaws) (fresh : Fresh) (bytes : List ℕ) (sci : Sci) (an : ℕ) where
-  abbrev pub name_in : List ℕ → List ℕ
-  name_in journal = receiving_name (sending_name (salt_of journal) bytes) sci an
-
-  pub record IsPlaced (run : Run) (after : State) (g : Delivery) : Type 0 where
-    pub later : (n : ℕ) → IsBelowNext (closing run).secy bytes sci an n → n < g.number
-    pub saved : highest (reservations run.journal) (name_in run.journal) < g.number
+module _ (laws : EndpointLaws) (bytes : List ℕ) (sci : Sci) (an : ℕ) where
+  -- above each number that is below the SA's next one, which is above it afterwards
+  pub record IsPlacedAt (s after : State) (g : Delivery) : Type 0 where
+    pub later : (n : ℕ) → IsBelowNext s bytes sci an n → n < g.number
     pub above : IsAbove after.rx.rows sci an (g.number + 1)
 
-  placed : (run : Run) → IsSound (closing run).secy → HasStrictOrder (closing run).secy →
-      (input : KeepingInput) (g : Delivery) →
-      IsGiven (closing run).secy input g → g.bytes ≡ bytes → g.sci ≡ sci → g.an ≡ an →
-      IsPlaced run (keeping_step (closing run) input).1.secy g
-  placed run sound order _ _ (is_given frame row delivered fits of_row delivers) is_bytes is_sci is_an =
-      let k = closing run in
+  pub placed_at : (k : Keeping) → IsSound k.secy → HasStrictOrder k.secy → (input : KeepingInput) (g : Delivery) →
+      IsGiven k.secy input g → g.bytes ≡ bytes → g.sci ≡ sci → g.an ≡ an →
+      IsPlacedAt k.secy (keeping_step k input).1.secy g
+  placed_at k sound order _ _ (is_given frame row delivered fits of_row delivers) is_bytes is_sci is_an =
       let s = k.secy in
       let tells = laws.delivers s frame row delivered sound of_row delivers in
-      let name : row_name (salt_of run.journal) s row ≡ name_in run.journal = rw (is_bytes, is_sci, is_an) in
       let place : rx_row s.rx.rows sci an ≡ Some row =
       rw (← is_an) (subst (λ x. rx_row s.rx.rows x row.an ≡ Some row) is_sci tells.at_place) in
       let stepped : IsAbove (step s (link_frame frame)).1.rx.rows row.sci row.an ((judgement_of s frame).number + 1) =
@@ -470,8 +464,31 @@ module _ (laws : EndpointLaws) (fresh : Fresh) (bytes : List ℕ) (sci : Sci) (a
           order.window,
           tells.on_time order.replay,
         );
-        saved = rw name at (fresh run run.inputs frame row delivered order.replay of_row delivers);
         above = rw (received_step k frame) ours;
+      }
+
+module _ (laws : EndpointLaws) (fresh : Fresh) (bytes : List ℕ) (sci : Sci) (an : ℕ) where
+  abbrev pub name_in : List ℕ → List ℕ
+  name_in journal = receiving_name (sending_name (salt_of journal) bytes) sci an
+
+  pub record IsPlaced (run : Run) (after : State) (g : Delivery) : Type 0 where
+    pub later : (n : ℕ) → IsBelowNext (closing run).secy bytes sci an n → n < g.number
+    pub saved : highest (reservations run.journal) (name_in run.journal) < g.number
+    pub above : IsAbove after.rx.rows sci an (g.number + 1)
+
+  placed : (run : Run) → IsSound (closing run).secy → HasStrictOrder (closing run).secy →
+      (input : KeepingInput) (g : Delivery) →
+      IsGiven (closing run).secy input g → g.bytes ≡ bytes → g.sci ≡ sci → g.an ≡ an →
+      IsPlaced run (keeping_step (closing run) input).1.secy g
+  placed run sound order input g (is_given frame row delivered fits of_row delivers) is_bytes is_sci is_an =
+      let it = placed_at laws bytes sci an (closing run) sound order input g
+      (is_given frame row delivered fits of_row delivers) is_bytes is_sci is_an in
+      let name : row_name (salt_of run.journal) (closing run).secy row ≡ name_in run.journal =
+      rw (is_bytes, is_sci, is_an) in
+      record {
+        later = it.later;
+        saved = rw name at (fresh run run.inputs frame row delivered order.replay of_row delivers);
+        above = it.above;
       }
 
   pub all_placed : (run : Run) → IsSound (closing run).secy → (input : KeepingInput) →

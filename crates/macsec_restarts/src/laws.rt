@@ -32,7 +32,9 @@ ghost use Rattle.macsec_restarts.specs.ForgettingEnds.{NeverDeliversAgainWith, R
 ghost use Rattle.macsec_restarts.specs.ForgettingEnds.{RemembersEndForgetting};
 ghost use Rattle.macsec_restarts.specs.Kept.{ComesInOrderIfKept, ComesInOrderIfRead, IsWeakerToDeliver, IsWeakerToSend};
 ghost use Rattle.macsec_restarts.specs.Kept.{PeersAtEach, RunWith};
-ghost use Rattle.macsec_restarts.specs.RenewingOrder.{ComesFromOtherRenewing, NoIvAtBothRenewing};
+ghost use Rattle.macsec_restarts.specs.RenewingOrder.{ComesFromOtherRenewing, ComesInOrderIfKeptRenewing};
+ghost use Rattle.macsec_restarts.specs.RenewingOrder.{ComesInOrderIfReadRenewing, IsWeakerToDeliverWith};
+ghost use Rattle.macsec_restarts.specs.RenewingOrder.{IsWeakerToSendWith, NoIvAtBothRenewing, PeersAtEachRenewing};
 ghost use Rattle.macsec_restarts.specs.RenewingRuns.{AcceptsAboveIfKeptWith, IsWeakerToAcceptWith, IsWeakerWith};
 ghost use Rattle.macsec_restarts.specs.RenewingRuns.{NoIvIfUsedIsKeptRenewing, NoIvIfUsedIsKeptWith};
 ghost use Rattle.macsec_restarts.specs.RenewingRuns.{RisesIfUsedIsKeptRenewing, RisesIfUsedIsKeptWith};
@@ -44,7 +46,8 @@ ghost use Rattle.macsec_restarts.specs.Used.{RisesIfUsedIsKept, NoIvIfUsedIsKept
 
 use macsec_journal::laws::keeps_history;
 use macsec_reserve::laws::{
-    delivers_above, forgets_alike, renews_keys_safely, repeats_no_iv_at_both, saves_accepted,
+    delivers_above, forgets_alike, refuses_forgotten_keys, renewing_gives_up_octets,
+    renews_keys_safely, repeats_no_iv_at_both, saves_accepted,
 };
 use macsec_secy::laws::{accepts_sent, delivers_in_time, keys_stay, protects_frames, rx_rows_stay};
 use macsec_suite::laws::equal_ivs;
@@ -476,5 +479,32 @@ pub fn comes_from_other_renewing()
     rx_rows_stay();
     protects_frames();
     delivers_in_time();
+    renews_keys_safely();
+}
+
+/// `comes_in_order_if_kept` for endpoints that renew keys: at each moment, what an end delivered over all runs under
+/// the octets of a key, from one SCI and association number, is with its packet numbers a subsequence of what the other
+/// end sent under them. Premises: those of `comes_from_other_renewing`, and strict order, wherever the end delivers
+/// from this SA; and each later run reads what was delivered before from the SA, if it delivers from it, and what was
+/// sent before under the key octets, if it sends under them (`kept`). What was reported durable need not be read; but
+/// it suffices (`sends`, `delivers`), for any two runs, of the receiver if the earlier one had the option (`read`).
+/// Other names may be lost. It is enough that the ends are peers in the end (`peers`).
+pub fn comes_in_order_if_kept_renewing()
+    ensures kept { (ahead : End → ℕ → Bool) (events : List Happening) → ComesInOrderIfKeptRenewing ahead events }
+    ensures read { (ahead : End → ℕ → Bool) (events : List Happening) → ComesInOrderIfReadRenewing ahead events }
+    ensures sends { (bytes : List ℕ) (r later : RunWith) → IsWeakerToSendWith bytes r later }
+    ensures delivers { (bytes : List ℕ) (sci : Sci) (an : ℕ) (r later : RunWith) →
+        IsWeakerToDeliverWith bytes sci an r later }
+    ensures peers { (ahead : End → ℕ → Bool) (events : List Happening) → PeersAtEachRenewing ahead events }
+{
+    // Laws that the proof cites; the calls do nothing.
+    reads_by_grammar();
+    equal_ivs();
+    keys_stay();
+    rx_rows_stay();
+    protects_frames();
+    delivers_in_time();
+    refuses_forgotten_keys();
+    renewing_gives_up_octets();
     renews_keys_safely();
 }

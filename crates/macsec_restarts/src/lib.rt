@@ -38,6 +38,7 @@
 //! - `no_iv_at_both_renewing`: over all runs of both ends no two frames have the same key octets and the same IV.
 //! - `comes_from_other_renewing`: what a strictly validating end delivers from an SA was sent before by the other end,
 //!   whatever the journals are.
+//! - `comes_in_order_if_kept_renewing`: it is delivered in the order of sending, each frame at most once.
 //!
 //! Proved over the journal of `macsec_journal`, on a disk that fails: `rises_on_disk`, what a later run sends and
 //! accepts has higher packet numbers, whatever other names were let go; also of endpoints that renew keys
