@@ -145,7 +145,7 @@ CHECKS: list[Check] = [
           hand="--minutes 2 --mistakes --seed {seed}"),
     Check("macsecd", "runs the device in network namespaces", "device/tests/macsecd", ROOT_USER, 60,
           "the check macsecd-controls", gate="--short --seed {seed}", hand="--seed {seed}"),
-    Check("workers", "sends frames through the device's workers in one process, and joins frames, under sanitizers",
+    Check("workers", "sends frames through the workers, and joins frames, under sanitizers; tries all schedules",
           "device/tests/workers", LIBRARY, 20, "workers, rings and segments with mistakes (--mistakes)",
           test="--short --library {library} --seed {seed}", gate="--seed {seed}", hand="--mistakes --seed {seed}"),
     Check("macsecd-workers", "passes frames through the device with no worker and with one", "device/tests/macsecd",
