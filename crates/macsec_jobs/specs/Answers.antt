@@ -1,5 +1,6 @@
 -- The results of the calls of a slot, as outputs of its endpoint.
-use Rattle.std.specs.Prelude.{◌≡◌, ℕ, List, take, Bool, true, false, Option, Some, None, IfSome, option_map, Result, Ok, Err}
+use Rattle.std.specs.Prelude.{◌≡◌, ℕ, List, take, Bool, true, false, Option, Some, None, IfSome, option_map, unwrap_or}
+use Rattle.std.specs.Prelude.{Result, Ok, Err}
 use Rattle.macsec_suite.specs.KeyRows.{InstalledKey, key_row, prepared_key, the_key}
 use Rattle.macsec_rx.specs.declared.OpenJob.{OpenJob}
 use Rattle.macsec_secy.specs.declared.fault.FrameFault.{FrameFault}
@@ -15,7 +16,7 @@ use Rattle.macsec_jobs.specs.declared.job_fault.JobFault.{JobFault}
 use Rattle.macsec_jobs.specs.declared.planned_key.PlannedKey.{PlannedKey}
 use Rattle.macsec_jobs.specs.declared.work.Work.{Work}
 use Rattle.macsec_jobs.specs.declared.work.Work.TheVariants.{Nothing, Seal, Open, Finish}
-use Rattle.macsec_jobs.specs.PlannedKeys.{key_of}
+use Rattle.macsec_jobs.specs.PlannedKeys.{IsGone, key_of}
 use Rattle.macsec_jobs.specs.Slots.{SlotState, frame_planned}
 
 abbrev pub job_fault_of : {A : Type 0} → Result A JobFault → Option JobFault
@@ -43,17 +44,26 @@ abbrev pub frame_fault_of : {A : Type 0} → Result A FrameFault → Option Fram
 frame_fault_of (Ok x) = None
 frame_fault_of (Err f) = Some f
 
--- the work that was planned for a link frame: the opening that it needs now, with the key that the endpoint has
+-- the work that was planned for a link frame: the opening that it needs now, with the key that the endpoint has. Where
+-- it needs none, the slot has no key
 abbrev pub PlansWork : Work → PlannedKey → Option OpenJob → List InstalledKey → Type 0
 PlansWork Nothing key wanted keys = ⊥
 PlansWork (Seal job) key wanted keys = ⊥
 PlansWork (Open job) key wanted keys = (wanted ≡ Some job) × (key_of key ≡ prepared_key (the_key keys job.key))
 PlansWork (Finish (Some opened)) key wanted keys = ⊥
-PlansWork (Finish None) key wanted keys = IfSome wanted (λ job. key_row keys job.key ≡ None)
+PlansWork (Finish None) key wanted keys = IsGone key × IfSome wanted (λ job. key_row keys job.key ≡ None)
 
 -- the output for a link frame; the delivered octets are at the beginning of the buffer
 abbrev pub output_of_finished : Result Finished FrameFault → List ℕ → List ℕ → AheadOutput
-output_of_finished (Ok (by.Received r)) frame out = kept (endpoint_output (received r.verdict r.row frame (option_map (λ n. take n out) r.delivered)))
+output_of_finished (Ok (by.Received r)) frame out = kept (endpoint_output (received r.verdict r.row frame (option_map
+    (λ n. take n out) r.delivered)))
 output_of_finished (Ok (by.NoReservation at)) frame out = dropped_not_reserved at
 output_of_finished (Ok (by.BeforeThisRun at)) frame out = dropped_before_this_run at
 output_of_finished (Err f) frame out = kept (endpoint_output (fault f))
+
+-- how many octets of the buffer are the delivered frame. The others stay as they were
+abbrev pub delivered_length : Result Finished FrameFault → ℕ
+delivered_length (Ok (by.Received r)) = unwrap_or r.delivered 0
+delivered_length (Ok (by.NoReservation at)) = 0
+delivered_length (Ok (by.BeforeThisRun at)) = 0
+delivered_length (Err f) = 0

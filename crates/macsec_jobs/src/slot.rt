@@ -1,7 +1,7 @@
 //! A frame on its way through the cipher.
 
 ghost use Rattle.std.specs.Prelude.{◌≡◌, ◌≤◌, ◌+◌, ℕ, List, drop, length, false, not, option_map, take, true, IfOk};
-ghost use Rattle.std.specs.Prelude.{IfSome, IsSome, OnErr, OnOk};
+ghost use Rattle.std.specs.Prelude.{IfSome, IsSome, OnErr, OnOk, unwrap_or};
 ghost use Rattle.std.specs.Borrow.{Bor};
 ghost use Rattle.macsec_tag.specs.Limits.{max_frame_len, min_frame_len};
 ghost use Rattle.macsec_suite.specs.KeyRows.{key_row, prepared_key, the_key};
@@ -11,8 +11,8 @@ ghost use Rattle.macsec_secy.specs.Sound.{IsSound};
 ghost use Rattle.macsec_secy.specs.Step.{client_frame, frame_fault, link_frame};
 ghost use Rattle.macsec_reserve.specs.Keeping.{endpoint_input};
 ghost use Rattle.macsec_ahead.specs.Ahead.{ahead_step, kept};
-ghost use Rattle.macsec_jobs.specs.Answers.{PlansWork, frame_fault_of, is_job, job_fault_of, output_of_finished};
-ghost use Rattle.macsec_jobs.specs.Answers.{output_of_plan};
+ghost use Rattle.macsec_jobs.specs.Answers.{PlansWork, delivered_length, frame_fault_of, is_job, job_fault_of};
+ghost use Rattle.macsec_jobs.specs.Answers.{output_of_finished, output_of_plan};
 ghost use Rattle.macsec_jobs.specs.declared.work.Work.TheVariants.{Seal};
 ghost use Rattle.macsec_jobs.specs.PlannedKeys.{IsGone, is_installed, key_of};
 ghost use Rattle.macsec_jobs.specs.Slots.{frame_planned, is_idle, is_opening, is_received, is_sealing, open_fault};
@@ -262,8 +262,8 @@ impl Slot {
 
     /// Receives the link frame of the slot, as `AheadKeeper::receive`. What was opened is used if this endpoint has the
     /// key with which it was opened, and would now open the frame in the same way. The delivered octets are at the
-    /// start of `out`, which has `MAX_FRAME_LEN` octets or more. The slot is then without a frame, and nothing of the
-    /// key stays.
+    /// start of `out`, which has `MAX_FRAME_LEN` octets or more; the others stay. The slot is then without a frame, and
+    /// nothing of the key stays.
     pub fn finish_receive(
         &mut self,
         endpoint: &mut AheadKeeper,
@@ -274,6 +274,7 @@ impl Slot {
         ensures after { endpoint.new ≡ (ahead_step endpoint.old (endpoint_input (link_frame self.old.frame))).1 }
         ensures output { output_of_finished result self.old.frame out.new
             ≡ (ahead_step endpoint.old (endpoint_input (link_frame self.old.frame))).0 }
+        ensures rest { drop (delivered_length result) out.new ≡ drop (delivered_length result) out.old }
         ensures left { is_idle self.new.work ≡ true }
         ensures gone { IsGone self.new.key }
     {
@@ -286,10 +287,11 @@ impl Slot {
     }
 }
 
-/// Copies a frame to the start of a buffer.
+/// Copies a frame to the start of a buffer. What is behind it stays.
 fn keep_frame(room: &mut [u8], frame: &[u8])
     requires { length frame.now ≤ length room.old }
-    ensures { take (length frame.now) room.new ≡ frame.now }
+    ensures frame { take (length frame.now) room.new ≡ frame.now }
+    ensures rest { drop (length frame.now) room.new ≡ drop (length frame.now) room.old }
 {
     room[..frame.len()].copy_from_slice(frame);
 }
@@ -332,6 +334,7 @@ fn receive_frame(
     ensures after { endpoint.new ≡ (ahead_step endpoint.old (endpoint_input (link_frame frame.now))).1 }
     ensures output { output_of_finished result frame.now out.new
         ≡ (ahead_step endpoint.old (endpoint_input (link_frame frame.now))).0 }
+    ensures rest { drop (delivered_length result) out.new ≡ drop (delivered_length result) out.old }
 {
     // The proof cites this law; the call does nothing.
     lengths_of_frames();
@@ -353,7 +356,9 @@ fn receive_frame(
 /// Copies a delivered frame, if there is one, to the start of a buffer, and returns its length.
 fn delivered_to(controlled: Option<&[u8]>, out: &mut [u8]) -> Option<usize>
     requires { IfSome controlled (λ d. length d.now ≤ length out.old) }
-    ensures { option_map (λ n. take n out.new) result ≡ option_map (λ (d : Bor (List ℕ)). d.now) controlled.entry }
+    ensures frame { option_map (λ n. take n out.new) result
+        ≡ option_map (λ (d : Bor (List ℕ)). d.now) controlled.entry }
+    ensures rest { drop (unwrap_or result 0) out.new ≡ drop (unwrap_or result 0) out.old }
 {
     let delivered = controlled?;
     keep_frame(out, delivered);
