@@ -39,8 +39,9 @@ use Rattle.macsec_restarts.specs.Sent.{Rises, SentIn, newly_sent}
 use Rattle.macsec_restarts.specs.Used.{seal_of}
 use Rattle.macsec_c_calls.specs.GivenUp.{Call, after_call, after_calls, client, command, durable, link, renewal}
 use Rattle.macsec_c_runs.proofs.Calls.{Fits, call_goes, call_stays, takes}
-use Rattle.macsec_c_runs.specs.Runs.{AcceptsAbove, AcceptsAboveOverCalls, AgreeOnKeys, CallRun, IsCovered, IsRun}
-use Rattle.macsec_c_runs.specs.Runs.{IsWeaker, IsWeakerToAccept, KeepsAccepted, KeepsUsed, NoIvOverCalls}
+use Rattle.macsec_c_runs.specs.Runs.{AcceptsAbove, AcceptsAboveOverCalls, AcceptsOnceOverCalls, AgreeOnKeys, CallRun}
+use Rattle.macsec_c_runs.specs.Runs.{IsCovered, IsRun, IsRunOfRenewals, IsWeaker, IsWeakerToAccept, KeepsAccepted}
+use Rattle.macsec_c_runs.specs.Runs.{KeepsUsed, NoIvOverCalls}
 use Rattle.macsec_c_runs.specs.Runs.{accepted, accepted_by, input_of, opening, reported, sent, sent_by, sent_in_all}
 use Rattle.macsec_c_runs.specs.Runs.{NumbersRiseOverCalls, states}
 
@@ -174,6 +175,9 @@ since_opening : (r : CallRun) → IsSince (opening r) (opening r)
 since_opening r = record { salt = refl; before = λ no. refl }
 
 -- ---- the premises of the keeping endpoints inside
+
+pub is_run_of_renewals : (r : CallRun) → IsRunOfRenewals r
+is_run_of_renewals r sound none = record { sound = sound; usable = λ key there. absurd (none key there) }
 
 moments : (r : CallRun) → IsRun r → (n : ℕ) → HasMoment (opening r) (through (opening r) r.calls) r.calls n
 moments r is n = moment_inside (opening r) r.calls (opening r) (since_opening r) is.usable n
@@ -351,6 +355,13 @@ above_kept r later keeps d e on here there same = omega (
 pub accepts_above_over_calls : (rs : List CallRun) → AcceptsAboveOverCalls rs
 accepts_above_over_calls rs keeps i j d before within =
     above_kept (get_or rs i d) (get_or rs j d) (keeps i j d before within)
+
+-- `AcceptsAbove` is strict
+pub accepts_once_over_calls : (rs : List CallRun) → AcceptsOnceOverCalls rs
+accepts_once_over_calls rs keeps i j d before within x y on here there same equal =
+    let above : x.number < y.number =
+    accepts_above_over_calls rs keeps i j d before within x y on here there same in
+    omega (arith, above, equal)
 
 pub is_weaker_to_accept : (r later : CallRun) → IsWeakerToAccept r later
 is_weaker_to_accept r later on salt durable' d e here there same =

@@ -1,6 +1,6 @@
 -- Several runs of an endpoint of the library for C beside one journal. A run is a list of calls (`Call`), and loads are
 -- such lists too. A call `renewal` installs a key that may take the row of a retired one.
-use Rattle.std.specs.Prelude.{◌≡◌, ◌<◌, ◌≤◌, ℕ, List, [], ◌∷◌, ◌++◌, map, take, Bool, true, false, Contains}
+use Rattle.std.specs.Prelude.{◌≡◌, ◌≢◌, ◌<◌, ◌≤◌, ℕ, List, [], ◌∷◌, ◌++◌, map, take, Bool, true, false, Contains}
 use Rattle.std.specs.List.{All, AllPairs}
 use Rattle.macsec_aes.specs.Keys.{key_bytes}
 use Rattle.macsec_suite.specs.declared.key_row.NewKey.{NewKey}
@@ -75,6 +75,13 @@ pub record IsRun (r : CallRun) : Type 0 where
   pub usable : (key : NewKey) → Contains r.calls (command (Key key)) →
       is_given_up (opening r).k (key_bytes key.bytes) ≡ false
 
+-- no more is asked of a run that installs each key as a renewal than that the endpoint is sound
+abbrev pub HasNoKeyCommand : CallRun → Type 0
+HasNoKeyCommand r = (key : NewKey) → Contains r.calls (command (Key key)) → ⊥
+
+abbrev pub IsRunOfRenewals : CallRun → Type 0
+IsRunOfRenewals r = ((n : ℕ) → IsSound (states r n)) → HasNoKeyCommand r → IsRun r
+
 -- of the keys that SAs use in two runs, those with the same octets agree
 abbrev pub AgreeOnKeys : CallRun → CallRun → Type 0
 AgreeOnKeys r later = AgreeOnUsedKeys (states r) (states later)
@@ -132,3 +139,12 @@ AcceptsAbove r later =
 
 abbrev pub AcceptsAboveOverCalls : List CallRun → Type 0
 AcceptsAboveOverCalls rs = AllPairs KeepsAccepted rs → AllPairs AcceptsAbove rs
+
+-- so no packet number of an SA is accepted in two runs
+abbrev pub AcceptsOther : CallRun → CallRun → Type 0
+AcceptsOther r later =
+    (d e : Delivery) → later.ahead ≡ true → Contains (accepted r) d → Contains (accepted later) e → AreOfOneSa d e →
+    d.number ≢ e.number
+
+abbrev pub AcceptsOnceOverCalls : List CallRun → Type 0
+AcceptsOnceOverCalls rs = AllPairs KeepsAccepted rs → AllPairs AcceptsOther rs

@@ -1,12 +1,17 @@
 //! Laws: each is the contract of a function that does nothing.
 
 ghost use Rattle.std.specs.Prelude.{List};
-ghost use Rattle.macsec_c_runs.specs.Runs.{AcceptsAboveOverCalls, CallRun, IsWeaker, NoIvOverCalls};
-ghost use Rattle.macsec_c_runs.specs.Runs.{IsWeakerToAccept, NumbersRiseOverCalls};
+ghost use Rattle.macsec_c_runs.specs.Runs.{AcceptsAboveOverCalls, AcceptsOnceOverCalls, CallRun, IsRunOfRenewals};
+ghost use Rattle.macsec_c_runs.specs.Runs.{IsWeaker, IsWeakerToAccept, NoIvOverCalls, NumbersRiseOverCalls};
 
 use macsec_restarts::laws::{
     no_iv_if_used_is_kept_renewing, numbers_rise_if_used_is_kept_renewing,
 };
+
+/// A run in which each key is installed as a renewal is one (`IsRun`), if its endpoint is sound at each moment.
+pub fn renewals_make_runs()
+    ensures { (r : CallRun) → IsRunOfRenewals r }
+{}
 
 /// No IV twice over several runs of calls: `no_iv_if_used_is_kept_renewing` of `macsec_restarts`, for callers in C. A
 /// key may also be installed by a command. Premises: each run is one (`IsRun`: sound, and no command installs octets
@@ -31,10 +36,11 @@ pub fn numbers_rise_over_calls()
 }
 
 /// What a later run of calls with `ahead` accepts from an SA has higher packet numbers than all that an earlier run
-/// accepted from it, if the later run reads what was accepted before, of the SAs from which it accepts (`kept`). If the
-/// earlier run had `ahead`, it is enough that the later one reads the same salt, and what was reported durable
-/// (`weaker`).
+/// accepted from it, if the later run reads what was accepted before, of the SAs from which it accepts (`kept`). So no
+/// packet number of an SA is accepted in two runs (`once`). If the earlier run had `ahead`, it is enough that the later
+/// one reads the same salt, and what was reported durable (`weaker`).
 pub fn accepts_above_over_calls()
     ensures kept { (runs : List CallRun) → AcceptsAboveOverCalls runs }
+    ensures once { (runs : List CallRun) → AcceptsOnceOverCalls runs }
     ensures weaker { (run later : CallRun) → IsWeakerToAccept run later }
 {}
