@@ -1,6 +1,7 @@
 /* Devices over LINK, by which frames pass without MACsec. A program with CAP_NET_ADMIN can make one from another
  * namespace. The system reports in LINK's namespace that something changed, and names the device in the device's own.
- * So macsecd then asks for the devices of the host's namespace. It sees none in a third one. */
+ * So macsecd then asks for the devices of the host's namespace, and every few seconds, since of a tunnel over LINK's
+ * namespace nothing is reported. It sees none in a third one. */
 #include "device.h"
 #include <ctype.h>
 #include <linux/net_namespace.h>
@@ -124,12 +125,10 @@ static void take(struct device *d, const struct nlmsghdr *header) {
         take_device(d, header);
     } else if (header->nlmsg_type == RTM_NEWNSID && header->nlmsg_len >= NLMSG_LENGTH(sizeof(struct rtgenmsg))) {
         o->number = number_of(a, (int)NLMSG_PAYLOAD(header, NLMSG_ALIGN(sizeof(struct rtgenmsg))), NETNSA_NSID);
-        if (o->number < 0) {
+        if (o->number < 0)
             finish(o); /* no device refers to it */
-        } else {
-            o->found = 0;
+        else
             o->asked = rtnetlink_ask(o->socket, NLM_F_DUMP, 0);
-        }
     } else if (header->nlmsg_type == NLMSG_DONE || header->nlmsg_type == NLMSG_ERROR) {
         finish(o);
     }

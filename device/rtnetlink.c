@@ -7,8 +7,8 @@
 #include <linux/netlink.h>
 #include <linux/rtnetlink.h>
 
-/* The most messages that are read in one call, so that a busy system does not keep macsecd from its frames. */
-enum { MESSAGES = 256 };
+/* The most messages of one call, so that frames go on beside a busy system; and the seconds between two looks. */
+enum { MESSAGES = 256, LOOKS = 8 };
 
 /* The number by which an answer is known. A report has 0. */
 enum { ANSWER = 1 };
@@ -61,11 +61,13 @@ static void note_address(struct device *d, const uint8_t *address, size_t length
     link_make_promiscuous(&d->link);
 }
 
-/* Nobody reports that a program has changed TAP's address or its carrier. */
+/* Nobody reports that a program has changed TAP's address or its carrier, or has made a tunnel over LINK. */
 bool rtnetlink_tick(struct device *d) {
     uint8_t address[6];
     if (tap_address(&d->tap, address) && memcmp(address, d->link.address, sizeof address) != 0)
         link_make_promiscuous(&d->link);
+    if (d->history.seconds % LOOKS == 0)
+        over_look(d);
     port_set_carrier(d);
     return ask(d);
 }
@@ -146,7 +148,6 @@ bool rtnetlink_read(struct device *d) {
             return true;
         } else { /* the queue is empty now */
             d->rtnetlink.lost = false;
-            over_look(d);
             if (!ask(d))
                 return false;
         }

@@ -270,8 +270,10 @@ def check_devices(options: Options) -> None:
 # ---- A macsecd that was taken over
 
 FORBIDDEN = ["setns", "unshare", "socket", "bind", "openat", "sendto", "SIOCGSKNS", "TUNGETDEVNETNS", "TUNSETIFF"]
-# What no thread may do with the socket of the service manager but the one that has it; and the other threads.
-OF_MANAGER, THREADS = ["write", "send", "sendto", "sendmmsg"], ["journal", "worker"]
+# What no thread may do with the socket of the service manager but the one that has it; and the other threads, with that
+# one, which may send to nobody else.
+OF_MANAGER, THREADS = ["write", "send", "sendto", "sendmmsg"], ["journal", "worker", "service"]
+THREAD = 'extern void taken_thread(const char *); taken_thread("{}");'
 
 
 def build_taken(options: Options) -> pathlib.Path:
@@ -287,12 +289,9 @@ def build_taken(options: Options) -> pathlib.Path:
             "extern void taken_files(void); taken_files();",
         ),
         ("service.c", "    if (s->socket >= 0 && ", "extern int taken_manager; taken_manager = s->socket;"),
-        ("journal_writer.c", "    s->confined = ", 'extern void taken_thread(const char *); taken_thread("journal");'),
-        (
-            "workers.c",
-            "    atomic_fetch_add(&w->begun, ",
-            'extern void taken_thread(const char *); taken_thread("worker");',
-        ),
+        ("journal_writer.c", "    s->confined = ", THREAD.format("journal")),
+        ("workers.c", "    atomic_fetch_add(&w->begun, ", THREAD.format("worker")),
+        ("service.c", "    (void)sem_post(&s->begun);\n", THREAD.format("service")),
     ):
         replace_once(source / name, place, f"    {call}\n{place}")
     return build(source / "built", options.library, ["-Wno-error"], source)

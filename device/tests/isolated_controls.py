@@ -52,6 +52,7 @@ CONTROLS: dict[str, list[Control]] = {
     "over": [
         edited("no look at the host's devices", "over.c", "    if (!o->asked)\n        ask_number(o);\n", "",
                "a device of the host: 0 found"),
+        edited("no look without a report", "rtnetlink.c", "seconds % LOOKS == 0", "seconds == 0", "a tunnel: 4 found"),
         edited("a veth device is over its peer", "over.c", 'strcmp(RTA_DATA(kind), "veth") == 0', "false",
                "what is not over"),
         edited("each look finds all again", "over.c", "    if (++d->over.found <= d->over.known)\n        return;\n",
@@ -71,6 +72,8 @@ CONTROLS: dict[str, list[Control]] = {
                "{ ANYTHING, 0, 0 }", "sendto by", "taken: sendto: ", "sent by the manager's socket"),
         edited("sendmmsg by any file", "confine.c", "SYS_sendmmsg, { { IS_OWN, 0, 0 } }",
                "SYS_sendmmsg, { { ANYTHING, 0, 0 } }", "sendmmsg by", "sent by the manager's socket"),
+        edited("it sends to other programs", "confine.c", "{ IS_MANAGER, 0, 0 }, { IS, 8, 0 }, { IS, 9, 0 }",
+               "{ IS_MANAGER, 0, 0 }", "the thread: service"),
         edited("a worker writes to any file", "confine.c", "{ WORKER_THREAD, SYS_write, { { IS_OWN, 0, 0 } } }",
                "{ WORKER_THREAD, SYS_write, { { ANYTHING, 0, 0 } } }", "the thread: worker")],
     "rights": [

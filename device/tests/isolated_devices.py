@@ -45,6 +45,7 @@ def make(process: int, index: int, kind: str) -> None:
         data = {
             "macvlan": attribute(2, attribute(1, struct.pack("=I", 4))),
             "vlan": attribute(2, attribute(1, b"\5\0")),
+            "vxlan": attribute(2, attribute(1, struct.pack("=I", 5))),
         }
         about = attribute(1, kind.encode() + b"\0") + data.get(kind, b"")
         over = attribute(LINK, struct.pack("=I", index)) + attribute(NETNSID, struct.pack("=i", namespace))

@@ -2,12 +2,13 @@
 
 from __future__ import annotations
 
+import contextlib
 import json
 import os
 import pathlib
 import re
 
-from house.reporting import report, until
+from house.reporting import Failed, report, until
 from isolated_attacks import macvlan
 from isolated_world import NOBODY, Host, Options, Pair
 from macsecd_requests import PYTHON
@@ -41,25 +42,30 @@ print(json.dumps([os.geteuid(), errors]))
 """
 
 
+def counted(host: Host) -> int:
+    """What macsecd has counted of it."""
+    return int(host.ask("counters").split("device LinkOver ")[1].split()[0])
+
+
 def found(host: Host) -> int:
     """How many devices and addresses macsecd has found over LINK."""
-    shown = re.search(r"^  over the link: (\d+) ", host.ask("show"), re.M)
-    counted = int(host.ask("counters").split("device LinkOver ")[1].split()[0])
-    report(counted == int(shown[1] if shown else 0), f"over: show does not say {counted}: {host.ask('show')}")
-    return counted
+    before, shown, after = counted(host), re.search(r"^  over the link: (\d+) ", host.ask("show"), re.M), counted(host)
+    holds = before <= int(shown[1] if shown else 0) <= after
+    report(holds, f"over: show does not say {after}: {host.ask('show')}")
+    return after
 
 
 def check_found(host: Host, what: str, count: int, text: str) -> None:
     """macsecd has to find it, and to say this."""
-    holds = until(lambda: found(host) == count, 5) and text in host.log().splitlines()[-1]
+    holds = until(lambda: found(host) == count, 10) and text in host.log().splitlines()[-1]
     report(holds, f"over: {what}: {found(host)} found, not {count}: {host.log().splitlines()[-1]!r}")
 
 
-def over_link(host: Host) -> None:
-    """A user with CAP_NET_ADMIN alone makes a device of the host's namespace over LINK."""
+def over_link(host: Host, kind: str = "macvlan") -> None:
+    """A user with CAP_NET_ADMIN alone makes a device of the host's namespace over LINK, or a tunnel."""
     with_admin = ["setpriv", "--reuid", str(NOBODY), "--inh-caps", "+net_admin", "--ambient-caps", "+net_admin"]
     index = json.loads(host.link_ip("-j", "link", "show", "link0"))[0]["ifindex"]
-    host.run(*with_admin, PYTHON, "-c", DEVICE, str(host.pid), str(index), "macvlan")
+    host.run(*with_admin, PYTHON, "-c", DEVICE, str(host.pid), str(index), kind)
 
 
 def check_container(pair: Pair) -> None:
@@ -96,4 +102,7 @@ def check_over(options: Options) -> None:
         check_found(a, "a device of LINK's namespace", 3, "in0 of LINK's namespace is over LINK link0")
         a.link_ip("addr", "add", "192.0.2.9/24", "dev", "link0")
         check_found(a, "an address", 4, "LINK link0 has an address")
+        with contextlib.suppress(Failed):  # not every kernel has vxlan
+            over_link(a, "vxlan")  # nothing is reported in LINK's namespace
+            check_found(a, "a tunnel", 5, "up0 of the host's namespace is over LINK link0")
         pair.passes("with a device over LINK")

@@ -1,21 +1,11 @@
 /* What a macsecd that was taken over tries. device/tests/isolated links it into macsecd, which calls it once its rights
  * are gone. */
-#define _GNU_SOURCE
 #include "device.h"
-#include <errno.h>
-#include <fcntl.h>
 #include <linux/if_packet.h>
 #include <linux/if_tun.h>
 #include <linux/sockios.h>
 #include <sched.h>
-#include <stdio.h>
-#include <stdlib.h>
-#include <string.h>
-#include <sys/ioctl.h>
-#include <sys/socket.h>
-#include <sys/syscall.h>
 #include <sys/un.h>
-#include <unistd.h>
 
 enum { INDEXES = 100 };
 
@@ -65,11 +55,16 @@ void taken_files(void) {
 /* The socket of the service manager. */
 int taken_manager = -1;
 
-/* What a thread without sockets tries once it is confined. */
+/* What a thread without sockets tries once it is confined, and the one that has this socket. */
 void taken_thread(const char *thread) {
+    const struct sockaddr_un other = { .sun_family = AF_UNIX };
     const char *what = getenv("TAKEN");
-    if (what != NULL && strcmp(what, thread) == 0)
+    if (what == NULL || strcmp(what, thread) != 0)
+        return;
+    if (strcmp(what, "service") != 0)
         (void)!write(taken_manager, "STATUS=no", 9);
+    else
+        (void)sendto(taken_manager, "STATUS=no", 9, 0, (const struct sockaddr *)&other, sizeof other);
 }
 
 /* The socket of the service manager, which could send to other programs: EVIL names another one. */

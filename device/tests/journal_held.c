@@ -7,9 +7,6 @@
  * overtaken, altered or lost, except a frame that comes while there is no space or that waits for six ticks. */
 #include "device.h"
 #include <inttypes.h>
-#include <stdio.h>
-#include <stdlib.h>
-#include <string.h>
 
 enum { SHORTEST = 60, LENGTHS = 1400, MOST_AHEAD = 40 };
 

@@ -13,14 +13,11 @@
  * installs it again in a second endpoint. Then it does so with association 1 under COUNT other keys, and ends without
  * an orderly end. rates prints how many packet numbers are reserved for a channel that is new, busy, quiet, whose
  * frames lack a reservation, and that is fast. */
-#define _GNU_SOURCE
 #include "device.h"
 #include "journal.h"
 #include "journal_end.h"
-#include <errno.h>
 #include <inttypes.h>
 #include <stdarg.h>
-#include <time.h>
 
 enum { TICK = 4, RECORDED = 10, LINE = 128 };
 

@@ -5,15 +5,10 @@
  *
  * A device has to be woken within SECONDS when a frame is finished. The program prints what is wrong, and else how many
  * frames were sent, lost and delivered, how many keys there were, and how often a device waited. */
-#define _GNU_SOURCE
-#include "workers.h"
 #include "device.h"
 #include <inttypes.h>
 #include <poll.h>
 #include <stdarg.h>
-#include <stdio.h>
-#include <stdlib.h>
-#include <string.h>
 
 /* The wire between the two, the shortest client frame with a number in it, the octets of its header, the most octets of
  * one, how many frames come alone at the end, and how many devices end early. */
