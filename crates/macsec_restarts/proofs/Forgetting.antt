@@ -43,7 +43,7 @@ use Rattle.macsec_restarts.{
 -- endpoint.
 
 -- forgetting changes no output
-same_output : (o : Option ℕ) (answer : Answer) → (then_forget o answer).0 ≡ answer.0
+pub same_output : (o : Option ℕ) (answer : Answer) → (then_forget o answer).0 ≡ answer.0
 same_output None _ = refl
 same_output (Some n) _ = refl
 

@@ -14,6 +14,7 @@ pub mod AheadForgets
 mod Examples
 mod KeptOrder
 mod ForgettingEnds
+mod RenewingLists
 pub mod Forgetting
 mod RunsWith
 pub mod RenewingKeepers

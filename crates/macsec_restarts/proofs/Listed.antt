@@ -18,7 +18,7 @@ use Rattle.macsec_rx.specs.Judge.{place_of}
 
 -- Each protected frame is one use of the cipher: by the cases of what is sent.
 
-none_if : (go : Bool) → sealed_if go [] ≡ []
+pub none_if : (go : Bool) → sealed_if go [] ≡ []
 none_if true = refl
 none_if false = refl
 

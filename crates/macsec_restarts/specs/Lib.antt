@@ -16,4 +16,5 @@ pub mod RenewingRuns
 pub mod RenewingOrder
 pub mod ForgettingEnds
 pub mod StrictLists
+pub mod RenewingLists
 pub mod OnDisk

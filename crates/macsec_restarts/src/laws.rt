@@ -35,6 +35,8 @@ ghost use Rattle.macsec_restarts.specs.Kept.{PeersAtEach, RunWith};
 ghost use Rattle.macsec_restarts.specs.RenewingOrder.{ComesFromOtherRenewing, ComesInOrderIfKeptRenewing};
 ghost use Rattle.macsec_restarts.specs.RenewingOrder.{ComesInOrderIfReadRenewing, IsWeakerToDeliverWith};
 ghost use Rattle.macsec_restarts.specs.RenewingOrder.{IsWeakerToSendWith, NoIvAtBothRenewing, PeersAtEachRenewing};
+ghost use Rattle.macsec_restarts.specs.RenewingLists.{DeliversEachListedRenewing, DeliversFromSasRenewing};
+ghost use Rattle.macsec_restarts.specs.RenewingLists.{SealsEachFrameRenewing};
 ghost use Rattle.macsec_restarts.specs.RenewingRuns.{AcceptsAboveIfKeptWith, IsWeakerToAcceptWith, IsWeakerWith};
 ghost use Rattle.macsec_restarts.specs.RenewingRuns.{NoIvIfUsedIsKeptRenewing, NoIvIfUsedIsKeptWith};
 ghost use Rattle.macsec_restarts.specs.RenewingRuns.{RisesIfUsedIsKeptRenewing, RisesIfUsedIsKeptWith};
@@ -508,3 +510,17 @@ pub fn comes_in_order_if_kept_renewing()
     renewing_gives_up_octets();
     renews_keys_safely();
 }
+
+/// `lists_each_delivery` for endpoints that renew keys: the list of deliveries has one entry for each client frame that
+/// comes out from a receive SA (`listed`), and in the mode Strict no frame is delivered at the controlled port without
+/// an SA (`strict`).
+pub fn lists_each_delivery_renewing()
+    ensures listed { (a : Ahead) (input : KeepingInput) → DeliversEachListedRenewing a input }
+    ensures strict { (a : Ahead) (input : KeepingInput) → DeliversFromSasRenewing a input }
+{}
+
+/// `seals_each_frame` for endpoints that renew keys: each protected frame that leaves is one use of the cipher, and has
+/// its octets. No other output seals anything.
+pub fn seals_each_frame_renewing()
+    ensures { (a : Ahead) (input : KeepingInput) → SealsEachFrameRenewing a input }
+{}
