@@ -14,6 +14,8 @@ pub mod AheadForgets
 mod Examples
 mod KeptOrder
 mod ForgettingEnds
+mod RenewingSteps
+mod RenewingEnds
 mod RenewingLists
 pub mod Forgetting
 mod RunsWith

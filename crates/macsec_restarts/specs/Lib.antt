@@ -16,5 +16,6 @@ pub mod RenewingRuns
 pub mod RenewingOrder
 pub mod ForgettingEnds
 pub mod StrictLists
+pub mod RenewingEnds
 pub mod RenewingLists
 pub mod OnDisk

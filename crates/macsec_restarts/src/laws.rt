@@ -35,6 +35,8 @@ ghost use Rattle.macsec_restarts.specs.Kept.{PeersAtEach, RunWith};
 ghost use Rattle.macsec_restarts.specs.RenewingOrder.{ComesFromOtherRenewing, ComesInOrderIfKeptRenewing};
 ghost use Rattle.macsec_restarts.specs.RenewingOrder.{ComesInOrderIfReadRenewing, IsWeakerToDeliverWith};
 ghost use Rattle.macsec_restarts.specs.RenewingOrder.{IsWeakerToSendWith, NoIvAtBothRenewing, PeersAtEachRenewing};
+ghost use Rattle.macsec_restarts.specs.RenewingEnds.{BeginsAboveItsEnd, KeepsEndsRenewing};
+ghost use Rattle.macsec_restarts.specs.RenewingEnds.{RefusesBelowEndRenewing, RemembersEndRenewing};
 ghost use Rattle.macsec_restarts.specs.RenewingLists.{DeliversEachListedRenewing, DeliversFromSasRenewing};
 ghost use Rattle.macsec_restarts.specs.RenewingLists.{SealsEachFrameRenewing};
 ghost use Rattle.macsec_restarts.specs.RenewingRuns.{AcceptsAboveIfKeptWith, IsWeakerToAcceptWith, IsWeakerWith};
@@ -523,4 +525,18 @@ pub fn lists_each_delivery_renewing()
 /// its octets. No other output seals anything.
 pub fn seals_each_frame_renewing()
     ensures { (a : Ahead) (input : KeepingInput) → SealsEachFrameRenewing a input }
+{}
+
+/// `begins_above_its_end` for endpoints that renew keys. Where a step deletes an SA, its end is remembered
+/// (`remembers`) for the rest of the run, or until its key is given up (`keeps`): at that end or below it the SA is not
+/// created under the key (`refuses`). So it begins above its end (`begins`), unless the key was given up: then a new
+/// key may have the number.
+pub fn begins_above_its_end_renewing()
+    ensures remembers { (a : Ahead) (input : KeepingInput) (row : RxRow) → RemembersEndRenewing a input row }
+    ensures keeps { (a : Ahead) (inputs : List KeepingInput) (key : ℕ) (sci : Sci) (an : ℕ) →
+        KeepsEndsRenewing a inputs key sci an }
+    ensures refuses { (a : Ahead) (sci : Sci) (an key ssci lowest : ℕ) →
+        RefusesBelowEndRenewing a sci an key ssci lowest }
+    ensures begins { (a : Ahead) (input : KeepingInput) (inputs : List KeepingInput) (row : RxRow) (ssci lowest : ℕ) →
+        BeginsAboveItsEnd a input inputs row ssci lowest }
 {}

@@ -46,7 +46,7 @@
 //!
 //! Proved of each step of endpoints that forget keys: `lists_each_delivery_forgetting`,
 //! `begins_above_its_end_forgetting`. Of endpoints that renew keys: `lists_each_delivery_renewing`,
-//! `seals_each_frame_renewing`.
+//! `seals_each_frame_renewing`, `begins_above_its_end_renewing`.
 //!
 //! `proofs/Examples/` has runs that meet all premises, with the lists of what was sent and delivered. For each premise
 //! of order, except that link frames are octets, it has a run that breaks order without it. It uses the worked runs of
