@@ -1,6 +1,6 @@
 -- Where deleted SAs ended is remembered by endpoints that forget keys, and what was saved of an SA is not delivered
 -- again.
-use Rattle.macsec_reserve.specs.Replay.{saved_for, SavesAccepted}
+use Rattle.macsec_reserve.specs.Replay.{IsAccepted, saved_for, SavesAccepted}
 use Rattle.macsec_restarts.{
   proofs.{
     AheadEnds.{after_command, ends_step, GivesUpBy, keeps_given_up, KeepsByRetiring, not_gone, remembers_by},
@@ -9,9 +9,10 @@ use Rattle.macsec_restarts.{
     AheadInside.{by_inside, k_inside, step_inside},
     Names.{[], ◌+◌, ◌<◌, ◌∙◌, ◌∷◌, ◌≡◌, ◌≤◌, Ahead, ahead_forgetting_after, ahead_forgetting_step, ahead_step, All},
     Names.{All-cons, All-contains, All-head, All-nil, All-tail, All-weaker, and_from, Answer, ap, arith, Bool, closing},
-    Names.{Command, end_of, endpoint_input, EndpointLaws, false, forgetting, forgetting_step, highest, if◌then◌else◌},
-    Names.{inl, Inputs, inr, inside_of, IsAbove, IsGivenUp, IsSound, judgement_of, Keeping, keeping_step, KeepingInput},
-    Names.{KeepsAssociation, Key, le-leb, link_frame, List, lt-ltb, max, None, now_durable, opening_with},
+    Names.{Command, Contains, end_of, endpoint_input, EndpointLaws, false, forgetting, forgetting_step, highest},
+    Names.{if◌then◌else◌, inl, Inputs, inr, inside_of, IsAbove, IsGivenUp, IsSound, judgement_of, Keeping},
+    Names.{keeping_step, KeepingInput, KeepsAssociation, Key, le-leb, lets_through, link_frame, List, lt-ltb, max},
+    Names.{None, now_durable, opening_with},
     Names.{operator_command, Option, passes, received_step, refl, reported, Reservation, reservations, Retire},
     Names.{retired_by, row_name, Run, RunWith, rx_row, RxRow, RxSa, salt_of, same_octets-refl, Sci, Some, State, step},
     Names.{subst, sym, take, taken, then_forget, through, true, unwrap_or, ℕ},
@@ -22,7 +23,7 @@ use Rattle.macsec_restarts.{
   specs.ForgettingEnds.{after_with, KeepsEndsForgetting, NeverDeliversAgainUnderWith, NeverDeliversAgainWith},
   specs.ForgettingEnds.{RefusesBelowEndForgetting, RemembersEndForgetting},
 }
-use Rattle.macsec_secy.proofs.GivenUp.{stays_replaced}
+use Rattle.macsec_secy.{proofs.GivenUp.stays_replaced, specs.Delivers.DeliversFrom}
 
 -- ---- what forgetting leaves
 
@@ -108,7 +109,7 @@ keeps_taken k _ _ (now_durable r) _ = tt
 keeps_taken k _ _ (endpoint_input (operator_command (Key _))) _ = refl
 keeps_taken k _ _ (endpoint_input _) keeps = keeps
 
-above_forgetting : (a : Ahead) (input : KeepingInput) (sci : Sci) (an n : ℕ) → KeepsAssociation sci an input →
+pub above_forgetting : (a : Ahead) (input : KeepingInput) (sci : Sci) (an n : ℕ) → KeepsAssociation sci an input →
     IsAbove a.k.secy.rx.rows sci an n → IsAbove (ahead_forgetting_step a input).1.k.secy.rx.rows sci an n
 above_forgetting a input sci an n keeps above = by_forgetting (λ k. IsAbove k.secy.rx.rows sci an n) a input above
     (rw (same_rx a.k input) (row_kept a.k _ sci an n (keeps_taken a.k sci an input keeps) above))
@@ -179,10 +180,44 @@ has_highest (y ∷ ys) =
     later x true less = omega (arith, less)
     later x false less = less
 
--- ---- two runs
+-- ---- what is saved covers what was accepted
 
 abbrev pub Saves : Type 0
 Saves = (salt : List ℕ) (s : State) (sci : Sci) (an : ℕ) (row : RxRow) (n : ℕ) → SavesAccepted salt s sci an row n
+
+abbrev pub Tells : Type 0
+Tells = (s : State) (frame : List ℕ) (row : RxRow) (delivered : List ℕ) → DeliversFrom s frame row delivered
+
+-- an SA is above what it accepted
+pub above_accepted : Tells → (a : Ahead) (frame : List ℕ) (from : RxRow) (n : ℕ) → IsSound a.k.secy →
+    IsAccepted a.k.secy frame from → lets_through a (endpoint_input (link_frame frame)) ≡ true →
+    (judgement_of a.k.secy frame).number ≡ n →
+    IsAbove (ahead_step a (endpoint_input (link_frame frame))).1.k.secy.rx.rows from.sci from.an (n + 1)
+above_accepted tells a frame from n sound it through' number =
+    let s = a.k.secy in
+    let j = judgement_of s frame in
+    let link = endpoint_input (link_frame frame) in
+    let accepted = (tells s frame from it.delivered sound it.row it.gives).accepted it.step in
+    let stepped : IsAbove (step s (link_frame frame)).1.rx.rows from.sci from.an (j.number + 1) = rw it.fits accepted in
+    let kept : IsAbove (keeping_step a.k link).1.secy.rx.rows from.sci from.an (j.number + 1) =
+    rw (received_step a.k frame) stepped in
+    rw (← number) (rw (step_inside a link true through') kept)
+
+-- what is saved of an SA covers each PN below its next one
+pub saved_covers : Saves → (a : Ahead) (sci : Sci) (an : ℕ) (row : RxRow) (n : ℕ) (name : List ℕ)
+    (rs : List Reservation) → IsSound a.k.secy → a.k.secy.options.window ≡ 0 →
+    rx_row a.k.secy.rx.rows sci an ≡ Some row → IsAbove a.k.secy.rx.rows sci an (n + 1) →
+    row_name a.k.salt a.k.secy row ≡ name → Contains rs (saved_for a.k.salt a.k.secy row) → n ≤ highest rs name
+saved_covers saves a sci an row n name rs sound window there above is_name durable =
+    let one : above.row ≡ row = ap (λ o. unwrap_or o row) (sym above.there ∙ there) in
+    let next : n + 1 ≤ row.next = subst (λ x. n + 1 ≤ x.next) one above.above in
+    let covers = saves a.k.salt a.k.secy sci an row n sound window there (omega (arith, next)) in
+    let granted : (saved_for a.k.salt a.k.secy row).last ≤ highest rs (row_name a.k.salt a.k.secy row) =
+    All-contains (λ x. x.last ≤ highest rs x.name) rs (saved_for a.k.salt a.k.secy row) (has_highest rs) durable in
+    let under = rw is_name at granted in
+    omega (arith, covers, under)
+
+-- ---- two runs
 
 module _ (alike : KeepersAlike) (laws : EndpointLaws) (fresh : Fresh) (saves : Saves) where
   pub never_delivers_again_with : (forgets ahead other : Bool) (run later : Run) (name : List ℕ) (n : ℕ) →
@@ -190,33 +225,17 @@ module _ (alike : KeepersAlike) (laws : EndpointLaws) (fresh : Fresh) (saves : S
   never_delivers_again_with forgets ahead other run later name n saved reads inputs frame row delivered sound replay
       of_row delivers is_name =
       let l = after_with forgets (opening_with ahead run) saved.before in
-      let s = l.k.secy in
-      let j = judgement_of s saved.frame in
       let link = endpoint_input (link_frame saved.frame) in
-      let tells = laws.delivers s saved.frame saved.from saved.accepted.delivered saved.sound saved.accepted.row
-      saved.accepted.gives in
-      let accepted = tells.accepted saved.accepted.step in
-      let stepped : IsAbove (step s (link_frame saved.frame)).1.rx.rows saved.from.sci saved.from.an (j.number + 1) =
-      rw saved.accepted.fits accepted in
-      let kept : IsAbove (keeping_step l.k link).1.secy.rx.rows saved.from.sci saved.from.an (j.number + 1) =
-      rw (received_step l.k _) stepped in
       let first : IsAbove (ahead_forgetting_step l link).1.k.secy.rx.rows saved.from.sci saved.from.an (n + 1) =
-      rw (← saved.number) (rw (step_inside l link true saved.passes) kept) in
+      above_accepted laws.delivers l saved.frame saved.from n saved.sound saved.accepted saved.passes saved.number in
       let at_last : IsAbove saved.last.k.secy.rx.rows saved.from.sci saved.from.an (n + 1) =
       rw saved.last_is (above_on forgets _ _ saved.keeps first) in
-      let one : at_last.row ≡ saved.row = ap (λ o. unwrap_or o saved.row) (sym at_last.there ∙ saved.there) in
-      let next : n + 1 ≤ saved.row.next = subst (λ x. n + 1 ≤ x.next) one at_last.above in
-      let covers =
-      saves saved.last.k.salt saved.last.k.secy saved.from.sci saved.from.an saved.row n saved.sound_last saved.window
-      saved.there (omega (arith, next)) in
-      let granted : (saved_for saved.last.k.salt saved.last.k.secy saved.row).last ≤ highest (reported run)
-      (row_name saved.last.k.salt saved.last.k.secy saved.row) =
-      All-contains (λ x. x.last ≤ highest (reported run) x.name) _ _ (has_highest _) saved.durable in
-      let under = rw saved.name_is at granted in
+      let under = saved_covers saves saved.last saved.from.sci saved.from.an saved.row n name (reported run)
+      saved.sound_last saved.window saved.there at_last saved.name_is saved.durable in
       let t = (after_with forgets (opening_with other later) inputs).k.secy in
       let above =
       rw is_name at (above_saved alike fresh forgets other later inputs frame row _ sound replay of_row delivers) in
-      omega (arith, covers, under, reads, above)
+      omega (arith, under, reads, above)
 
   pub never_delivers_again_under_with : (forgets ahead other : Bool) (run later : Run) (bytes : List ℕ) (sci : Sci)
       (an n : ℕ) → NeverDeliversAgainUnderWith forgets ahead other run later bytes sci an n

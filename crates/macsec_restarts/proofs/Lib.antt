@@ -16,6 +16,7 @@ mod KeptOrder
 mod ForgettingEnds
 mod RenewingSteps
 mod RenewingEnds
+mod RenewingSaved
 mod RenewingLists
 pub mod Forgetting
 mod RunsWith

@@ -36,6 +36,7 @@ ghost use Rattle.macsec_restarts.specs.RenewingOrder.{ComesFromOtherRenewing, Co
 ghost use Rattle.macsec_restarts.specs.RenewingOrder.{ComesInOrderIfReadRenewing, IsWeakerToDeliverWith};
 ghost use Rattle.macsec_restarts.specs.RenewingOrder.{IsWeakerToSendWith, NoIvAtBothRenewing, PeersAtEachRenewing};
 ghost use Rattle.macsec_restarts.specs.RenewingEnds.{BeginsAboveItsEnd, KeepsEndsRenewing};
+ghost use Rattle.macsec_restarts.specs.RenewingEnds.{NeverDeliversAgainRenewing, NeverDeliversAgainUnderRenewing};
 ghost use Rattle.macsec_restarts.specs.RenewingEnds.{RefusesBelowEndRenewing, RemembersEndRenewing};
 ghost use Rattle.macsec_restarts.specs.RenewingLists.{DeliversEachListedRenewing, DeliversFromSasRenewing};
 ghost use Rattle.macsec_restarts.specs.RenewingLists.{SealsEachFrameRenewing};
@@ -540,3 +541,17 @@ pub fn begins_above_its_end_renewing()
     ensures begins { (a : Ahead) (input : KeepingInput) (inputs : List KeepingInput) (row : RxRow) (ssci lowest : ℕ) →
         BeginsAboveItsEnd a input inputs row ssci lowest }
 {}
+
+/// What a run accepted before it saved the SA's number, at replay window 0, is not delivered again by a later run that
+/// drops late frames, of endpoints that renew keys. Each run has the option to reserve ahead of receiving, or it does
+/// not. It holds for an SA of that name (`named`) or, if the journal keeps its salt, of those key octets (`keyed`). The
+/// later run need only read what was reported durable under this one name.
+pub fn never_delivers_again_renewing()
+    ensures named { (run later : RunWith) (name : List ℕ) (n : ℕ) → NeverDeliversAgainRenewing run later name n }
+    ensures keyed { (run later : RunWith) (bytes : List ℕ) (sci : Sci) (an n : ℕ) →
+        NeverDeliversAgainUnderRenewing run later bytes sci an n }
+{
+    // Laws that the proof cites; the calls do nothing.
+    delivers_in_time();
+    saves_accepted();
+}

@@ -39,6 +39,7 @@
 //! - `comes_from_other_renewing`: what a strictly validating end delivers from an SA was sent before by the other end,
 //!   whatever the journals are.
 //! - `comes_in_order_if_kept_renewing`: it is delivered in the order of sending, each frame at most once.
+//! - `never_delivers_again_renewing`: what was saved is not delivered again.
 //!
 //! Proved over the journal of `macsec_journal`, on a disk that fails: `rises_on_disk`, what a later run sends and
 //! accepts has higher packet numbers, whatever other names were let go; also of endpoints that renew keys
