@@ -1,5 +1,6 @@
 -- The calls that leave the work of the cipher to jobs: what they return, and what is left in the endpoint and the slot.
-use Rattle.std.specs.Prelude.{◌≡◌, ◌≤◌, ℕ, List, replicate, length, take, nat_lt, Bool, true, false, not, if◌then◌else◌, Option, Some, None, Result, Ok, Err}
+use Rattle.std.specs.Prelude.{◌≡◌, ◌≤◌, ℕ, List, replicate, length, take, drop, nat_lt, Bool, true, false, not}
+use Rattle.std.specs.Prelude.{if◌then◌else◌, Option, Some, None, Result, Ok, Err}
 use Rattle.macsec_tag.specs.Limits.{max_frame_len}
 use Rattle.macsec_secy.specs.declared.answers.DropReason.TheVariants as reason
 use Rattle.macsec_secy.specs.declared.fault.FrameFault.{FrameFault}
@@ -12,14 +13,16 @@ use Rattle.macsec_jobs.specs.declared.answers.SendPlan.TheVariants as plan
 use Rattle.macsec_jobs.specs.declared.job_fault.JobFault.{JobFault}
 use Rattle.macsec_jobs.specs.declared.planned_key.PlannedKey.{PlannedKey}
 use Rattle.macsec_jobs.specs.Answers.{PlansWork}
-use Rattle.macsec_jobs.specs.Slots.{SlotState, frame_planned, is_idle, is_opening, is_received, is_sealing, open_fault, seal_fault}
+use Rattle.macsec_jobs.specs.Slots.{SlotState, frame_planned, is_idle, is_opening, is_received, is_sealing, open_fault}
+use Rattle.macsec_jobs.specs.Slots.{seal_fault}
 use Rattle.macsec_c_calls.specs.declared.jobs.Finished.{Finished}
 use Rattle.macsec_c_calls.specs.declared.jobs.Planned.{Planned}
 use Rattle.macsec_c_calls.specs.ReceivedParts.{ReceivedParts, unreceived}
 use Rattle.macsec_c_calls.specs.ReceivedParts.{parts_of_ahead as received_of}
 use Rattle.macsec_c_calls.specs.SentParts.{SentParts}
 use Rattle.macsec_c_calls.specs.SentParts.{parts_of_ahead as sent_of}
-use Rattle.macsec_c_calls.specs.Statuses.{done_status, job_status, space_status, status_of_frame_fault, status_of_job_fault}
+use Rattle.macsec_c_calls.specs.Statuses.{done_status, job_status, space_status, status_of_frame_fault}
+use Rattle.macsec_c_calls.specs.Statuses.{status_of_job_fault}
 
 -- ---- plans
 
@@ -29,7 +32,13 @@ unplanned status = record { status = status; fate = 0; key = 0; job = false; res
 
 -- a plan: the fate of a client frame, and the key of the job, if there is one
 abbrev pub planned_as : ℕ → ℕ → Bool → Planned
-planned_as fate key is_job = record { status = done_status; fate = fate; key = key; job = is_job; reserved = replicate 4 0 }
+planned_as fate key is_job = record {
+  status = done_status;
+  fate = fate;
+  key = key;
+  job = is_job;
+  reserved = replicate 4 0;
+}
 
 -- the answer for a client frame, by the plan and the number of the slot's key
 abbrev pub planned_for : Result SendPlan FrameFault → ℕ → Planned
@@ -49,7 +58,8 @@ taken_as (Err f) key = unplanned (status_of_frame_fault f)
 abbrev pub sent_by : Ahead → List ℕ → SentParts
 sent_by e frame = sent_of (ahead_step e (endpoint_input (client_frame frame))).0
 
--- the endpoint takes its step for the client frame, and answers as the step does; the slot's job makes the protected frame
+-- the endpoint takes its step for the client frame, and answers as the step does; the slot's job makes the frame that
+-- is sent protected
 pub record IsPlanned (e : Ahead) (client : List ℕ) (result : Planned) (later : Ahead) (left : SlotState) : Type 0 where
   pub after : later ≡ (ahead_step e (endpoint_input (client_frame client))).1
   pub status : result.status ≡ (sent_by e client).status
@@ -89,10 +99,13 @@ PlansToReceive e s frame result left = TakesIf (is_idle s.work) e s frame result
 
 -- ---- jobs
 
--- the protected frame is at the start of the buffer, and the slot has no frame; or nothing changes, and the status says why
+-- the protected frame is at the start of the buffer, what is behind it stays, and the slot has no frame; or nothing
+-- changes, and the status says why
 abbrev pub SealsUnless : Option JobFault → SlotState → List ℕ → ℕ → ℕ → List ℕ → ℕ → SlotState → Type 0
 SealsUnless None s out written status out_after written_after left =
-    (status ≡ done_status) × (take written_after out_after ≡ frame_planned s) × (written_after ≤ length out) × (is_idle left.work ≡ true)
+    (status ≡ done_status) × (take written_after out_after ≡ frame_planned s) ×
+    (drop written_after out_after ≡ drop written_after out) ×
+    (written_after ≤ length out) × (is_idle left.work ≡ true)
 SealsUnless (Some f) s out written status out_after written_after left =
     (status ≡ status_of_job_fault f) × (out_after ≡ out) × (written_after ≡ written) × (left ≡ s)
 
@@ -112,18 +125,29 @@ OpensWith s key status left = OpensUnless (open_fault s.work s.key key) s status
 -- ---- receiving
 
 abbrev pub parts_of_finished : Finished → List ℕ → ReceivedParts
-parts_of_finished r out = record { status = r.status; verdict = r.verdict; place = (r.has_sa, r.sci, r.an); delivered = (r.delivered, take r.length out); pn = r.pn; reserved = r.reserved }
+parts_of_finished r out = record {
+  status = r.status;
+  verdict = r.verdict;
+  place = (r.has_sa, r.sci, r.an);
+  delivered = (r.delivered, take r.length out);
+  pn = r.pn;
+  reserved = r.reserved;
+}
 
--- the endpoint takes its step for the slot's link frame, and answers as `macsec_receive` would; what is delivered is at the
--- start of the buffer
-pub record IsFinished (e : Ahead) (link : List ℕ) (result : Finished) (out : List ℕ) (later : Ahead) (left : SlotState) : Type 0 where
+-- the endpoint takes its step for the slot's link frame, and answers as `macsec_receive` would; what is delivered is at
+-- the start of the buffer, and what is behind it stays
+pub record IsFinished (e : Ahead) (link : List ℕ) (result : Finished) (out out_after : List ℕ) (later : Ahead)
+    (left : SlotState) : Type 0 where
   pub after : later ≡ (ahead_step e (endpoint_input (link_frame link))).1
-  pub shown : parts_of_finished result out ≡ received_of (ahead_step e (endpoint_input (link_frame link))).0
+  pub shown : parts_of_finished result out_after ≡ received_of (ahead_step e (endpoint_input (link_frame link))).0
+  pub rest : drop result.length out_after ≡ drop result.length out
   pub idle : is_idle left.work ≡ true
 
 -- nothing changes, with this status
-pub record IsUnfinished (status : ℕ) (e : Ahead) (s : SlotState) (result : Finished) (out out_after : List ℕ) (later : Ahead) (left : SlotState) : Type 0 where
+pub record IsUnfinished (status : ℕ) (e : Ahead) (s : SlotState) (result : Finished) (out out_after : List ℕ)
+    (later : Ahead) (left : SlotState) : Type 0 where
   pub shown : parts_of_finished result out_after ≡ unreceived status
+  pub none : result.length ≡ 0
   pub same_out : out_after ≡ out
   pub same_endpoint : later ≡ e
   pub same_slot : left ≡ s
@@ -132,7 +156,7 @@ pub record IsUnfinished (status : ℕ) (e : Ahead) (s : SlotState) (result : Fin
 abbrev pub FinishesIf : Bool → Bool → Ahead → SlotState → List ℕ → Finished → List ℕ → Ahead → SlotState → Type 0
 FinishesIf false small e s out result out_after after left = IsUnfinished job_status e s result out out_after after left
 FinishesIf true true e s out result out_after after left = IsUnfinished space_status e s result out out_after after left
-FinishesIf true false e s out result out_after after left = IsFinished e s.frame result out_after after left
+FinishesIf true false e s out result out_after after left = IsFinished e s.frame result out out_after after left
 
 abbrev pub FinishesFrame : Ahead → SlotState → List ℕ → Finished → List ℕ → Ahead → SlotState → Type 0
 FinishesFrame e s out result out_after after left =

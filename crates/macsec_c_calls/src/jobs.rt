@@ -1,9 +1,10 @@
 //! Frames whose work of the cipher is left to jobs.
 
-ghost use Rattle.std.specs.Prelude.{◌≡◌, ℕ, List, Ok};
-ghost use Rattle.macsec_jobs.specs.Answers.{output_of_finished};
+ghost use Rattle.std.specs.Prelude.{◌≡◌, ℕ, List, Ok, unwrap_or};
+ghost use Rattle.macsec_jobs.specs.Answers.{delivered_length, output_of_finished};
 ghost use Rattle.macsec_jobs.specs.declared.answers.Finished.TheVariants as by;
-ghost use Rattle.macsec_c_calls.specs.Jobs.{FinishesFrame, OpensWith, PlansToReceive, PlansToSend, SealsWith, parts_of_finished, planned_as, planned_for, taken_as, unplanned};
+ghost use Rattle.macsec_c_calls.specs.Jobs.{FinishesFrame, OpensWith, PlansToReceive, PlansToSend, SealsWith};
+ghost use Rattle.macsec_c_calls.specs.Jobs.{parts_of_finished, planned_as, planned_for, taken_as, unplanned};
 ghost use Rattle.macsec_c_calls.specs.ReceivedParts.{dropped_parts, parts_of_ahead, unreceived};
 ghost use Rattle.macsec_c_calls.specs.Statuses.{status_of_job_fault};
 
@@ -139,7 +140,7 @@ fn taken_as(taken: Result<bool, FrameFault>, key: u16) -> Planned
     }
 }
 
-/// Seals the client frame of a slot into a buffer. Returns the status.
+/// Seals the client frame of a slot into a buffer. What is behind the frame stays. Returns the status.
 pub fn seal_job(slot: &mut Slot, key: &JobKey, out: &mut [u8], written: &mut usize) -> u32
     ensures { SealsWith slot.old key.now out.old written.old result out.new written.new slot.new }
 {
@@ -164,7 +165,8 @@ pub fn open_job(slot: &mut Slot, key: &JobKey) -> u32
 
 /// The result for a frame that is not received, with this status.
 pub fn unfinished(status: u32) -> Finished
-    ensures { (out : List ℕ) → parts_of_finished result out ≡ unreceived status }
+    ensures parts { (out : List ℕ) → parts_of_finished result out ≡ unreceived status }
+    ensures length { result.length ≡ 0 }
 {
     Finished {
         length: 0,
@@ -181,7 +183,9 @@ pub fn unfinished(status: u32) -> Finished
 
 /// The result for a frame that is received.
 fn finished_as(received: &Reception) -> Finished
-    ensures { (frame out : List ℕ) → parts_of_finished result out ≡ parts_of_ahead (output_of_finished (Ok (by.Received received.now)) frame out) }
+    ensures parts { (frame out : List ℕ) → parts_of_finished result out ≡ parts_of_ahead (output_of_finished (Ok
+        (by.Received received.now)) frame out) }
+    ensures length { result.length ≡ unwrap_or received.now.delivered 0 }
 {
     let (has_sa, sci, an) = place_of(received.row);
     let (delivered, length) = match received.delivered {
@@ -203,7 +207,8 @@ fn finished_as(received: &Reception) -> Finished
 
 /// The result for a valid link frame that is dropped because of its packet number, with this verdict.
 fn dropped_as(verdict: u32, at: &RxPn) -> Finished
-    ensures { (out : List ℕ) → parts_of_finished result out ≡ dropped_parts verdict at.now }
+    ensures parts { (out : List ℕ) → parts_of_finished result out ≡ dropped_parts verdict at.now }
+    ensures length { result.length ≡ 0 }
 {
     let (has_sa, sci, an) = place_of(Some((at.sci, at.an)));
     Finished {
@@ -219,7 +224,7 @@ fn dropped_as(verdict: u32, at: &RxPn) -> Finished
     }
 }
 
-/// Receives the link frame of a slot, and writes what is delivered to a buffer.
+/// Receives the link frame of a slot, and writes what is delivered to a buffer. What is behind it stays.
 pub fn finish_frame(endpoint: &mut AheadKeeper, slot: &mut Slot, out: &mut [u8]) -> Finished
     ensures { FinishesFrame endpoint.old slot.old out.old result out.new endpoint.new slot.new }
 {
@@ -234,7 +239,9 @@ pub fn finish_frame(endpoint: &mut AheadKeeper, slot: &mut Slot, out: &mut [u8])
 
 /// The result of receiving.
 fn finished_of(outcome: Result<Outcome, FrameFault>) -> Finished
-    ensures { (frame out : List ℕ) → parts_of_finished result out ≡ parts_of_ahead (output_of_finished outcome frame out) }
+    ensures parts { (frame out : List ℕ) → parts_of_finished result out ≡ parts_of_ahead
+        (output_of_finished outcome frame out) }
+    ensures length { result.length ≡ delivered_length outcome }
 {
     match outcome {
         Ok(Outcome::Received(received)) => finished_as(&received),
