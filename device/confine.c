@@ -92,7 +92,7 @@ static const unsigned of_frames[] = {
     SYS_read,  SYS_recvmmsg,        SYS_recvfrom,    SYS_getsockopt, SYS_setsockopt, SYS_accept4,
     SYS_close, SYS_epoll_wait,      SYS_epoll_pwait, SYS_epoll_ctl,  SYS_poll,       SYS_clock_gettime,
     SYS_futex, SYS_restart_syscall, SYS_brk,         SYS_munmap,     SYS_mremap,     SYS_madvise,
-    SYS_exit,  SYS_exit_group,
+    SYS_exit,  SYS_exit_group,      SYS_mincore,
 };
 
 /* The calls of the thread of the journal, which writes it again from SYS_openat on and ends from SYS_rt_sigprocmask on.

@@ -49,12 +49,12 @@
  *            other call allocates, so no other call runs out of memory. malloc must align a block to each power of two
  *            up to 16 that divides its size, as all C libraries do. It must return: no exception may be thrown through
  *            the library, which has no unwinding tables. The library overwrites a block before it frees it. For blocks
- *            of 1 MB or more it asks the kernel for new pages (madvise), and overwrites them if the kernel refuses. The
- *            calls that take a key, a text or an association overwrite the stack that they used. An endpoint overwrites
- *            a key when it retires it (macsec_retire_key). A macsec_key, and a slot with a job, keep the octets of
- *            their key also after that. Registers, swap, core dumps and the caller's own copies are not covered. Give
- *            each call 96 KB of stack: the calls that create an endpoint and macsec_load took 66 KB on x86-64, and the
- *            others 33 KB or less (measured, not proved).
+ *            of 1 MB or more, of which less than half is in memory (mincore), it asks the kernel for new pages
+ *            (madvise), and overwrites them if the kernel refuses. The calls that take a key, a text or an association
+ *            overwrite the stack that they used. An endpoint overwrites a key when it retires it (macsec_retire_key). A
+ *            macsec_key, and a slot with a job, keep the octets of their key also after that. Registers, swap, core
+ *            dumps and the caller's own copies are not covered. Give each call 96 KB of stack: the calls that create an
+ *            endpoint and macsec_load took 66 KB on x86-64, and the others 33 KB or less (measured, not proved).
  * PROCESSOR  An x86-64 processor with SSSE3 (every x86-64-v2 has it). The library does not test for it: on another one
  *            the process ends with SIGILL.
  * HANDLES    A handle is the caller's memory, initialized with MACSEC_ENDPOINT_INIT (all zero). Do not copy, move or

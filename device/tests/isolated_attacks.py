@@ -270,8 +270,7 @@ def check_devices(options: Options) -> None:
 # ---- A macsecd that was taken over
 
 FORBIDDEN = ["setns", "unshare", "socket", "bind", "openat", "sendto", "SIOCGSKNS", "TUNGETDEVNETNS", "TUNSETIFF"]
-# What no thread may do with the socket of the service manager but the one that has it; and the other threads, with that
-# one, which may send to nobody else.
+# What no thread but one may do with the socket of the service manager; and threads. That one may send to nobody else.
 OF_MANAGER, THREADS = ["write", "send", "sendto", "sendmmsg"], ["journal", "worker", "service"]
 THREAD = 'extern void taken_thread(const char *); taken_thread("{}");'
 

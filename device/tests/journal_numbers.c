@@ -14,7 +14,6 @@
  * an orderly end. rates prints how many packet numbers are reserved for a channel that is new, busy, quiet, whose
  * frames lack a reservation, and that is fast. */
 #include "device.h"
-#include "journal.h"
 #include "journal_end.h"
 #include <inttypes.h>
 #include <stdarg.h>

@@ -33,14 +33,20 @@ static void clear(uint8_t *from, size_t length) {
 static int give_back(uint8_t *from, size_t length) {
     return madvise(from, length, MADV_DONTNEED) == 0 || madvise(from, length, MADV_DONTNEED_LOCKED) == 0;
 }
+
+/* Is the middle of a block in memory? Blocks are written from their beginning on, so half of it is then. */
+static int is_written(uint8_t *from, size_t length) {
+    unsigned char there = 0;
+    return mincore(from + length / 2 - (uintptr_t)(from + length / 2) % PAGE, PAGE, &there) == 0 && (there & 1) != 0;
+}
 #endif
 
 /* The table of keys has space for 4,096 keys, most of it never written. The kernel takes its pages back at once, where
- * clearing them would first make them resident. Pages that it refuses are cleared, and pages that are shared, where
- * the mark stays. */
+ * clearing them would first make them resident. If half of them are, new ones would take longer than clearing all.
+ * Pages that it refuses are cleared, and pages that are shared, where the mark stays. */
 static void overwrite(uint8_t *from, size_t length) {
 #ifdef __linux__
-    if (length >= LARGE) {
+    if (length >= LARGE && !is_written(from, length)) {
         size_t before = -(uintptr_t)from % PAGE, whole = (length - before) / PAGE * PAGE;
         volatile uint8_t *mark = from + before;
         *mark = 1;
