@@ -12,3 +12,5 @@ pub mod ExtendedForgets
 pub mod OtherSuites
 pub mod Rewound
 pub mod Forgets
+pub mod Renews
+pub mod RenewsInOrder

@@ -50,13 +50,13 @@ abbrev of_salt : Salt → List ℕ
 of_salt Zeros = no_salt
 of_salt Empty = []
 
-abbrev options : TxOptions
+abbrev pub options : TxOptions
 options = tx_options (start (config_of sci_b))
 
-abbrev iv : Salt → List ℕ
+abbrev pub iv : Salt → List ℕ
 iv s = iv_of Xpn128 sci_b 1 (of_salt s) 1
 
-abbrev aad : List ℕ
+abbrev pub aad : List ℕ
 aad = aad_sent options (key_at no_salt 1 1) (tx_from 1) (client 1)
 
 abbrev use_by : Salt → Sealed → CipherUse
@@ -66,7 +66,7 @@ use_by s it = cipher_use (key_at (of_salt s) 1 1) (iv s)
 abbrev icv : Salt → List ℕ
 icv s = tag_of bytes (iv s) aad
 
-abbrev frame_of : List ℕ → List ℕ
+abbrev pub frame_of : List ℕ → List ℕ
 frame_of t = frame_with (tag_sent options (tx_from 1) (client 1)) (client 1) (with_tag t)
 
 abbrev pub use_of : Salt → CipherUse
@@ -83,7 +83,7 @@ unfolding sum_with_stream pre_counter_block aes after_rounds add_round_key round
 block Zeros = refl
 block Empty = refl
 
-abbrev front : List ℕ
+abbrev pub front : List ℕ
 front = take 22 (frame_of [])
 
 pub octets : (s : Salt) → AreOctets (frame_of (icv s))
@@ -241,10 +241,10 @@ link r = endpoint_input (link_frame (f r))
 abbrev row_from : Receiver → RxRow
 row_from r = record (rx_from (lowest_of r)) { ssci = peer_ssci r }
 
-abbrev accepts : Receiver → Judgement
+abbrev pub accepts : Receiver → Judgement
 accepts r = at_row (row_from r) (number_of r) 13 Passed (Some (client 1))
 
-iv_is : (r : Receiver) → iv_of Xpn128 sci_a (peer_ssci r) (salt_of_key r) (number_of r) ≡ iv (sender_salt r)
+pub iv_is : (r : Receiver) → iv_of Xpn128 sci_a (peer_ssci r) (salt_of_key r) (number_of r) ≡ iv (sender_salt r)
 unfolding sum_with_stream
 iv_is Same = refl
 iv_is _ = refl
