@@ -2,7 +2,6 @@
 
 from __future__ import annotations
 
-import contextlib
 import json
 import os
 import pathlib
@@ -50,14 +49,13 @@ def counted(host: Host) -> int:
 def found(host: Host) -> int:
     """How many devices and addresses macsecd has found over LINK."""
     before, shown, after = counted(host), re.search(r"^  over the link: (\d+) ", host.ask("show"), re.M), counted(host)
-    holds = before <= int(shown[1] if shown else 0) <= after
-    report(holds, f"over: show does not say {after}: {host.ask('show')}")
+    report(before <= int(shown[1] if shown else 0) <= after, f"over: show does not say {after}: {host.ask('show')}")
     return after
 
 
-def check_found(host: Host, what: str, count: int, text: str) -> None:
+def check_found(host: Host, what: str, count: int, text: str, seconds: int = 5) -> None:
     """macsecd has to find it, and to say this."""
-    holds = until(lambda: found(host) == count, 10) and text in host.log().splitlines()[-1]
+    holds = until(lambda: found(host) == count, seconds) and text in host.log().splitlines()[-1]
     report(holds, f"over: {what}: {found(host)} found, not {count}: {host.log().splitlines()[-1]!r}")
 
 
@@ -102,7 +100,9 @@ def check_over(options: Options) -> None:
         check_found(a, "a device of LINK's namespace", 3, "in0 of LINK's namespace is over LINK link0")
         a.link_ip("addr", "add", "192.0.2.9/24", "dev", "link0")
         check_found(a, "an address", 4, "LINK link0 has an address")
-        with contextlib.suppress(Failed):  # not every kernel has vxlan
+        try:
             over_link(a, "vxlan")  # nothing is reported in LINK's namespace
-            check_found(a, "a tunnel", 5, "up0 of the host's namespace is over LINK link0")
+            check_found(a, "a tunnel", 5, "up0 of the host's namespace is over LINK link0", 10)
+        except Failed as fault:
+            print(f"over: a tunnel is not tried: {fault}")
         pair.passes("with a device over LINK")
