@@ -3,6 +3,8 @@
 from __future__ import annotations
 
 import functools
+import os
+import pathlib
 import subprocess
 
 # The kinds, as the C library names them. Each runs what is built for those before it.
@@ -20,3 +22,17 @@ def at_hand() -> str:
 def runs(kind: str) -> bool:
     """Does this processor run what is built for that kind?"""
     return KINDS.index(kind) <= KINDS.index(at_hand())
+
+
+def ticks() -> tuple[int, int, int]:
+    """How long all processors have worked, waited, and been taken by the host of this machine, since it was started."""
+    line = pathlib.Path("/proc/stat").read_text(encoding="ascii").partition("\n")[0]
+    user, nice, system, idle, waiting, interrupts, soft, stolen = map(int, line.split()[1:9])
+    return user + nice + system + interrupts + soft, idle + waiting, stolen
+
+
+def shares(since: tuple[int, int, int]) -> str:
+    """What became of the processors since then. On a shared machine the host takes some of their time."""
+    worked, waited, stolen = (now - then for now, then in zip(ticks(), since))
+    parts = f"worked {worked / (whole := worked + waited + stolen or 1):.0%}, idle {waited / whole:.0%}"
+    return f"{len(os.sched_getaffinity(0))} processors: {parts}, taken by the host {stolen / whole:.0%}"
