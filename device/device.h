@@ -17,6 +17,7 @@ struct device {
     macsec_endpoint *endpoint; /* one of them. It is empty if there is no endpoint; the other one always is. */
     macsec_config end;         /* of which it was created */
     struct counts counts;
+    bool alone; /* was the last batch that was read of TAP one frame? */
     struct history history;
     struct link link;
     struct floods floods;

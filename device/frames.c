@@ -28,14 +28,21 @@ uint32_t frames_send(struct device *d, const struct frame *frame) {
     return sent.fate;
 }
 
-void frames_note_fate(struct device *d, struct client_batch *b, uint32_t fate) {
+enum outcome frames_note_fate(struct device *d, struct client_batch *b, uint32_t fate) {
     d->counts.tap_in++;
     b->used += fate == MACSEC_FATE_PROTECTED;
     b->lacked += fate == MACSEC_FATE_NO_RESERVATION;
+    return b->count++ == 0 && d->alone ? link_flush(&d->link, &d->counts) : DONE;
+}
+
+void frames_end_batch(struct device *d, const struct client_batch *b) {
+    if (b->count > 0)
+        d->alone = b->count == 1;
+    numbers_used(&d->numbers, d->endpoint, b->used, b->lacked > 0);
 }
 
 enum outcome frames_from_client(struct device *d) {
-    struct client_batch b = { 0, 0 };
+    struct client_batch b = { 0, 0, 0 };
     enum outcome outcome = DONE, left;
     if (d->workers != NULL)
         return parallel_from_client(d);
@@ -43,10 +50,10 @@ enum outcome frames_from_client(struct device *d) {
         struct frame frame;
         outcome = tap_read(&d->tap, &frame);
         if (outcome == DONE)
-            frames_note_fate(d, &b, frames_send(d, &frame));
+            outcome = frames_note_fate(d, &b, frames_send(d, &frame));
     }
-    left = outcome == GONE ? GONE : link_flush(&d->link, &d->counts); /* before it is noted, since the peer waits */
-    numbers_used(&d->numbers, d->endpoint, b.used, b.lacked > 0);
+    left = outcome == GONE ? GONE : link_flush(&d->link, &d->counts);
+    frames_end_batch(d, &b);
     return left;
 }
 

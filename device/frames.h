@@ -267,11 +267,15 @@ int64_t history_heard(const struct history *h, const uint8_t sci[8]);
 enum outcome frames_from_client(struct device *d);
 /* Reads a batch of frames from LINK, and delivers what the endpoint makes of them. */
 enum outcome frames_from_link(struct device *d);
-/* Of the frames that were read of TAP in a batch: those that used a packet number, and those that had none reserved. */
+/* The frames that were read of TAP in a batch; those that used a packet number, and those that had none reserved. */
 struct client_batch {
-    unsigned used, lacked;
+    unsigned count, used, lacked;
 };
-void frames_note_fate(struct device *d, struct client_batch *b, uint32_t fate);
+/* Notes a frame that was read. If it is the first one and the last batch was one frame, it leaves before TAP is read
+ * again. BUSY, GONE: no more are to be read. */
+enum outcome frames_note_fate(struct device *d, struct client_batch *b, uint32_t fate);
+/* To be called when the frames of the batch have left, since the peer waits for them. */
+void frames_end_batch(struct device *d, const struct client_batch *b);
 /* Adds to the waiting frames what the endpoint makes of a client frame. Returns its fate. */
 uint32_t frames_send(struct device *d, const struct frame *frame);
 /* Judges a frame of LINK, after those that wait, and delivers it. Returns GONE if TAP is. */

@@ -172,9 +172,10 @@ void link_append(struct link *l, const uint8_t *octets, size_t length, struct co
     l->waiting++;
 }
 
+/* When none waits, the next one gets the memory that was used last, while caches have it. */
 static void remove_waiting(struct link *l, unsigned count) {
-    l->first = (l->first + count) % BATCH;
     l->waiting -= count;
+    l->first = l->waiting == 0 ? 0 : (l->first + count) % BATCH;
 }
 
 /* Sends what waits, as far as the system takes it. Nothing is left to a network card. Returns what sendmmsg does. */

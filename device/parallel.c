@@ -12,10 +12,10 @@ static enum outcome send_finished(struct device *d) {
     while (outcome == DONE) {
         struct ring_place *p;
         while (d->link.waiting < BATCH && (p = ring_first(r)) != NULL) {
-            macsec_sent sent = { p->out, p->length, MACSEC_OK, p->fate, 0, { 0 } };
+            macsec_sent sent = { p->memory->out, p->length, MACSEC_OK, p->fate, 0, { 0 } };
             d->counts.link_refused += p->length == 0; /* its packet number is used */
             frames_sent(d, &sent);
-            ring_remove(r);
+            workers_remove(d->workers, SENDING);
         }
         outcome = link_flush(&d->link, &d->counts);
         if (ring_first(r) == NULL)
@@ -26,18 +26,18 @@ static enum outcome send_finished(struct device *d) {
 
 /* Plans a client frame into the ring, which has a free place, while the port is on. Returns its fate. */
 static uint32_t plan_client_frame(struct device *d, const struct frame *frame) {
-    struct ring_place *p = ring_free(workers_ring(d->workers, SENDING));
+    struct ring_place *p = workers_free(d->workers, SENDING);
     struct copies *copies = NULL;
     macsec_planned planned;
-    (void)macsec_plan_send(d->endpoint, &p->slot, frame->octets, frame->length, &planned); /* as in macsec_send */
+    (void)macsec_plan_send(d->endpoint, &p->memory->slot, frame->octets, frame->length, &planned); /* its status too */
     p->length = 0;
     p->fate = planned.fate;
     if (planned.job) {
         copies = workers_copies(d->workers, d->endpoint, planned.key);
         if (copies == NULL)
-            (void)macsec_slot_clear(&p->slot); /* nothing is sent; parallel_from_client has looked for this key */
+            (void)macsec_slot_clear(&p->memory->slot); /* nothing is sent; can_plan has looked for this key */
     } else if (planned.fate == MACSEC_FATE_PLAIN) {
-        memcpy(p->out, frame->octets, frame->length);
+        memcpy(p->memory->out, frame->octets, frame->length);
         p->length = frame->length;
     } else {
         macsec_sent dropped = { NULL, 0, planned.status, planned.fate, 0, { 0 } };
@@ -80,19 +80,19 @@ static enum outcome read_client_frames(struct device *d, struct client_batch *b)
             return outcome;
         if (alone && i == 1)
             plans = can_plan(d);
-        frames_note_fate(d, b, plans && !d->port.off ? plan_client_frame(d, &frame) : frames_send(d, &frame));
+        outcome = frames_note_fate(d, b, plans && !d->port.off ? plan_client_frame(d, &frame) : frames_send(d, &frame));
     }
     return outcome;
 }
 
 enum outcome parallel_from_client(struct device *d) {
-    struct client_batch b = { 0, 0 };
+    struct client_batch b = { 0, 0, 0 };
     enum outcome outcome = leave_at_most(d, RING - BATCH);
     if (outcome == DONE)
         outcome = read_client_frames(d, &b);
     if (outcome != GONE)
-        outcome = send_finished(d); /* before it is noted, since the peer waits */
-    numbers_used(&d->numbers, d->endpoint, b.used, b.lacked > 0);
+        outcome = send_finished(d);
+    frames_end_batch(d, &b);
     return outcome;
 }
 
@@ -109,10 +109,10 @@ static enum outcome receive_first(struct device *d, struct ring_place *p) {
     enum outcome outcome = held_frames_give(d);
     if (outcome == GONE)
         return GONE;
-    (void)macsec_finish_receive(d->endpoint, &p->slot, out, sizeof out, &finished); /* as in macsec_receive */
+    (void)macsec_finish_receive(d->endpoint, &p->memory->slot, out, sizeof out, &finished); /* its status too */
     memcpy((uint8_t *)&got + offsetof(macsec_received, length), &finished, sizeof finished);
     outcome = frames_judged(d, &got, &p->frame);
-    ring_remove(workers_ring(d->workers, RECEIVING));
+    workers_remove(d->workers, RECEIVING);
     return outcome;
 }
 
@@ -137,17 +137,17 @@ static enum outcome make_room(struct device *d) {
 /* If it needs no job or its key can't be copied, macsec_finish_receive does all. */
 enum outcome parallel_receive(struct device *d, const struct frame *frame, unsigned index, bool whole) {
     enum outcome outcome = make_room(d);
-    struct ring_place *p = ring_free(workers_ring(d->workers, RECEIVING));
+    struct ring_place *p = workers_free(d->workers, RECEIVING);
     macsec_planned planned;
     if (outcome != DONE)
         return outcome;
-    if (macsec_plan_receive(d->endpoint, &p->slot, frame->octets, frame->length, &planned) != MACSEC_OK)
+    if (macsec_plan_receive(d->endpoint, &p->memory->slot, frame->octets, frame->length, &planned) != MACSEC_OK)
         return frames_receive(d, frame); /* it counts and judges nothing, and says why */
     p->frame = *frame;
     if (whole)
-        link_keep(&d->link, index, &p->buffer);
+        link_keep(&d->link, index, &p->memory->buffer);
     else
-        p->frame.octets = memcpy(p->out, frame->octets, frame->length);
+        p->frame.octets = memcpy(p->memory->out, frame->octets, frame->length);
     workers_put(d->workers, RECEIVING, planned.job ? workers_copies(d->workers, d->endpoint, planned.key) : NULL);
     return DONE;
 }

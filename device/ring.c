@@ -11,14 +11,16 @@
 
 uint32_t ring_open(struct ring *r) {
     uint32_t status = MACSEC_OK;
-    for (unsigned i = 0; i < RING && status == MACSEC_OK; i++)
-        status = macsec_slot_new(&r->places[i].slot);
+    for (unsigned i = 0; i < RING && status == MACSEC_OK; i++) {
+        r->idle[r->idle_count++] = &r->memory[i];
+        status = macsec_slot_new(&r->memory[i].slot);
+    }
     return status;
 }
 
 void ring_close(struct ring *r) {
     for (unsigned i = 0; i < RING; i++)
-        macsec_slot_free(&r->places[i].slot);
+        macsec_slot_free(&r->memory[i].slot);
 }
 
 unsigned ring_count(const struct ring *r) {

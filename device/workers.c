@@ -86,12 +86,13 @@ __attribute__((noinline)) static void overwrite_stack(void) {
 static void carry_out(struct ring_place *p, unsigned index) {
     size_t written = 0;
     macsec_key *key = &p->copies->keys[index];
+    struct ring_memory *m = p->memory;
     if (!p->seals)
-        (void)macsec_open_job(&p->slot, key);
-    else if (macsec_seal_job(&p->slot, key, p->out, sizeof p->out, &written) == MACSEC_OK)
+        (void)macsec_open_job(&m->slot, key);
+    else if (macsec_seal_job(&m->slot, key, m->out, sizeof m->out, &written) == MACSEC_OK)
         p->length = written;
     else
-        (void)macsec_slot_clear(&p->slot); /* else the slot would take no other frame */
+        (void)macsec_slot_clear(&m->slot); /* else the slot would take no other frame */
     ring_finish(p);
 }
 
@@ -266,6 +267,22 @@ void workers_forget(struct workers *w) {
 }
 
 /* ---- In the endpoint's thread ---- */
+
+struct ring_place *workers_free(struct workers *w, enum direction direction) {
+    struct ring *r = &w->rings[direction];
+    struct ring_place *p = ring_free(r);
+    if (p != NULL && p->memory == NULL)
+        p->memory = r->idle[--r->idle_count];
+    return p;
+}
+
+void workers_remove(struct workers *w, enum direction direction) {
+    struct ring *r = &w->rings[direction];
+    struct ring_place *p = ring_at(r, 0);
+    r->idle[r->idle_count++] = p->memory;
+    p->memory = NULL;
+    ring_remove(r);
+}
 
 void workers_put(struct workers *w, enum direction direction, struct copies *copies) {
     struct ring *r = &w->rings[direction];

@@ -16,17 +16,22 @@ struct workers;
 
 enum place_state { FREE, PLANNED, TAKEN, FINISHED };
 
-/* A frame that is under way. Its state says which thread has the other members. */
-struct ring_place {
-    _Alignas(64) _Atomic uint32_t state;
-    bool seals;                    /* is its job to seal the frame, and not to open it? */
-    struct copies *copies;         /* of the key of its job, or NULL */
+/* The memory of a frame that is under way. */
+struct ring_memory {
     macsec_slot slot;              /* the frame with its job */
-    size_t length;                 /* of what is sent; 0: it could not be sealed */
-    uint32_t fate;                 /* of a client frame */
-    struct frame frame;            /* of LINK, since it may have to wait */
     struct received *buffer;       /* of a frame of LINK: the one that has this frame, or a spare one */
     uint8_t out[MACSEC_FRAME_MAX]; /* what is sent; or a segment, of those that have a buffer together */
+};
+
+/* A frame that is under way. Its state says which thread has the other members, and the memory. */
+struct ring_place {
+    _Alignas(64) _Atomic uint32_t state;
+    bool seals;                 /* is its job to seal the frame, and not to open it? */
+    struct copies *copies;      /* of the key of its job, or NULL */
+    struct ring_memory *memory; /* of a frame; a free place can have none (NULL) */
+    size_t length;              /* of what is sent; 0: it could not be sealed */
+    uint32_t fate;              /* of a client frame */
+    struct frame frame;         /* of LINK, since it may have to wait */
 };
 
 /* Frames are numbered from 0 on: those from `first` to before `end` are in it. */
@@ -35,9 +40,13 @@ struct ring {
     _Alignas(64) _Atomic uint64_t end;
     _Alignas(64) _Atomic uint64_t next; /* before it no job waits for a thread */
     struct ring_place places[RING];
+    /* Of the endpoint's thread alone: the memory that no frame has. What was used last is used next, so that few frames
+     * fit into caches: all of it together is 3.6 MB. */
+    unsigned idle_count;
+    struct ring_memory *idle[RING], memory[RING];
 };
 
-/* Makes the slots of a ring that is all zero. Returns the library's status. */
+/* Makes the memory of a ring that is all zero. Returns the library's status. */
 uint32_t ring_open(struct ring *r);
 void ring_close(struct ring *r);
 /* In the endpoint's thread: how many frames are in it, and the place of this index among them. */
@@ -83,6 +92,9 @@ unsigned workers_under_way(const struct workers *w, enum direction direction);
 struct copies *workers_copies(struct workers *w, const macsec_endpoint *e, uint16_t number);
 /* Waits for the jobs that are under way and frees all copies: to be called after a line, and with another endpoint. */
 void workers_forget(struct workers *w);
+/* The place for the next frame, with memory, or NULL if the ring is full. Removes the first one, which is finished. */
+struct ring_place *workers_free(struct workers *w, enum direction direction);
+void workers_remove(struct workers *w, enum direction direction);
 /* Puts the frame of the free place into the ring, with a job for a key, or without one if that is NULL. */
 void workers_put(struct workers *w, enum direction direction, struct copies *copies);
 /* Does a job that no thread has taken. Returns false if there is none: none may be left when the loop waits, since no

@@ -1,9 +1,11 @@
-"""How many system calls macsecd makes for a frame of TCP and of UDP. strace counts them."""
+"""How many system calls macsecd makes for a frame of TCP and of UDP, and in which order for one that comes alone.
+strace counts them."""
 
 from __future__ import annotations
 
 import contextlib
 import pathlib
+import re
 import shutil
 import signal
 import subprocess
@@ -11,7 +13,7 @@ from collections.abc import Iterator
 
 from house.reporting import Failed, report, until
 from macsecd_segments import ACK, Stream, frame, whole
-from macsecd_world import SOL_PACKET, End, Packets, World, inside
+from macsecd_world import SOL_PACKET, End, Packets, World, inside, ping
 
 # Of the frames, the octets of a segment, and how many segments one frame of the client has.
 FRAMES, SIZE, TOGETHER = 10350, 1300, 45
@@ -20,15 +22,16 @@ AT_ONCE = 450
 TCP, UDP = 6, 17
 # The calls by which frames pass. The others come each second, or are of the thread that writes the journal.
 CALLS = "read", "write", "recvmmsg", "sendmmsg", "epoll_wait"
+# So many frames come alone, and one fewer leaves at once at least: the first one can follow others.
+ALONE = 20
 # The most of them for a frame, at the end that sends and at the one that receives.
 LIMITS = {"TCP": (0.2, 0.2), "UDP in segments": (0.2, 0.2), "UDP": (1.2, 0.3)}
 
 
 @contextlib.contextmanager
-def counted(end: End, found: list[int]) -> Iterator[None]:
-    """Adds how many calls of CALLS macsecd makes meanwhile, in all threads."""
-    path = end.folder / "calls"
-    words = ["strace", "-f", "-c", "-o", str(path), "-p", str(end.pid)]
+def traced(end: End, path: pathlib.Path, *options: str) -> Iterator[None]:
+    """Has strace write about the calls that macsecd makes meanwhile."""
+    words = ["strace", *options, "-o", str(path), "-p", str(end.pid)]
     with subprocess.Popen(words, stderr=subprocess.PIPE, text=True) as strace:
         assert strace.stderr is not None
         if "attached" not in strace.stderr.readline():
@@ -38,6 +41,14 @@ def counted(end: End, found: list[int]) -> Iterator[None]:
         finally:
             strace.send_signal(signal.SIGINT)
             strace.stderr.read()
+
+
+@contextlib.contextmanager
+def counted(end: End, found: list[int]) -> Iterator[None]:
+    """Adds how many calls of CALLS macsecd makes meanwhile, in all threads."""
+    path = end.folder / "calls"
+    with traced(end, path, "-f", "-c"):
+        yield
     table = (line.split() for line in path.read_text().splitlines())
     found.append(sum(int(row[3]) for row in table if row and row[-1] in CALLS))
 
@@ -95,6 +106,17 @@ def calls_a_frame(world: World, kind: str) -> list[float]:
     return [it / FRAMES for it in reversed(found)]  # the last one to begin ends first
 
 
+def check_order(world: World) -> None:
+    """A client frame that comes alone, as an echo request and its reply, is sent before TAP is read again."""
+    a, b = world.ends
+    paths = [end.folder / "order" for end in (a, b)]
+    with traced(a, paths[0], "-e", "trace=read,sendmmsg"), traced(b, paths[1], "-e", "trace=read,sendmmsg"):
+        report(ping(a, ALONE) == ALONE, "calls: echo requests are not answered")
+    for path in paths:  # of the first thread: a read of 108 octets has an echo
+        sent = len(re.findall(r"(?m)^read\(.* = 108\nsendmmsg\(", path.read_text()))
+        report(sent >= ALONE - 1, f"calls: of {ALONE} frames that come alone {sent} are sent before TAP is read again")
+
+
 def check_calls(world: World, takes: bool) -> None:
     """Compares them with the limits. If TAP takes no segments, TCP has to be over its limit."""
     if shutil.which("strace") is None:
@@ -104,6 +126,8 @@ def check_calls(world: World, takes: bool) -> None:
         end.write_config(device="device link link0\n" + "device segments off\n" * (not takes))
         end.create_journal()
         end.start()
+    if takes:
+        check_order(world)
     kinds = [it for it in LIMITS if it != "UDP in segments" or "TCP and UDP" in world.ends[0].ask("show")]
     for kind in kinds if takes else ["TCP"]:
         found = calls_a_frame(world, kind)

@@ -13,7 +13,7 @@ from house.reporting import Failed, report
 # fmt: off
 CONTROLS: dict[str, list[tuple[str, str, str]]] = {
     "traffic": [("frames.c", "d->counts.tap_in++;", "d->counts.tap_in += 2;"),
-                ("parallel.c", "frames_note_fate(d, b, plans", "d->counts.tap_in++, frames_note_fate(d, b, plans"),
+                ("parallel.c", "frames_note_fate(d, b, plans", "(d->counts.tap_in++, frames_note_fate)(d, b, plans"),
                 ("loop.c", "d->counts.tap_out != delivered &&", "d->counts.tap_out + 1 == delivered &&"),
                 ("tap.c", "frame - ETH_HLEN - MACSEC_OVERHEAD_MAX;", "frame - ETH_HLEN;"),
                 ("show.c", "(d, sa->key) ? UINT64_MAX : UINT32_MAX", "(d, sa->key) ? UINT32_MAX : UINT32_MAX")],
@@ -135,7 +135,8 @@ CONTROLS: dict[str, list[tuple[str, str, str]]] = {
                  ("tap.c", "t->datagrams = joins &&", "t->datagrams = true ||"),
                  ("config.c", "&c->single }", "&c->shared }"),
                  ("loop.c", "    if (has_rest(d))\n", "    if (false)\n")],
-    "calls": [("tap.c", "set_offload(t, !c->single) != 0 ||", "set_offload(t, false) != 0 ||"),
+    "calls": [("frames.c", "b->count++ == 0 && d->alone ?", "b->count++ == 0 && false ?"),
+              ("tap.c", "set_offload(t, !c->single) != 0 ||", "set_offload(t, false) != 0 ||"),
               ("tap.c", "if (segments_join(&t->joined, octets, length))", "if (false)")],
     "control": [("control.c", "i != d->port.owner && ", ""),
                 ("control.c", "(k->user[i] != 0 || for_root)", "true"),

@@ -11,8 +11,8 @@
 #include <stdarg.h>
 
 /* The wire between the two, the shortest client frame with a number in it, the octets of its header, the most octets of
- * one, how many frames come alone at the end, and how many devices end early. */
-enum { WIRE = 4 * RING, SHORTEST = 22, HEADER = 14, MOST = 1400, ALONE = 20, ENDS = 50 };
+ * one, how many frames come alone at the end, how many then come at once, and how many devices end early. */
+enum { WIRE = 4 * RING, SHORTEST = 22, HEADER = 14, MOST = 1400, ALONE = 20, FEW = 9, ENDS = 50 };
 
 static const uint8_t sender_sci[8] = { 2, 0, 0, 0, 0, 1, 0, 1 };
 
@@ -317,6 +317,26 @@ static void send_alone(void) {
         wrong("a frame of LINK that comes alone waits for a worker");
 }
 
+/* Few frames at once have the memory of as few, again and again. No frame begins with a zero. */
+static void send_few(void) {
+    struct ring *r = workers_ring(a.workers, SENDING);
+    unsigned used = 0;
+    arrive();
+    for (unsigned i = 0; i < RING; i++)
+        r->memory[i].out[0] = 0;
+    for (unsigned i = 0; i < ALONE; i++) {
+        to_send = sent + FEW;
+        burst = FEW;
+        if (parallel_from_client(&a) == GONE)
+            wrong("the sender is gone");
+        arrive();
+    }
+    for (unsigned i = 0; i < RING; i++)
+        used += r->memory[i].out[0] != 0;
+    if (used == 0 || used > FEW)
+        wrong("%u frames at once have the memory of %u", (unsigned)FEW, used);
+}
+
 /* Devices end while frames are under way. */
 static void end_early(unsigned workers) {
     static struct device c;
@@ -354,6 +374,7 @@ int main(int count, char **words) {
         turn();
     for (unsigned i = 0; i < ALONE; i++)
         send_alone();
+    send_few();
     arrive();
     compare();
     workers_close(a.workers);
