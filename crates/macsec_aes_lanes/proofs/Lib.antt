@@ -18,4 +18,5 @@ pub mod Places
 pub mod LookUps
 pub mod Represented
 pub mod NibbleRounds
+pub mod LookUpRounds
 pub mod NibbleKeys

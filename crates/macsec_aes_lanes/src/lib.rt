@@ -31,6 +31,17 @@ use state::{add_round_key, blocks_of, mix_columns, shift_rows, states_of, sub_by
 pub fn encrypt8(schedule: &LaneSchedule, blocks: &mut [[u8; 16]; 8])
     ensures { blocks.new ≡ map (aes schedule.now) blocks.old }
 {
+    if schedule.is_wide() {
+        encrypt8_by_look_ups(schedule, blocks);
+    } else {
+        encrypt8_in_planes(schedule, blocks);
+    }
+}
+
+/// The same in planes of 128 bits.
+fn encrypt8_in_planes(schedule: &LaneSchedule, blocks: &mut [[u8; 16]; 8])
+    ensures { blocks.new ≡ map (aes schedule.now) blocks.old }
+{
     let rounds = schedule.rounds();
     let mut states = add_round_key(states_of(blocks), schedule.round_key(0));
     for round in 1..rounds {
@@ -39,6 +50,32 @@ pub fn encrypt8(schedule: &LaneSchedule, blocks: &mut [[u8; 16]; 8])
     }
     let last = shift_rows(sub_bytes_but_constant(states));
     *blocks = blocks_of(add_round_key(last, schedule.round_key(rounds)));
+}
+
+/// The same by look-ups, in vectors of 256 bits.
+#[inline(never)]
+fn encrypt8_by_look_ups(schedule: &LaneSchedule, blocks: &mut [[u8; 16]; 8])
+    ensures { blocks.new ≡ map (aes schedule.now) blocks.old }
+{
+    let rounds = schedule.rounds();
+    let first = schedule.nibble_key(0);
+    let mut a = first_round(both(blocks[0], blocks[1]), first);
+    let mut b = first_round(both(blocks[2], blocks[3]), first);
+    let mut c = first_round(both(blocks[4], blocks[5]), first);
+    let mut d = first_round(both(blocks[6], blocks[7]), first);
+    for round in 1..rounds {
+        let key = schedule.nibble_key(round);
+        a = nibble_state::round(a, key);
+        b = nibble_state::round(b, key);
+        c = nibble_state::round(c, key);
+        d = nibble_state::round(d, key);
+    }
+    let last = schedule.last_nibble_key();
+    let [b0, b1] = nibble_state::blocks_of(last_round(a, last));
+    let [b2, b3] = nibble_state::blocks_of(last_round(b, last));
+    let [b4, b5] = nibble_state::blocks_of(last_round(c, last));
+    let [b6, b7] = nibble_state::blocks_of(last_round(d, last));
+    *blocks = [b0, b1, b2, b3, b4, b5, b6, b7];
 }
 
 /// Encrypts six blocks of 16 bytes under the key of a schedule: Cipher (FIPS 197, 5.1).
@@ -85,8 +122,8 @@ fn encrypt16_in_halves(schedule: &LaneSchedule, blocks: &mut [[u8; 16]; 16])
     let mut second = [[0; 16]; 8];
     first.copy_from_slice(&blocks[..8]);
     second.copy_from_slice(&blocks[8..]);
-    encrypt8(schedule, &mut first);
-    encrypt8(schedule, &mut second);
+    encrypt8_in_planes(schedule, &mut first);
+    encrypt8_in_planes(schedule, &mut second);
     blocks[..8].copy_from_slice(&first);
     blocks[8..].copy_from_slice(&second);
 }

@@ -11,11 +11,11 @@ use macsec_ghash::{KeyPowers, RunningHash};
 pub struct PaddedHash<'k> {
     /// The powers of the hash subkey, borrowed from the key.
     powers: &'k KeyPowers,
+    /// The number of waiting octets.
+    waiting_count: usize,
     hash: RunningHash,
     /// The waiting octets. The octets after them are leftovers.
     waiting: [u8; 16],
-    /// The number of waiting octets.
-    waiting_count: usize,
     ghost has_room: { waiting_count < 16 },
 }
 
@@ -30,9 +30,9 @@ impl<'k> PaddedHash<'k> {
     {
         PaddedHash {
             powers,
+            waiting_count: 0,
             hash: RunningHash::start(),
             waiting: [0; 16],
-            waiting_count: 0,
         }
     }
 
@@ -72,10 +72,14 @@ impl<'k> PaddedHash<'k> {
         ensures { (h : ℕ) (blocks text : List ℕ) → IsHashing self.old h blocks text
             → IsHashing self.new h (blocks ++ pad text) [] }
     {
-        let waiting = self.waiting;
-        self.hash
-            .absorb(self.powers, &waiting[..self.waiting_count]);
+        if self.waiting_count == 0 {
+            return;
+        }
+        let mut last = [0; 16];
+        last[..self.waiting_count].copy_from_slice(&self.waiting[..self.waiting_count]);
         self.waiting_count = 0;
+        let block = Block(u128::from_be_bytes(last));
+        self.hash.absorb_block(self.powers, block);
     }
 
     /// Hashes one more block after texts that have ended. Returns the hash of all blocks.
