@@ -180,11 +180,11 @@ void __wrap_free(void *block) {
     __real_free(block);
 }
 
-/* An endpoint has 14 blocks, and one more with a journal that has records, or once it has renewed a key; a key has one,
+/* An endpoint has 15 blocks, and one more with a journal that has records, or once it has renewed a key; a key has one,
  * a slot three, and the file of a journal five. A load leaves a copy of the endpoint, which can have some more. Only
  * the calls that make one, load or renew a key, a line and a journal ask for blocks; one that answers MACSEC_E_TAKEN or
  * MACSEC_E_EMPTY does not. */
-enum { BLOCKS = 14 };
+enum { BLOCKS = 15 };
 
 static void check_blocks(const char *name, unsigned handle, bool held_before, uint32_t status) {
     const char *reading[] = { "configure",    "command_line",      "parse_line",        "parse_end",     "answer",

@@ -37,7 +37,7 @@
  *            first (MACSEC_E_EMPTY, MACSEC_E_TAKEN), then the arguments (MACSEC_E_NO_SUCH_..), then the rest. If
  *            several statuses of arguments apply, or several refusals of a command, the call returns the lowest; but
  *            MACSEC_E_PN_FLOOR comes first where a journal is the reason.
- * MEMORY     macsec_new allocates 14 blocks by malloc, 19.1 MB in all: four for 4,096 keys, two for a frame, eight for
+ * MEMORY     macsec_new allocates 15 blocks by malloc, 19.1 MB in all: five for 4,096 keys, two for a frame, eight for
  *            the rest. macsec_free frees them. macsec_configure allocates the same, and so do macsec_reserve_open and
  *            macsec_reserve_configure, with one more for a journal that has records. macsec_key_take allocates one
  *            block, macsec_slot_new three, and macsec_journal_begin five. macsec_renew_key makes the block of the names
@@ -93,11 +93,12 @@
  * it allocates and overwrites memory; C's side of what the header says; malloc; the compilers.
  *
  * In the calls for keys, frames and jobs no branch and no address depends on a key or on data, except the verdict, the
- * refusal KeyRepeated (is the key one of the endpoint's, or its fingerprint a retired key's?) and MACSEC_E_OTHER_KEY
- * (is it the key of the job?). The digits of a key in a line or a text decide two branches more, in the same way for
- * every key: does an octet end the word or the line, and are all of them hex digits? With a journal, and once a key is
- * renewed, names of keys decide branches too: they are digests, which the journal shows. This is measured on the
- * libraries by tests/library/constant-time, and not proved.
+ * refusal KeyRepeated (is the key one of the endpoint's, or its fingerprint a retired key's?), whether a key that is
+ * installed has the 64-bit checksum of one that the endpoint has, and MACSEC_E_OTHER_KEY (is it the key of the job?).
+ * The digits of a key in a line or a text decide two branches more, in the same way for every key: does an octet end
+ * the word or the line, and are all of them hex digits? With a journal, and once a key is renewed, names of keys decide
+ * branches too: they are digests, which the journal shows. This is measured on the libraries by
+ * tests/library/constant-time, and not proved.
  */
 #ifndef MACSEC_H
 #define MACSEC_H

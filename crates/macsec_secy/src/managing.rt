@@ -17,8 +17,8 @@ use macsec_commands::is_unfit;
 use macsec_tx::TxOptions;
 
 impl Secy {
-    /// Replaces the octets of a retired key by `bytes`, as if it had been installed with them. Nothing else changes. The
-    /// old octets, and all that was prepared from them, are overwritten. So a keeper forgets a retired key: with a
+    /// Replaces the octets of a retired key by `bytes`, as if it had been installed with them. Nothing else changes.
+    /// The old octets, and all that was prepared from them, are overwritten. So a keeper forgets a retired key: with a
     /// fingerprint of its octets as `bytes`, the keeper can still refuse them. Returns false and changes nothing if
     /// there is no such key or it is not retired, if its suite's keys have another length, or if a key has these octets
     /// already, retired or not.
@@ -35,13 +35,13 @@ impl Secy {
         self.keys.replace(number, bytes)
     }
 
-    /// Installs a key as the command does, also under the number of a retired key that no SA uses. Then it takes the row of
-    /// that key, whose octets are overwritten, with all that was prepared from them. Nothing else changes: every other key
-    /// stays, with its first unused packet number, and so do all SAs, counters and options.
+    /// Installs a key as the command does, also under the number of a retired key that no SA uses. Then it takes the
+    /// row of that key, whose octets are overwritten, with all that was prepared from them. Nothing else changes: every
+    /// other key stays, with its first unused packet number, and so do all SAs, counters and options.
     ///
-    /// The endpoint no longer knows the octets of the key that was in the row, so it does not refuse them any more. A keeper
-    /// that remembers a fingerprint of them does. Do not seal a job that was planned under the old key, and do not pass what
-    /// was opened under it to `finish_receive`.
+    /// The endpoint no longer knows the octets of the key that was in the row, so it does not refuse them any more. A
+    /// keeper that remembers a fingerprint of them does. Do not seal a job that was planned under the old key, and do
+    /// not pass what was opened under it to `finish_receive`.
     ///
     /// Errors: those of the command, in the same order.
     pub fn renew_key(&mut self, key: &NewKey) -> Result<(), Refusal>
@@ -56,7 +56,7 @@ impl Secy {
             .renew(self.config.suite, key, self.options.window, in_use)
     }
 
-    /// Whether a retired key has these octets. It compares every key.
+    /// Whether a retired key has these octets.
     pub fn has_retired_key(&self, bytes: Key) -> bool
         ensures { result ≡ has_retired self.now.keys (key_bytes bytes) }
     {

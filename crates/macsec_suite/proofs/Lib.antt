@@ -1,5 +1,6 @@
 pub mod ClearParts
 pub mod KeyLemmas
+mod Checksums
 pub mod KeyCount
 pub mod KeyIndex
 pub mod EqualIvs

@@ -13,4 +13,5 @@ pub mod Refusals
 pub mod Renewing
 pub mod Replacing
 pub mod RefusalNumbers
+pub mod Checksums
 pub mod KeyTables

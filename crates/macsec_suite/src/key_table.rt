@@ -6,6 +6,7 @@ ghost use Rattle.std.specs.Bool.{OnTrue, OnFalse};
 ghost use Rattle.std.specs.List.{All, list_any};
 ghost use Rattle.macsec_aes.specs.Keys.{key_bytes};
 ghost use Rattle.macsec_gcm.specs.Octets.{same_octets};
+ghost use Rattle.macsec_suite.specs.Checksums.{has_checksum};
 ghost use Rattle.macsec_suite.specs.KeyRows.{AreKeyRows, is_extended, key_row, keys_noting, keys_replacing};
 ghost use Rattle.macsec_suite.specs.KeyRows.{keys_retiring, keys_with, max_key_count, new_row, suite_of, the_key};
 ghost use Rattle.macsec_suite.specs.KeyRows.{widest_beside, with_bytes};
@@ -18,6 +19,7 @@ ghost use Rattle.macsec_suite.specs.Refusals.{is_retired};
 ghost use Rattle.macsec_suite.specs.Renewing.{add_refusals, is_number_taken, keys_added, keys_renewing};
 ghost use Rattle.macsec_suite.specs.Replacing.{can_replace};
 
+use crate::checksum::checksum_of;
 use crate::key_number::MAX_KEY_COUNT;
 use crate::suite::{WIDEST_EXTENDED_WINDOW, WIDEST_SHORT_WINDOW};
 use crate::suite_key::octets_of;
@@ -61,6 +63,10 @@ pub struct KeyTable {
     rows: Vec<StoredKey>,
     /// For each key number, the index of its row.
     places: Vec<u16>,
+    /// For each row, the checksum of its key's octets.
+    checksums: Vec<u64>,
+    /// Whether a key was ever retired.
+    retires: bool,
     /// How many keys have extended packet numbers and are not retired.
     extended: u16,
     /// Whether key streams of keys that are installed are made 16 blocks at once.
@@ -70,6 +76,7 @@ pub struct KeyTable {
 impl Model for KeyTable {
     ghost use Rattle.std.specs.Prelude.{◌≡◌, ◌≤◌, List, map, vec_capacity};
     ghost use Rattle.std.specs.List.{All};
+    ghost use Rattle.macsec_suite.specs.Checksums.{AreChecksums, AreRetiredIf};
     ghost use Rattle.macsec_suite.specs.KeyNumbers.{max_key_count};
     ghost use Rattle.macsec_suite.specs.KeyRows.{AreKeyRows, InstalledKey};
     ghost use Rattle.macsec_suite.specs.KeyTables.{HasOwnKey, IsIndex, extended_count, stored_row};
@@ -80,10 +87,13 @@ impl Model for KeyTable {
 
     // There is space for every key that an endpoint can have. Key numbers are distinct, each key is prepared from its
     // own bytes, the index finds each key by its number, and `extended` counts the keys that have extended
-    // packet numbers and are not retired.
+    // packet numbers and are not retired. Each row has its checksum, also after its octets are replaced. No key is
+    // retired unless `retires` is true.
     ghost invariant = { λ t. (max_key_count ≤ vec_capacity t.rows) × AreKeyRows (map stored_row t.rows.items)
         × All (λ s. HasOwnKey s.row) t.rows.items × IsIndex t.places.items (map stored_row t.rows.items)
-        × (t.extended ≡ extended_count (map stored_row t.rows.items)) };
+        × (t.extended ≡ extended_count (map stored_row t.rows.items))
+        × AreChecksums t.checksums.items (vec_capacity t.checksums) (map stored_row t.rows.items)
+        × AreRetiredIf t.retires (map stored_row t.rows.items) };
 }
 
 impl KeyTable {
@@ -94,6 +104,8 @@ impl KeyTable {
         Ok(KeyTable {
             rows: Vec::with_capacity(alloc, PLACE_COUNT)?,
             places: vec![in alloc; NO_PLACE; PLACE_COUNT]?,
+            checksums: Vec::with_capacity(alloc, PLACE_COUNT)?,
+            retires: false,
             extended: 0,
             wide: false,
         })
@@ -110,6 +122,7 @@ impl KeyTable {
         }
         // An empty table has space for all keys. Another one would only be allocated, overwritten and freed.
         let places = other.places.clone()?;
+        let checksums = clone_of(alloc, other.checksums.as_slice())?;
         match append_clones(&mut self.rows, other.rows.as_slice()) {
             Ok(()) => {}
             Err(fault) => {
@@ -118,6 +131,8 @@ impl KeyTable {
             }
         }
         self.places = places;
+        self.checksums = checksums;
+        self.retires = other.retires;
         self.extended = other.extended;
         self.wide = other.wide;
         Ok(())
@@ -132,6 +147,8 @@ impl KeyTable {
         Ok(KeyTable {
             rows,
             places: self.places.clone()?,
+            checksums: clone_of(alloc, self.checksums.as_slice())?,
+            retires: self.retires,
             extended: self.extended,
             wide: self.wide,
         })
@@ -250,6 +267,7 @@ impl KeyTable {
             return Err(Refusal::KeyInUse);
         }
         let index = self.index_of(number) as usize;
+        self.retires = true;
         let stored = &mut self.rows[index];
         self.extended -= stored.extended_count();
         stored.row.retired = true;
@@ -275,6 +293,8 @@ impl KeyTable {
             return false;
         }
         let index = self.index_of(number) as usize;
+        let checksum = checksum_of(octets_of(&bytes));
+        self.checksums[index] = checksum;
         let stored = &mut self.rows[index];
         stored.replace(bytes);
         true
@@ -374,8 +394,39 @@ impl KeyTable {
         self.places[usize::from(number.number())]
     }
 
-    /// Whether a key with these bytes was installed, retired or not. It compares every row.
+    /// Whether a key with these bytes was installed, retired or not. It compares every checksum. The rows are large and
+    /// far apart, so it compares their octets only if a checksum is the same.
     fn has_bytes(&self, bytes: Key) -> bool
+        ensures { result ≡ is_repeated self.now (key_bytes bytes) }
+    {
+        self.has_checksum(&bytes) && self.has_row_with(bytes)
+    }
+
+    /// Whether a retired key has these bytes.
+    pub fn has_retired(&self, bytes: Key) -> bool
+        ensures { result ≡ has_retired self.now (key_bytes bytes) }
+    {
+        if !self.retires {
+            return false;
+        }
+        self.has_checksum(&bytes) && self.has_retired_row_with(bytes)
+    }
+
+    /// Whether a key has the checksum of these bytes. It compares every checksum.
+    fn has_checksum(&self, bytes: &Key) -> bool
+        ensures { result ≡ has_checksum self.now (key_bytes bytes.now) }
+    {
+        let checksum = checksum_of(octets_of(bytes));
+        let checksums = self.checksums.as_slice();
+        let mut found = false;
+        'checksums: for i in 0..checksums.len() {
+            found |= checksums[i] == checksum;
+        }
+        found
+    }
+
+    /// Whether a row has these bytes. It compares every row.
+    fn has_row_with(&self, bytes: Key) -> bool
         ensures { result ≡ is_repeated self.now (key_bytes bytes) }
     {
         let rows = self.rows.as_slice();
@@ -386,8 +437,8 @@ impl KeyTable {
         found
     }
 
-    /// Whether a retired key has these bytes. It compares every row.
-    pub fn has_retired(&self, bytes: Key) -> bool
+    /// Whether the row of a retired key has these bytes. It compares every row.
+    fn has_retired_row_with(&self, bytes: Key) -> bool
         ensures { result ≡ has_retired self.now (key_bytes bytes) }
     {
         let rows = self.rows.as_slice();
@@ -416,6 +467,8 @@ impl KeyTable {
         ensures rows { AreKeyRows self.new }
     {
         let index = self.index_of(key.number) as usize;
+        let checksum = checksum_of(octets_of(&key.bytes));
+        self.checksums[index] = checksum;
         let stored = &mut self.rows[index];
         stored.renew(key, suite, self.wide);
         let count = stored.extended_count();
@@ -431,12 +484,15 @@ impl KeyTable {
         ensures rows { AreKeyRows self.new }
     {
         self.places[added.number()] = self.rows.len() as u16;
+        let checksum = checksum_of(octets_of(&added.key.bytes));
+        self.retires |= added.retired;
         let stored = StoredKey {
             row: added,
             first_unused: 1,
         };
         self.extended += stored.extended_count();
         self.rows.push(stored).unwrap();
+        self.checksums.push(checksum).unwrap();
     }
 }
 
@@ -450,6 +506,16 @@ fn append_clones(rows: &mut Vec<StoredKey>, more: &[StoredKey]) -> Result<(), Al
         rows.push(stored.clone()?).unwrap();
     }
     Ok(())
+}
+
+/// A copy of these checksums, with space for those of 4,096 keys.
+fn clone_of(alloc: Global, checksums: &[u64]) -> Result<Vec<u64>, AllocError>
+    ensures items { IfOk result (λ copy. copy.items ≡ checksums.now) }
+    ensures space { IfOk result (λ copy. max_key_count ≤ vec_capacity copy) }
+{
+    let mut copy = Vec::with_capacity(alloc, PLACE_COUNT)?;
+    copy.extend_from_slice(checksums)?;
+    Ok(copy)
 }
 
 /// Says it to each of these keys.

@@ -23,6 +23,7 @@
 //! second table, take an allocator. `KeyRow::prepared_again` returns an equal row.
 #![tactic(auto)]
 
+mod checksum;
 mod in_place;
 mod iv;
 mod key_number;

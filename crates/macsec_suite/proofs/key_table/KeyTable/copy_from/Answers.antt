@@ -16,8 +16,8 @@ append_clones-requires c =
       c.self.invariant.0,
       empty,
       c.as_slice.ensures.len,
-      c.as_slice-2.ensures.len,
-      ap length c.as_slice-2.ensures.value,
+      c.as_slice-3.ensures.len,
+      ap length c.as_slice-3.ensures.value,
     )
 
 pub invariant_of-self-2 : goal.invariant_of-self-2
@@ -28,11 +28,11 @@ invariant_of-self-2 c =
     ∙ eqb-true (length c.as_slice.result.now) 0 (sym c.if-not-is_empty.ensures)) in
     let items : c.append_clones.new.rows.items ≡ c.other.inside.rows.items =
     subst
-    (λ r. OnOk r (c.append_clones.new.rows.items ≡ c.self.inside.rows.items ++ c.as_slice-2.result.now))
+    (λ r. OnOk r (c.append_clones.new.rows.items ≡ c.self.inside.rows.items ++ c.as_slice-3.result.now))
     c.in-Ok.is
     c.append_clones.ensures.items
-    ∙ ap (λ it. it ++ c.as_slice-2.result.now) none
-    ∙ c.as_slice-2.ensures.value in
+    ∙ ap (λ it. it ++ c.as_slice-3.result.now) none
+    ∙ c.as_slice-3.ensures.value in
     let places : c.in_ok-places.places.items ≡ c.other.inside.places.items =
     each_same _ _ c.in_ok-places.ensures.cases.0 in
     rw (items, places) (
@@ -41,4 +41,10 @@ invariant_of-self-2 c =
       c.other.invariant.2,
       c.other.invariant.3,
       c.other.invariant.4,
+      record {
+        space = c.in_ok-checksums.ensures.space;
+        are = c.in_ok-checksums.ensures.items
+            ∙ c.as_slice-2.ensures.value ∙ c.other.invariant.5.are;
+      },
+      c.other.invariant.6,
     )

@@ -28,4 +28,10 @@ invariant_of-result c =
       c.self.invariant.2,
       c.self.invariant.3,
       c.self.invariant.4,
+      record {
+        space = c.in_ok-clone_of.ensures.space;
+        are = c.in_ok-clone_of.ensures.items
+            ∙ c.as_slice-2.ensures.value ∙ c.self.invariant.5.are;
+      },
+      c.self.invariant.6,
     )
