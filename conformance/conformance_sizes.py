@@ -18,11 +18,13 @@ MACHINE = [*(f"macsec_secy/{it}" for it in ("Step", "Answers", "Rests")), "macse
 PROMISES = [f"macsec_link/{it}" for it in "Step Beginnings UniqueIvs Forgery Origin Window Acceptance".split()]
 RESTARTS = [f"macsec_reserve/{it}" for it in ("Unique", "TwoEnds", "Replay", "Crashes")]
 RESTARTS += [f"macsec_restarts/{it}" for it in ("Sent", "Delivered", "Origin", "Order", "Acceptance")]
-RESTARTS += [f"macsec_restarts/{it}" for it in ("AheadSteps", "AheadRuns", "AheadOrder")]
+RESTARTS += [f"macsec_restarts/{it}" for it in "AheadSteps AheadRuns RenewingRuns RenewingOrder RenewingEnds".split()]
+RESTARTS += [f"macsec_restarts/{it}" for it in ("RenewingLists", "RenewingOutputs", "OnDisk", "OnDiskOrder")]
 TEXTS = ["macsec_script/Printed", "macsec_script/Promised", "macsec_script_parser/Scripts", "macsec_capture/Captured"]
 TEXTS += ["macsec_pcapng/Captures", "macsec_cli_runs/Failures"]
 IN_C = [f"macsec_c/{it}" for it in ("Answers", "Found", "Texts")]
 IN_C += [f"macsec_c_calls/{it}" for it in "Configs Keys SentParts ReceivedParts Shown Reserving Texts".split()]
+IN_C += [f"macsec_c_runs/{it}" for it in ("Runs", "TwoEnds", "SingleCalls")]
 
 
 @functools.lru_cache(None)

@@ -12,9 +12,8 @@
 //! or none (`specs/Loading.antt`): it works on a copy, which nothing else sees. After that `command_renewing` refuses
 //! the octets of keys whose row a new key took; before, it is `command_forgetting` (`specs/Renewing.antt`).
 //!
-//! The laws of this endpoint over restarts are in `macsec_restarts`. Those with `forgetting` in their names are about
-//! runs in which a command forgets the key that it retires, and those with `renewing` about runs that also renew keys.
-//! `is_keeping_inside` and `forgets_alike_ahead` say how the endpoint compares with one that does less.
+//! The laws of this endpoint over restarts are in `macsec_restarts`. Those with `renewing` in their names are about
+//! runs that renew keys. `is_keeping_inside` says which steps of the keeping endpoint it takes.
 #![tactic(auto)]
 
 mod ends;

@@ -1,7 +1,6 @@
--- What each call does to the keeping endpoint inside: the step of an endpoint that installs each key as a renewal, or
--- nothing.
+-- What a command that installs a key does: the same as a renewal of the key, or nothing.
 use Rattle.std.proofs.Common.{◌≡◌, ◌∙◌, ◌&&◌, ◌||◌, ◌++◌, ◌∷◌, ◌^◌, ◌-◌, [], Bool, true, false, not, Option, Some, None}
-use Rattle.std.proofs.Common.{refl, ap, sym, if◌then◌else◌, set}
+use Rattle.std.proofs.Common.{List, refl, ap, sym, if◌then◌else◌, set}
 use Rattle.std.specs.Prelude.{is_none}
 use Rattle.macsec_aes.specs.Keys.{key_bytes}
 use Rattle.macsec_suite.specs.declared.key_row.NewKey.{NewKey}
@@ -22,19 +21,18 @@ use Rattle.macsec_secy.specs.State.{State}
 use Rattle.macsec_secy.specs.Step.{operator_command, step}
 use Rattle.macsec_reserve.specs.declared.reservation.Reservation.{Reservation}
 use Rattle.macsec_reserve.proofs.Steps.{by_tests}
-use Rattle.macsec_reserve.specs.Forgetting.{as_taken}
+use Rattle.macsec_reserve.specs.Forgetting.{as_taken, is_forgotten, key_of_fingerprint}
 use Rattle.macsec_reserve.specs.Journal.{sending_name}
 use Rattle.macsec_reserve.specs.Keeping.{Keeping, endpoint_input, key_name, keeping_step}
-use Rattle.macsec_reserve.specs.Renewing.{forgetting_after_renewing, forgetting_refusal, is_given_up, keeping_renewed}
-use Rattle.macsec_reserve.specs.Renewing.{place_of, refusal_if, unless_refused as unless_not_taken}
-use Rattle.macsec_reserve.specs.RenewingRuns.{renewing_step}
-use Rattle.macsec_ahead.specs.Ahead.{Ahead, lets_through}
+use Rattle.macsec_reserve.specs.Renewing.{forgetting_refusal, is_given_up, keeping_renewed, place_of, refusal_if}
+use Rattle.macsec_ahead.specs.Ahead.{Ahead, command_forgetting}
+use Rattle.macsec_ahead.specs.Ends.{Ends, ended_by, with_ends}
 use Rattle.macsec_ahead.specs.Renewing.{installs_given_up, unless_given_up}
-use Rattle.macsec_restarts.proofs.RenewingAhead.{renewing_stays, renews_inside}
+use Rattle.macsec_ahead.specs.declared.ends.EndedSa.{EndedSa}
 use Rattle.macsec_c_calls.specs.GivenUp.{Call, after_call, command}
-use Rattle.macsec_c_runs.specs.Runs.{input_of}
+use Rattle.macsec_c_runs.proofs.EndTables.{none_gone}
 
--- ---- a command that installs a key
+-- ---- the key is taken
 
 -- it is the machine's step
 key_step : (k : Keeping) (key : NewKey) → (keeping_step k (endpoint_input (operator_command (Key key)))).1 ≡
@@ -98,21 +96,90 @@ same_key k key none =
     by_use true = refl
     by_use false = refl
 
--- ---- a call
+-- it has the number that it asks for
+taken_number : (k : Keeping) (key : NewKey) → (as_taken k key).number ≡ key.number
+taken_number k key = by_test (is_forgotten k (key_bytes key.bytes))
+  where
+    by_test : (b : Bool) →
+        (if b then record key { bytes = key_of_fingerprint k.salt key.bytes } else key).number ≡ key.number
+    by_test true = refl
+    by_test false = refl
 
--- octets that a command installs are not given up, unless the endpoint has renewed a key, and so refuses them
+-- ---- the ends of deleted SAs stay
+
+-- no receive SA is deleted, so no end is added
+key_after : (e : Ahead) (key : NewKey) (after : Keeping) →
+    (keeping_step e.k (endpoint_input (operator_command (Key (as_taken e.k key))))).1 ≡ after →
+    ended_by e.k.secy after.secy ≡ [] → (command_forgetting e (Key key)).1 ≡ record e { k = after }
+key_after e key after is none = ap (λ (k : Keeping). record e { k = k; ended = ended k }) is
+    ∙ ap (λ (t : Ends). record e { k = after; ended = t }) (by_keeps e.k.keeps)
+  where
+    ended : Keeping → Ends
+    ended k = if e.k.keeps then with_ends (ended_by e.k.secy k.secy) e.ended else e.ended
+
+    by_keeps : (b : Bool) → (if b then with_ends (ended_by e.k.secy after.secy) e.ended else e.ended) ≡ e.ended
+    by_keeps true = ap (λ (es : List EndedSa). with_ends es e.ended) none
+    by_keeps false = refl
+
+-- the machine's step, at the keeping endpoint inside
+pub key_leaves : (e : Ahead) (key : NewKey) → (command_forgetting e (Key key)).1 ≡ record e {
+  k = record e.k {
+    secy = unless_command_refused (refusal e.k.secy (Key (as_taken e.k key))) e.k.secy
+        (Key (as_taken e.k key));
+  };
+}
+key_leaves e key = key_after e key (after (refusal e.k.secy (Key taken))) (key_step e.k taken)
+    (none (refusal e.k.secy (Key taken)))
+  where
+    taken : NewKey
+    taken = as_taken e.k key
+
+    after : Option Refusal → Keeping
+    after r = record e.k { secy = unless_command_refused r e.k.secy (Key taken) }
+
+    none : (r : Option Refusal) → ended_by e.k.secy (after r).secy ≡ []
+    none None = none_gone e.k.secy
+    none (Some r) = none_gone e.k.secy
+
+-- receive SAs, and the ends of those that were deleted, stay
+pub record KeepsSas (e after : Ahead) : Type 0 where
+  pub rx : after.k.secy.rx ≡ e.k.secy.rx
+  pub ended : after.ended ≡ e.ended
+
+pub key_keeps : (e : Ahead) (key : NewKey) → KeepsSas e (after_call e (command (Key key)))
+key_keeps e key = by_given (installs_given_up e (Key key))
+  where
+    by_refusal : (r : Option Refusal) →
+        (unless_command_refused r e.k.secy (Key (as_taken e.k key))).rx ≡ e.k.secy.rx
+    by_refusal None = refl
+    by_refusal (Some r) = refl
+
+    by_given : (b : Bool) → KeepsSas e (unless_given_up b e (Key key)).1
+    by_given true = record { rx = refl; ended = refl }
+    by_given false = record {
+      rx = ap (λ (x : Ahead). x.k.secy.rx) (key_leaves e key)
+          ∙ by_refusal (refusal e.k.secy (Key (as_taken e.k key)));
+      ended = ap (λ (x : Ahead). x.ended) (key_leaves e key);
+    }
+
+-- ---- a command that installs a key
+
+-- the octets are not given up, unless the endpoint has renewed a key, and so refuses them
 abbrev pub Fits : Ahead → Call → Type 0
 Fits e (command (Key key)) = e.renews ≡ false → is_given_up e.k (key_bytes key.bytes) ≡ false
 Fits e call = Unit {0}
 
--- whether the keeping endpoint inside takes a step
-abbrev pub takes : Ahead → Call → Bool
-takes e (command (Key key)) =
-    is_none (refusal e.k.secy (Key (as_taken e.k key))) && not (installs_given_up e (Key key))
-takes e call = lets_through e (input_of call)
+abbrev pub installs : Ahead → NewKey → Bool
+installs e key = is_none (refusal e.k.secy (Key (as_taken e.k key))) && not (installs_given_up e (Key key))
 
-key_goes : (e : Ahead) (key : NewKey) → Fits e (command (Key key)) → takes e (command (Key key)) ≡ true →
-    (after_call e (command (Key key))).k ≡ (renewing_step e.k (input_of (command (Key key)))).1
+-- then a renewal of the key is not refused, and leaves the same, except that the endpoint has renewed a key, and that a
+-- renewal forgets the ends of SAs under the key that had the number
+pub record Installs (e : Ahead) (key : NewKey) : Type 0 where
+  pub taken : forgetting_refusal e.k key ≡ None
+  pub free : is_number_used e.k.secy.keys key.number ≡ false
+  pub after : after_call e (command (Key key)) ≡ record e { k = keeping_renewed (as_taken e.k key) e.k }
+
+pub key_goes : (e : Ahead) (key : NewKey) → Fits e (command (Key key)) → installs e key ≡ true → Installs e key
 key_goes e key fits is = by_tests (installs_given_up e (Key key)) refl (refusal e.k.secy (Key taken)) refl is
   where
     taken : NewKey
@@ -123,38 +190,32 @@ key_goes e key fits is = by_tests (installs_given_up e (Key key)) refl (refusal 
     not_given_up false given _ own = own refl
 
     by_tests : (b : Bool) → installs_given_up e (Key key) ≡ b → (r : Option Refusal) →
-        refusal e.k.secy (Key taken) ≡ r → (is_none r && not b) ≡ true →
-        (unless_given_up b e (Key key)).1.k ≡ forgetting_after_renewing e.k key
+        refusal e.k.secy (Key taken) ≡ r → (is_none r && not b) ≡ true → Installs e key
     by_tests true given (Some r) none is' = cc
     by_tests true given None none is' = cc
     by_tests false given (Some r) none is' = cc
     by_tests false given None none is' =
         let open' : is_given_up e.k (key_bytes key.bytes) ≡ false =
         not_given_up e.renews (is_given_up e.k (key_bytes key.bytes)) given fits in
-        let free : forgetting_refusal e.k key ≡ None =
-        ap (λ (b : Bool). refusal_if b (renewal_refusal e.k.secy taken)) open' ∙ renews_too e.k.secy taken none in
-        key_step e.k taken ∙ same_key e.k taken none
-        ∙ sym (ap (λ (r : Option Refusal). unless_not_taken r taken e.k) free)
+        record {
+          taken = ap (λ (b : Bool). refusal_if b (renewal_refusal e.k.secy taken)) open'
+              ∙ renews_too e.k.secy taken none;
+          free = ap (is_number_used e.k.secy.keys) (sym (taken_number e.k key)) ∙ free_number e.k.secy taken none;
+          after = ap (λ (b : Bool). (unless_given_up b e (Key key)).1) given ∙ key_leaves e key
+              ∙ ap (λ (k : Keeping). record e { k = k }) (same_key e.k taken none);
+        }
 
-key_stays : (e : Ahead) (key : NewKey) → takes e (command (Key key)) ≡ false →
-    (after_call e (command (Key key))).k ≡ e.k
+-- otherwise nothing changes
+pub key_stays : (e : Ahead) (key : NewKey) → installs e key ≡ false → after_call e (command (Key key)) ≡ e
 key_stays e key is = by_tests (installs_given_up e (Key key)) (refusal e.k.secy (Key taken)) refl is
   where
     taken : NewKey
     taken = as_taken e.k key
 
     by_tests : (b : Bool) (r : Option Refusal) → refusal e.k.secy (Key taken) ≡ r → (is_none r && not b) ≡ false →
-        (unless_given_up b e (Key key)).1.k ≡ e.k
+        (unless_given_up b e (Key key)).1 ≡ e
     by_tests true r none is' = refl
     by_tests false None none is' = cc
-    by_tests false (Some r) none is' = key_step e.k taken
-        ∙ ap (λ (o : Option Refusal). record e.k { secy = unless_command_refused o e.k.secy (Key taken) }) none
-
-pub call_goes : (e : Ahead) (call : Call) → Fits e call → takes e call ≡ true →
-    (after_call e call).k ≡ (renewing_step e.k (input_of call)).1
-call_goes e (command (Key key)) fits is = key_goes e key fits is
-call_goes e call fits is = renews_inside e (input_of call) is
-
-pub call_stays : (e : Ahead) (call : Call) → takes e call ≡ false → (after_call e call).k ≡ e.k
-call_stays e (command (Key key)) is = key_stays e key is
-call_stays e call is = ap (λ (x : Ahead). x.k) (renewing_stays e (input_of call) is)
+    by_tests false (Some r) none is' = key_leaves e key ∙ ap
+        (λ (o : Option Refusal). record e { k = record e.k { secy = unless_command_refused o e.k.secy (Key taken) } })
+        none

@@ -1,14 +1,14 @@
--- Two runs of calls beside one journal that meet all premises of the laws on what is sent. Each installs the same key
--- as
--- a renewal, begins an SA, and sends a frame for integrity only: with packet number 1, then with 2. The cipher is not
--- computed.
-use Rattle.std.proofs.Common.{◌≡◌, ◌∙◌, ◌++◌, ◌∷◌, ◌<◌, ◌≤◌, ◌||◌, ◌^◌, ◌-◌, ℕ, zero, suc, List, [], Bool, true, false}
-use Rattle.std.proofs.Common.{None, refl, ap, sym, subst, if◌then◌else◌, Contains, arith, nat_le, All, AllPairs, map}
+-- Two runs of calls beside one journal that meet all premises of the laws on what is sent. Both install the same key,
+-- the first by a command and the second as a renewal. Each begins an SA, and sends a frame for integrity only: with
+-- packet number 1, then with 2. The cipher is not computed.
+use Rattle.std.proofs.Common.{◌≡◌, ◌∙◌, ◌++◌, ◌∷◌, ◌<◌, ◌||◌, ◌^◌, ◌-◌, ℕ, zero, suc, List, [], Bool, true, false}
+use Rattle.std.proofs.Common.{refl, ap, sym, subst, if◌then◌else◌, arith, nat_le, All, AllPairs, map}
 use Rattle.std.proofs.Common.{max, take}
 use Rattle.std.proofs.lemmas.Bool.{lt-leb}
 use Rattle.std.proofs.lemmas.List.Elements.{All-cons, All-contains, All-nil}
 use Rattle.std.proofs.lemmas.List.Kept.{AllPairs-cons}
 use Rattle.sha2.proofs.Facts256.{length-sha256}
+use Rattle.macsec_aes.specs.Keys.{key_bytes}
 use Rattle.macsec_suite.specs.KeyRows.{InstalledKey}
 use Rattle.macsec_suite.specs.declared.key_row.NewKey.{NewKey}
 use Rattle.macsec_suite.specs.declared.suite.Suite.TheVariants.{Gcm128}
@@ -21,9 +21,8 @@ use Rattle.macsec_reserve.specs.declared.reservation.Reservation.{Reservation}
 use Rattle.macsec_reserve.proofs.Pairs.{one_alone}
 use Rattle.macsec_reserve.proofs.Reduced.{reduced_reserves}
 use Rattle.macsec_reserve.specs.Crashes.{IsReservation}
-use Rattle.macsec_reserve.specs.Histories.{AgreeOnKey}
 use Rattle.macsec_reserve.specs.Journal.{highest, reservations, sending_name}
-use Rattle.macsec_reserve.specs.Keeping.{Keeping, endpoint_input, may_go}
+use Rattle.macsec_reserve.specs.Keeping.{Keeping, may_go}
 use Rattle.macsec_reserve.specs.Entries.{reduced}
 use Rattle.macsec_reserve.specs.Renewing.{is_given_up, refusal_if}
 use Rattle.macsec_ahead.specs.Ahead.{Ahead}
@@ -31,6 +30,7 @@ use Rattle.macsec_ahead.specs.Ends.{no_ends}
 use Rattle.macsec_ahead.specs.Renewing.{unless_refused}
 use Rattle.macsec_secy.specs.Renewing.{renewal_refusal}
 use Rattle.macsec_reserve.specs.Forgetting.{as_taken}
+use Rattle.macsec_restarts.proofs.RenewingAhead.{is_weaker_with}
 use Rattle.macsec_restarts.specs.Sent.{SentIn, newly_sent}
 use Rattle.macsec_counterexamples.proofs.Link.WorkedEnds.{bytes, client as frame, gcm_a, installed_key, new_key}
 use Rattle.macsec_counterexamples.proofs.Link.WorkedEnds.{no_salt}
@@ -40,8 +40,8 @@ use Rattle.macsec_counterexamples.proofs.Restarts.Journals.{journal, salt, salt_
 use Rattle.macsec_counterexamples.proofs.Restarts.Senders.{kept, row_at}
 use Rattle.macsec_counterexamples.proofs.Restarts.Tables.{begins_sound, commands_sound, sent_sound}
 use Rattle.macsec_c_calls.specs.GivenUp.{Call, after_call, after_calls, client, command, durable, renewal}
-use Rattle.macsec_c_runs.proofs.OverRuns.{is_run_of_renewals, is_weaker}
-use Rattle.macsec_c_runs.specs.Runs.{AgreeOnKeys, CallRun, IsRun, KeepsUsed, input_of, opening, sent, sent_by}
+use Rattle.macsec_c_runs.proofs.OverRuns.{is_weaker}
+use Rattle.macsec_c_runs.specs.Runs.{AgreeOnKeys, CallRun, IsRun, KeepsUsed, input_of, opening, sent_by}
 use Rattle.macsec_c_runs.specs.Runs.{sent_in_all}
 use Rattle.macsec_secy.specs.Commands.{effect}
 
@@ -60,8 +60,12 @@ name = sending_name (salt false) bytes
 abbrev reserves : Bool → Reservation
 reserves again = record { name = name; last = number again }
 
+abbrev installs : Bool → Call
+installs false = command (Key key)
+installs true = renewal key
+
 abbrev calls : Bool → List Call
-calls again = renewal key ∷ command (TxSa 0 0 (number again) false) ∷ command (TxOn 0) ∷ durable (reserves again)
+calls again = installs again ∷ command (TxSa 0 0 (number again) false) ∷ command (TxOn 0) ∷ durable (reserves again)
     ∷ client frame ∷ []
 
 -- what the journal has: nothing, and then what was reported durable to the first run
@@ -126,7 +130,7 @@ at again granted s = record {
   ahead = false;
   taken = [];
   ended = no_ends;
-  renews = true;
+  renews = again;
 }
 
 start_sound : IsSound (start gcm_a)
@@ -153,17 +157,19 @@ neither : (b c : Bool) → b ≡ false → c ≡ false → (b || c) ≡ false
 neither true c b_is c_is = cc
 neither false c b_is c_is = c_is
 
-not_given_up : (again : Bool) → is_given_up (opening (run again)).k bytes ≡ false
-not_given_up again = neither _ _ (not_all again _) (not_all again _)
-
-renews : (again : Bool) → after_call (opening (run again)) (renewal key) ≡ at again [] with_key
-renews again =
-    let e = opening (run again) in
-    ap (λ (b : Bool). unless_refused (refusal_if b (renewal_refusal e.k.secy (as_taken e.k key))) key e)
-    (not_given_up again)
+not_given_up : (again : Bool) (octets : List ℕ) → is_given_up (opening (run again)).k octets ≡ false
+not_given_up again octets = neither _ _ (not_all again _) (not_all again _)
 
 abbrev inside : Bool → List Reservation → State → Keeping → Ahead
 inside again granted s k = record (at again granted s) { k = k }
+
+installed : (again : Bool) → after_call (opening (run again)) (installs again) ≡ at again [] with_key
+installed false =
+    ap (inside false [] with_key) (carried_step (opening (run false)).k (Key key) refl refl)
+installed true =
+    let e = opening (run true) in
+    ap (λ (b : Bool). unless_refused (refusal_if b (renewal_refusal e.k.secy (as_taken e.k key))) key e)
+    (not_given_up true bytes)
 
 begins : (again : Bool) →
     after_call (at again [] with_key) (command (TxSa 0 0 (number again) false)) ≡ at again [] (with_sa again)
@@ -246,12 +252,12 @@ one_key : (first_unused : ℕ) → All IsOurs (key_at first_unused ∷ [])
 one_key first_unused = All-cons IsOurs (key_at first_unused) [] (refl, refl) (All-nil IsOurs)
 
 runs : (again : Bool) → Goes (opening (run again)) (calls again) (sent_at again ∷ [])
-runs false = goes_on {now = []} start_sound (All-nil IsOurs) refl (renews false)
+runs false = goes_on {now = []} start_sound (All-nil IsOurs) refl (installed false)
     (goes_on {now = []} key_sound (one_key 1) refl (begins false)
     (goes_on {now = []} (sa_sound false) (one_key 1) refl (turns_on false)
     (goes_on {now = []} (ready_sound false) (one_key 1) refl (reports false)
     (goes_on (ready_sound false) (one_key 1) (lists false) (sends false) (ends _ (end_sound false) (one_key 2))))))
-runs true = goes_on {now = []} start_sound (All-nil IsOurs) refl (renews true)
+runs true = goes_on {now = []} start_sound (All-nil IsOurs) refl (installed true)
     (goes_on {now = []} key_sound (one_key 1) refl (begins true)
     (goes_on {now = []} (sa_sound true) (one_key 1) refl (turns_on true)
     (goes_on {now = []} (ready_sound true) (one_key 1) refl (reports true)
@@ -259,23 +265,9 @@ runs true = goes_on {now = []} start_sound (All-nil IsOurs) refl (renews true)
 
 -- ---- the premises
 
-abbrev IsOtherCall : Call → Type 0
-IsOtherCall (command (Key k)) = ⊥
-IsOtherCall call = Unit {0}
-
-others : (again : Bool) → All IsOtherCall (calls again)
-others again =
-    let report = durable (reserves again) ∷ client frame ∷ [] in
-    let sa = command (TxSa 0 0 (number again) false) in
-    All-cons IsOtherCall (renewal key) (sa ∷ command (TxOn 0) ∷ report) tt
-    (All-cons IsOtherCall sa (command (TxOn 0) ∷ report) tt
-    (All-cons IsOtherCall (command (TxOn 0)) report tt
-    (All-cons IsOtherCall (durable (reserves again)) (client frame ∷ []) tt
-    (All-cons IsOtherCall (client frame) [] tt (All-nil IsOtherCall)))))
-
 is_run : (again : Bool) → IsRun (run again)
-is_run again = is_run_of_renewals (run again) (runs again).sound
-    (λ k there. All-contains IsOtherCall (calls again) (command (Key k)) (others again) there)
+is_run again =
+    record { sound = (runs again).sound; usable = λ k there. not_given_up again (key_bytes k.bytes) }
 
 agree : AgreeOnKeys (run false) (run true)
 agree x y first second same =
@@ -284,7 +276,7 @@ agree x y first second same =
     record { suite = its.0 ∙ sym other.0; salt = λ extended. its.1 ∙ sym other.1 }
 
 keeps : KeepsUsed (run false) (run true)
-keeps = is_weaker (run false) (run true) (is_run false) (is_run true)
+keeps = is_weaker is_weaker_with (run false) (run true) (is_run false) (is_run true)
     (salt_is false (before true) ∙ sym (salt_is false (before false)))
     (λ other. omega (arith, says false (before true) (are_records true) other))
 

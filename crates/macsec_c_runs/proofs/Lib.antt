@@ -1,3 +1,11 @@
+mod KeysThere
+mod EndTables
 mod Calls
+mod AsRenewals
 mod OverRuns
+mod TwoEnds
+mod Order
+mod Peers
+mod SingleCalls
+mod Saved
 mod Examples

@@ -1,20 +1,30 @@
-//! Several runs of an endpoint of the library for C, each a list of calls, beside one journal. There is no code: each
+//! Several runs of endpoints of the library for C, each a list of calls, beside their journals. There is no code: each
 //! law is the contract of a function that does nothing.
 //!
-//! Proved, over all runs and crashes of endpoints that renew keys (`laws`), if each later run reads what was used or
-//! accepted before, under the names that it uses; the first two also if endpoints are sound and commands install no
-//! octets that the journal gives up; the first also if keys that SAs use in two runs, and that have the same octets,
-//! agree:
-//! - `no_iv_over_calls`: no two frames that these endpoints send have the same key octets and the same IV.
+//! Proved, over all runs and crashes of endpoints whose keys are installed by commands and as renewals (`laws`). Each
+//! run is one (`IsRun`): its endpoint is sound, and commands install no octets that the journal gives up.
+//! - `no_iv_over_calls`, `no_iv_at_both_over_calls`: no two frames that an end, or two ends, send have the same key
+//!   octets and the same IV.
 //! - `numbers_rise_over_calls`: the packet numbers that are used under the octets of a key rise.
+//! - `comes_from_other_over_calls`: what an end delivers on an SA was sent by the other end.
+//! - `comes_in_order_over_calls`: it is delivered in the order of sending, each frame at most once.
+//! - `never_delivers_again_over_calls`: what a run accepted and saved is not delivered again.
+//!
+//! These ask nothing of runs:
 //! - `accepts_above_over_calls`: with `ahead`, a run accepts from an SA only higher packet numbers than earlier runs.
+//! - `begins_above_its_end_over_calls`: an SA that is deleted begins above its end.
+//! - `lists_each_delivery_over_calls`, `seals_each_frame_over_calls`: what is delivered and sealed is listed.
 //! - `renewals_make_runs`: of a run that installs each key as a renewal, only soundness is asked.
 //!
 //! The calls are those of `macsec_c_calls`. A command can come as a call of its own, a line, a struct or an answer; the
 //! commands of the text of `macsec_reserve_configure` are the first calls; a frame is sent or planned, received or
 //! finished; a load is a list (`loads_are_calls` there). Other exports change no endpoint.
 //!
-//! Two worked runs meet all premises on what is sent (`proofs/Examples.antt`).
+//! The proofs cite the laws of `macsec_restarts`, in which each key is installed as a renewal. A command that is not
+//! refused is such a renewal, and a refused one is a renewal that is refused (`proofs/AsRenewals.antt`).
+//!
+//! Two worked runs meet all premises on what is sent (`proofs/Examples.antt`): one installs its key by a command, the
+//! other as a renewal.
 #![tactic(auto)]
 
 pub mod laws;

@@ -1,60 +1,45 @@
 -- Over restarts: what an end seals is octets, and of few blocks.
 use Rattle.{
   std.proofs.{
-    Common.{◌≡◌, ℕ, zero, suc, ◌+◌, ◌*◌, ◌<◌, ◌≤◌, Bool, true, false, List, [], ◌∷◌, ◌++◌, length, take},
-    Common.{drop, Option, Some, None, All, refl, sym, subst, arith, nat_lt, unwrap_or, if◌then◌else◌},
-    Common.{is_some, ltb-false},
-    lemmas.{Bool.cond_both, List.Elements.{All-append, All-cons, All-drop, All-from_recursion, All-nil, All-take}},
+    Common.{◌≡◌, ℕ, zero, suc, ◌+◌, ◌*◌, ◌<◌, ◌≤◌, Bool, true, false, List, [], ◌∷◌, ◌++◌, length, map, take, drop},
+    Common.{Option, Some, None, All, refl, sym, subst, arith, nat_lt, unwrap_or, if◌then◌else◌, is_some, ltb-false},
+    lemmas.{Bool.cond_both, List.Elements.{All-append, All-drop, All-from_recursion, All-nil, All-take}},
   },
   std.specs.{Int.{bytes_high_first, to_be_bytes, w128, w32}, List.AllByRecursion},
   macsec_aes.specs.Aes.aes,
   macsec_ghash.proofs.MovedSums.octet_lt,
-  macsec_gcm.specs.{Gcm.seal_of},
+  macsec_gcm.specs.Gcm.seal_of,
   macsec_tag.specs.{
     Laws.AreOctets,
     Tag.{IsTag, Tag, bit_where, encoding, sci_octets, tci_an},
     declared.identifiers.Sci.Sci,
   },
-  macsec_suite.specs.{
-    CipherUses.CipherUse,
-    KeyRows.{InstalledKey, key_row, no_key, the_key},
-    Parts.{aad_and_plaintext, clear_length},
-  },
-  macsec_commands.specs.declared.{event.End.{TheVariants.{A, B}}, form.TagForm.TagForm},
+  macsec_suite.specs.{KeyRows.{InstalledKey, key_row, no_key, the_key}, Parts.{aad_and_plaintext, clear_length}},
+  macsec_commands.specs.declared.{event.End.TheVariants.{A, B}, form.TagForm.TagForm},
   macsec_tx.specs.{
     Tags.{is_own, sci_sent},
     Transmit.{Leaving, iv_sent, not_protected, no_sa, octets_added, parts_sent, protected, protected_frame, row_on},
-    Transmit.sending_by,
     Transmit.{tag_sent, too_long, use_sent},
+    Transmit.sending_by,
     declared.{TxOptions.TxOptions, TxRow.TxRow},
   },
-  macsec_secy.specs.{
-    Protects.Protects,
-    Sound.IsSound,
-    State.{State, tx_options},
-    Step.{Input, client_frame, frame_fault, sending_of},
-    declared.fault.FrameFault.FrameFault,
+  macsec_secy.specs.{Protects.Protects, Sound.IsSound, State.{State, tx_options}, Step.{frame_fault, sending_of}},
+  macsec_restarts.specs.{
+    Kept.{RunWith, runs_at},
+    RenewingOrder.closing_renewing,
+    RenewingRuns.sent_by_all,
+    Used.{seal_of as use_in},
   },
-  macsec_reserve.specs.{
-    Histories.{Run, closing, newly_sealed, opening, sealed, sealed_by, sealed_from, sealed_if, sealed_in},
-    Histories.sealed_in_all,
-    Keeping.{Keeping, KeepingInput, endpoint_input, keeping_after, keeping_step, may_go, now_durable},
-  },
-  macsec_restarts.specs.Happenings.{runs_of},
   macsec_secrecy.{
     proofs.Sealing.{aes_gives_blocks, gctr_octets, is_over_aes},
     specs.BlockFunctions.{AreBlocks, seal_by, tag_by},
   },
   macsec_hash_keys.specs.Forgeries.IsWithin,
-  macsec_link.proofs.{
-    Deliveries.Grammar,
-    Opened.opened_of_frame,
-    Within.{frame_within, parts_within},
-  },
+  macsec_link.proofs.{Deliveries.Grammar, Opened.opened_of_frame, Within.{frame_within, parts_within}},
   macsec_forgery.{
-    proofs.OverRestarts.few_keys_forge,
-    specs.Histories.{AtEachState, FewKeysForgeByLength, FewKeysForgeInAnyHistory, HasOctetKeys, IsOfOctets},
-    specs.Histories.{IsRunOfOctets, LeavesAtMost, TakesOctets},
+    proofs.{OverRestarts.few_keys_forge, Sealed.runs_have},
+    specs.Histories.{AtEachState, FewKeysForgeByLength, FewKeysForgeInAnyHistory, HasOctetKeys, IsRunOfOctets},
+    specs.Histories.{LeavesAtMost, TakesOctets},
   },
 }
 use Rattle.macsec_commands.specs.declared.form.TagForm.TheVariants as form
@@ -207,72 +192,38 @@ sent_within sends m s row frame good octets none by =
     good.sound.own_sci.octets read.is_tagged.tag octets)
     (omega (arith, long, here, most)) (omega (arith, long, here, leaves)) read.is_tagged.lengths.icv
 
--- ---- all that an end seals
+-- ---- all that both ends seal
 
-frame_has : Sends → (m : ℕ) (s : State) (frame : List ℕ) (fault : Option FrameFault) (by : Option TxRow) → IsGood m s
-    → AreOctets frame
-    → frame_fault frame ≡ fault → (sending_of s frame).by ≡ by → All (IsWithin (m + 1)) (sealed_by s frame fault by)
-frame_has sends m s frame None (Some row) good octets is by =
-    All-cons (IsWithin (m + 1)) (use_sent (tx_options s) (the_key s.keys row.key) row frame) []
-    (sent_within sends m s row frame good octets is by)
-    (All-nil (IsWithin (m + 1)))
-frame_has sends m s frame fault by good octets is e = All-nil (IsWithin (m + 1))
-
-input_has : Sends → (m : ℕ) (s : State) (input : Input) → IsGood m s → IsOfOctets input
-    → All (IsWithin (m + 1)) (sealed s input)
-input_has sends m s (client_frame frame) good octets = frame_has sends m s frame _ _ good octets refl refl
-input_has sends m s input good octets = All-nil (IsWithin (m + 1))
-
-if_has : (P : CipherUse → Type 0) (goes : Bool) (uses : List CipherUse) → All P uses → All P (sealed_if goes uses)
-if_has P false uses all = All-nil P
-if_has P true uses all = all
-
-newly_has : Sends → (m : ℕ) (k : Keeping) (input : KeepingInput) → IsGood m k.secy → TakesOctets input
-    → All (IsWithin (m + 1)) (newly_sealed k input)
-newly_has sends m k (now_durable r) good octets = All-nil (IsWithin (m + 1))
-newly_has sends m k (endpoint_input input) good octets =
-    if_has (IsWithin (m + 1)) (may_go k input) _ (input_has sends m k.secy input good octets)
-
-from_has : Sends → (m : ℕ) (k : Keeping) (inputs : List KeepingInput)
-    → ((n : ℕ) → IsGood m (keeping_after k (take n inputs)).secy)
-    → All TakesOctets inputs → All (IsWithin (m + 1)) (sealed_from k inputs)
-from_has sends m k [] good octets = All-nil (IsWithin (m + 1))
-from_has sends m k (input ∷ inputs) good octets =
-    All-append (IsWithin (m + 1)) (newly_sealed k input) (sealed_from (keeping_step k input).1 inputs)
-    (newly_has sends m k input (good 0) (octets 0 input (omega arith)))
-    (from_has sends m (keeping_step k input).1 inputs (λ n. good (suc n))
-    (λ i default lt. octets (suc i) default (omega arith)))
-
-runs_have : Sends → (m : ℕ) (runs : List Run) → All IsRunOfOctets runs → All (AtEachState (LeavesAtMost (16 * m))) runs
-    → All (IsWithin (m + 1)) (sealed_in_all runs)
-runs_have sends m [] octets leaves = All-nil (IsWithin (m + 1))
-runs_have sends m (run ∷ runs) octets leaves =
-    let it = octets 0 run (omega arith) in
-    let leaves_it = leaves 0 run (omega arith) in
-    All-append (IsWithin (m + 1)) (sealed_in run) (sealed_in_all runs)
-    (from_has sends m (opening run) run.inputs
-    (λ n. record { sound = it.sound n; keys = it.keys n; leaves = leaves_it n }) it.clients)
-    (runs_have sends m runs (λ i default lt. octets (suc i) default (omega arith))
-    (λ i default lt. leaves (suc i) default (omega arith)))
+end_within : Sends → (m : ℕ) (rs : List RunWith) → All IsRunOfOctets rs → All (AtEachState (LeavesAtMost (16 * m))) rs
+    → All (IsWithin (m + 1)) (map use_in (sent_by_all rs))
+end_within sends m rs octets leaves =
+    runs_have (IsWithin (m + 1)) (IsGood m) TakesOctets
+    (λ s row frame good taken none by. sent_within sends m s row frame good taken none by) rs
+    (λ i default lt n. record {
+      sound = (octets i default lt).sound n;
+      keys = (octets i default lt).keys n;
+      leaves = leaves i default lt n;
+    }) (λ i default lt. (octets i default lt).clients)
 
 -- ---- few keys
 
 pub few_keys_forge_by_length : Sends → Grammar → FewKeysForgeByLength
-few_keys_forge_by_length sends grammar m before now it hs runs leaves octets short most keys each =
+few_keys_forge_by_length sends grammar ahead m before now it hs runs leaves octets short most keys each =
     let P = IsWithin (m + 1) in
-    let s = (closing it.run).secy in
-    few_keys_forge (m + 1) before now it hs
-    (All-append P (sealed_in_all (runs_of A before)) (sealed_in_all (runs_of B before))
-    (runs_have sends m (runs_of A before) (runs A) (leaves A))
-    (runs_have sends m (runs_of B before) (runs B) (leaves B)))
+    let s = (closing_renewing it.run).k.secy in
+    few_keys_forge ahead (m + 1) before now it hs
+    (All-append P (map use_in (sent_by_all (runs_at ahead A before)))
+    (map use_in (sent_by_all (runs_at ahead B before)))
+    (end_within sends m (runs_at ahead A before) (runs A) (leaves A))
+    (end_within sends m (runs_at ahead B before) (runs B) (leaves B)))
     (frame_within grammar m it.frame it.forged
     (opened_of_frame s it.frame it.forged it.opened) octets most short)
     keys each
 
-sound_leaves : (runs : List Run) → All IsRunOfOctets runs → All (AtEachState (LeavesAtMost (16 * 578))) runs
-sound_leaves runs octets i default lt n = ((octets i default lt).sound n).max_frame_most
+sound_leaves : (rs : List RunWith) → All IsRunOfOctets rs → All (AtEachState (LeavesAtMost (16 * 578))) rs
+sound_leaves rs octets i default lt n = ((octets i default lt).sound n).max_frame_most
 
 pub few_keys_forge_in_any_history : Sends → Grammar → FewKeysForgeInAnyHistory
-few_keys_forge_in_any_history sends grammar before now it hs runs octets most keys each =
-    few_keys_forge_by_length sends grammar 578 before now it hs runs
-    (λ e. sound_leaves (runs_of e before) (runs e)) octets most most keys each
+few_keys_forge_in_any_history sends grammar ahead before now it hs runs octets most keys each =
+    few_keys_forge_by_length sends grammar ahead 578 before now it hs runs
+    (λ e. sound_leaves (runs_at ahead e before) (runs e)) octets most most keys each

@@ -6,11 +6,8 @@ use Rattle.{
     lemmas.List.Elements.Contains-append_right,
   },
   macsec_suite.specs.CipherUses.CipherUse,
-  macsec_commands.specs.declared.event.End.TheVariants.{A, B},
-  macsec_reserve.specs.Histories.sealed_in_all,
-  macsec_restarts.specs.{ForgettingOrder.sent_in_all_forgetting, Happenings.runs_of, Used.seal_of},
-  macsec_forgery.specs.Under.{SealedForgettingHasAll, SealedForgettingHasNoOther, SealedSoFarHasAll},
-  macsec_forgery.specs.Under.SealedSoFarHasNoOther,
+  macsec_restarts.specs.{RenewingRuns.sent_by_all, Used.seal_of},
+  macsec_forgery.specs.Under.{SealedByBothHasAll, SealedByBothHasNoOther},
 }
 
 in_both : (xs ys : List CipherUse) → All (Contains (xs ++ ys)) xs × All (Contains (xs ++ ys)) ys
@@ -21,18 +18,9 @@ in_both xs ys = (
       (All-contains_itself ys),
 )
 
-pub sealed_so_far_has_all : SealedSoFarHasAll
-sealed_so_far_has_all before A = (in_both (sealed_in_all (runs_of A before)) (sealed_in_all (runs_of B before))).0
-sealed_so_far_has_all before B = (in_both (sealed_in_all (runs_of A before)) (sealed_in_all (runs_of B before))).1
+pub sealed_by_both_has_all : SealedByBothHasAll
+sealed_by_both_has_all ra rb = in_both (map seal_of (sent_by_all ra)) (map seal_of (sent_by_all rb))
 
-pub sealed_forgetting_has_all : SealedForgettingHasAll
-sealed_forgetting_has_all ahead other runs others =
-    in_both (map seal_of (sent_in_all_forgetting ahead runs)) (map seal_of (sent_in_all_forgetting other others))
-
-pub sealed_so_far_has_no_other : SealedSoFarHasNoOther
-sealed_so_far_has_no_other before u there =
-    Contains-append_cases (sealed_in_all (runs_of A before)) (sealed_in_all (runs_of B before)) u there
-
-pub sealed_forgetting_has_no_other : SealedForgettingHasNoOther
-sealed_forgetting_has_no_other ahead other runs others u there =
-    Contains-append_cases (map seal_of (sent_in_all_forgetting ahead runs)) _ u there
+pub sealed_by_both_has_no_other : SealedByBothHasNoOther
+sealed_by_both_has_no_other ra rb u there =
+    Contains-append_cases (map seal_of (sent_by_all ra)) (map seal_of (sent_by_all rb)) u there

@@ -1,20 +1,15 @@
-//! Each law is about definitions only: the contract of a function that does nothing.
+//! Each law is about definitions only: the contract of a function that does nothing. The ends renew keys, each run with
+//! the option to reserve ahead of receiving or without it.
 
-ghost use Rattle.macsec_forgery.specs.Histories.{AllowsEveryKey, EveryKeyIsPossibleOverRestarts, FewKeysForgeByLength};
-ghost use Rattle.macsec_forgery.specs.Histories.{FewKeysForgeInAnyHistory, OfAllForgetting, SaysNothingIfOctets};
-ghost use Rattle.macsec_forgery.specs.Histories.{UsesNoInputTwice};
+ghost use Rattle.macsec_forgery.specs.Histories.{AllowsEveryKey, FewKeysForgeByLength, FewKeysForgeInAnyHistory};
+ghost use Rattle.macsec_forgery.specs.Histories.{OfAllSealed, SaysNothingIfOctets, UsesNoInputTwice};
 ghost use Rattle.macsec_forgery.specs.Restarts.{FewKeysForgeOverRestarts, ForgeryIsCountedOverRestarts};
-ghost use Rattle.macsec_forgery.specs.Restarts.{GenuineOrForgedOverRestarts, OrderAheadOrForged};
-ghost use Rattle.macsec_forgery.specs.Restarts.{OrderForgettingOrForged, OrderOrForgedOverRestarts};
+ghost use Rattle.macsec_forgery.specs.Restarts.{GenuineOrForgedOverRestarts, OrderOrForgedOverRestarts};
 ghost use Rattle.macsec_forgery.specs.Restarts.{OriginOrForgedOverRestarts};
-ghost use Rattle.macsec_forgery.specs.Under.{SealedForgettingHasAll, SealedForgettingHasNoOther};
-ghost use Rattle.macsec_forgery.specs.Under.{SealedSoFarHasAll, SealedSoFarHasNoOther};
-ghost use Rattle.macsec_secrecy.specs.Restarts.{AreHistories, AreHistoriesOfCrashes};
+ghost use Rattle.macsec_forgery.specs.Under.{SealedByBothHasAll, SealedByBothHasNoOther};
 
-use macsec_reserve::laws::repeats_no_iv_at_both;
 use macsec_restarts::laws::{
-    comes_from_other, comes_in_order_once, comes_in_order_once_ahead,
-    comes_in_order_once_forgetting, no_iv_at_both_forgetting,
+    comes_from_other_renewing, comes_in_order_if_kept_renewing, no_iv_at_both_renewing,
 };
 use macsec_secy::laws::protects_frames;
 use macsec_tag::laws::reads_by_grammar;
@@ -31,20 +26,15 @@ pub fn origin_or_forged()
     ensures { OriginOrForgedOverRestarts }
 {
     // The proof cites this law.
-    comes_from_other();
+    comes_from_other_renewing();
 }
 
-/// What is delivered over all runs is in the order of sending, each frame at most once, or a tag is forged; also of
-/// ends that reserve ahead of receiving, and that forget retired keys.
+/// What is delivered over all runs is in the order of sending, each frame at most once, or a tag is forged.
 pub fn order_or_forged()
-    ensures saved { OrderOrForgedOverRestarts }
-    ensures ahead { OrderAheadOrForged }
-    ensures forgetting { OrderForgettingOrForged }
+    ensures { OrderOrForgedOverRestarts }
 {
-    // The proof cites these laws.
-    comes_in_order_once();
-    comes_in_order_once_ahead();
-    comes_in_order_once_forgetting();
+    // The proof cites this law.
+    comes_in_order_if_kept_renewing();
 }
 
 /// At most as many hash keys have this forgery as the longest message has blocks: one more than the longest link frame
@@ -59,31 +49,20 @@ pub fn few_keys_forge()
     reads_by_grammar();
 }
 
-/// What was sealed so far allows every hash key, if no IV is used twice.
-pub fn every_key_is_possible()
-    ensures durable { EveryKeyIsPossibleOverRestarts AreHistories }
-    ensures crashes { EveryKeyIsPossibleOverRestarts AreHistoriesOfCrashes }
+/// What two ends sealed allows every hash key, no input of AES is used twice under a key, except the block of zeros,
+/// and the link says nothing of the encrypted octets but how many there are, if the function of blocks is not known.
+/// The premises are those of `no_iv_at_both_renewing`.
+pub fn two_ends_renew()
+    ensures possible { OfAllSealed AllowsEveryKey }
+    ensures inputs { OfAllSealed UsesNoInputTwice }
+    ensures hidden { OfAllSealed SaysNothingIfOctets }
 {
     // The proof cites this law.
-    repeats_no_iv_at_both();
+    no_iv_at_both_renewing();
 }
 
-/// Two ends that forget retired keys: what they sealed allows every hash key, no input of AES is used twice under a
-/// key, except the block of zeros, and the link says nothing of the encrypted octets but how many there are, if the
-/// function of blocks is not known.
-pub fn two_ends_forget()
-    ensures possible { OfAllForgetting AllowsEveryKey }
-    ensures inputs { OfAllForgetting UsesNoInputTwice }
-    ensures hidden { OfAllForgetting SaysNothingIfOctets }
-{
-    // The proof cites this law.
-    no_iv_at_both_forgetting();
-}
-
-/// What was sealed so far is all that each end has sealed, in any of its runs, and nothing else.
-pub fn sealed_so_far_has_all()
-    ensures so_far { SealedSoFarHasAll }
-    ensures forgetting { SealedForgettingHasAll }
-    ensures so_far_alone { SealedSoFarHasNoOther }
-    ensures forgetting_alone { SealedForgettingHasNoOther }
+/// What counts as sealed is all that each end has sealed, in any of its runs, and nothing else.
+pub fn sealed_by_both_has_all()
+    ensures all { SealedByBothHasAll }
+    ensures alone { SealedByBothHasNoOther }
 {}

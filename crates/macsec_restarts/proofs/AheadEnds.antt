@@ -8,18 +8,18 @@ use Rattle.macsec_reserve.specs.Forgetting.{is_done_output}
 use Rattle.macsec_restarts.{
   proofs.{
     AheadInside.{by_ahead, by_inside},
-    Names.{[], ◌&&◌, ◌++◌, ◌<◌, ◌==◌, ◌||◌, ◌∙◌, ◌∷◌, ◌≡◌, ◌≤◌, ◌⊎◌, after_retiring, Ahead, ahead_after, ahead_by},
-    Names.{ahead_step, and_from, Answer, ap, arith, begins_again, Bool, by_tests, Command, cond, done, end_of},
-    Names.{end_of_row, ended_after, ended_by, ended_of, EndedSa, endpoint_input, Ends, eq-eqb, eqb-true, false, filter},
-    Names.{gives_up, if◌then◌else◌, inl, Input, Inputs, inr, is_done, is_gone, is_through, IsAbove, IsGivenUp},
-    Names.{IsMember, Keeping, keeping_step, KeepingInput, KeepsAssociation, le-leb, leb-false, left_member, length},
-    Names.{lets_through, List, lt-ltb, ltb-false, map, max, member_of_map, nat_le, nat_lt, None, not, now_durable},
-    Names.{operator_command, Option, Output, refl, Retire, rx_row, RxRow, RxSa, same_octets-refl, Sci, Some, Standing},
-    Names.{standing, State, stays_given_up, step, subst, sym, true, with_ends, without_key, ℕ},
+    Names.{[], ◌&&◌, ◌++◌, ◌<◌, ◌==◌, ◌||◌, ◌∙◌, ◌∷◌, ◌≡◌, ◌≤◌, ◌⊎◌, after_retiring, Ahead, ahead_by, ahead_step},
+    Names.{and_from, Answer, ap, arith, begins_again, Bool, by_tests, Command, cond, done, end_of, end_of_row},
+    Names.{ended_after, ended_by, ended_of, EndedSa, endpoint_input, Ends, eq-eqb, eqb-true, false, filter, gives_up},
+    Names.{if◌then◌else◌, inl, Input, inr, is_done, is_gone, is_through, IsAbove, IsGivenUp, IsMember, Keeping},
+    Names.{keeping_step, KeepingInput, KeepsAssociation, leb-false, left_member, length, lets_through, List, ltb-false},
+    Names.{map, max, member_of_map, nat_le, nat_lt, None, not, now_durable, operator_command, Option, Output, refl},
+    Names.{Retire, rx_row, RxRow, RxSa, same_octets-refl, Sci, Some, Standing, standing, State, stays_given_up, step},
+    Names.{subst, sym, true, with_ends, without_key, ℕ},
     RowSteps.{found_at, found_row, IsCreatedBy, row_step, RowStep, same_place, still},
     Sends.by_keeping,
   },
-  specs.AheadSteps.{KeepsEnds, RefusesBelowEnd, RemembersEnd},
+  specs.AheadSteps.RemembersEnd,
 }
 use Rattle.macsec_secy.proofs.RxRowsStay.{rx_rows_stay}
 use Rattle.std.{proofs.lemmas.Bool.and_cases, specs.List.list_any}
@@ -294,11 +294,6 @@ keeps_given_up k (now_durable r) n up = up
 keeps_given_up k (endpoint_input input) n up =
     by_keeping (λ s. IsGivenUp s n) k input up (stays_given_up k.secy n input up)
 
--- a key that is given up stays given up
-pub given_up_stays : (a : Ahead) (input : KeepingInput) (n : ℕ) → IsGivenUp a.k.secy n →
-    IsGivenUp (ahead_step a input).1.k.secy n
-given_up_stays a input n up = by_inside (λ k. IsGivenUp k.secy n) a input up (keeps_given_up a.k input n up)
-
 -- ---- a step
 
 -- what the table says of an SA stays, unless its key is given up
@@ -370,21 +365,6 @@ ends_step a (endpoint_input input) key sci an =
     after_frame (begins_again a input) (standing a input) a input (keeping_step a.k (endpoint_input input)) refl key sci
     an
 
-given_up_later : (inputs : Inputs) (a : Ahead) (n : ℕ) → IsGivenUp a.k.secy n →
-    IsGivenUp (ahead_after a inputs).k.secy n
-given_up_later [] a n up = up
-given_up_later (input ∷ inputs) a n up = given_up_later inputs _ n (given_up_stays a input n up)
-
-pub keeps_ends : (inputs : Inputs) (a : Ahead) (key : ℕ) (sci : Sci) (an : ℕ) → KeepsEnds a inputs key sci an
-keeps_ends [] a _ _ _ = inr (omega arith)
-keeps_ends (input ∷ inputs) a key sci an = by_step (ends_step a input key sci an) (keeps_ends inputs _ key sci an)
-  where
-    by_step : StaysUnless a (ahead_step a input).1 key sci an → KeepsEnds (ahead_step a input).1 inputs key sci an →
-        KeepsEnds a (input ∷ inputs) key sci an
-    by_step (inl up) _ = inl (given_up_later inputs _ key up)
-    by_step (inr _) (inl up) = inl up
-    by_step (inr grows) (inr later) = inr (omega (arith, grows, later))
-
 -- ---- an SA that a step deletes
 
 -- a step of the endpoint keeps each SA, unless it is a command
@@ -444,11 +424,6 @@ remembers_end a (endpoint_input (operator_command c)) row keeps there none =
     remembers_by c _ _ _ a row (keeps_by_retiring a.k row there c) keeps there none
 remembers_end a input row _ there none = absurd (remembers_frame a input row refl there none)
 
-pub refuses_below_end : (a : Ahead) (sci : Sci) (an key ssci lowest : ℕ) → RefusesBelowEnd a sci an key ssci lowest
-refuses_below_end a sci an key ssci lowest least below =
-    let input = operator_command (RxSa sci an key ssci lowest) in
-    rw (and_from _ _ (lt-ltb 0 lowest least) (le-leb lowest (end_of a.ended key sci an) below))
-
 -- ---- what may have been accepted from an SA: below its lowest acceptable PN, and up to where it ended
 
 abbrev pub row_end : Option RxRow → ℕ → ℕ
@@ -485,31 +460,6 @@ past_by _ (Some row) (Some later) key old new stepped grows ended = rw stepped.k
     by_key : (b : Bool) → max (if b then end_of_row row else 0) old ≤ max (if b then end_of_row later else 0) new
     by_key false = omega (arith, grows)
     by_key true = omega (arith, grows, stepped.lowest)
-
--- this PN does not fall, unless the key is given up
-pub past_step : (a : Ahead) (input : KeepingInput) (key : ℕ) (sci : Sci) (an : ℕ) → a.k.keeps ≡ true →
-    IsGivenUp (ahead_step a input).1.k.secy key ⊎ (past_of a key sci an ≤ past_of (ahead_step a input).1 key sci an)
-past_step a (now_durable r) _ _ _ keeps = inr (omega arith)
-past_step a (endpoint_input input) key sci an keeps = by_ends (ends_step a (endpoint_input input) key sci an)
-  where
-    after : Ahead
-    after = (ahead_step a (endpoint_input input)).1
-
-    ended : (row : RxRow) → rx_row a.k.secy.rx.rows sci an ≡ Some row → rx_row after.k.secy.rx.rows sci an ≡ None →
-        row.key ≡ key → end_of_row row ≤ end_of after.ended key sci an
-    ended row there none of_key =
-        let own = same_place row.sci sci row.an an (found_at a.k.secy.rx.rows sci an row there) in
-        let P : Sci → ℕ → Type 0 = λ x n. rx_row a.k.secy.rx.rows x n ≡ Some row →
-        rx_row after.k.secy.rx.rows x n ≡ None → end_of_row row ≤ end_of after.ended row.key x n in
-        let first : P row.sci row.an = λ there' none'. remembers_end a (endpoint_input input) row keeps there' none' in
-        let second : P sci an = rw (← own.1) (subst (λ x. P x row.an) own.0 first) in
-        rw of_key at (second there none)
-
-    by_ends : StaysUnless a after key sci an → IsGivenUp after.k.secy key
-        ⊎ (past_of a key sci an ≤ past_of after key sci an)
-    by_ends (inl up) = inl up
-    by_ends (inr grows) = inr (past_by input (rx_row a.k.secy.rx.rows sci an) (rx_row after.k.secy.rx.rows sci an) key
-        (end_of a.ended key sci an) (end_of after.ended key sci an) (ahead_row_step a input sci an) grows ended)
 
 -- a first PN that is not refused
 pub first_new : (first last : ℕ) → 1 ≤ first → (nat_lt 0 first && nat_le first last) ≡ false → last < first

@@ -4,26 +4,22 @@ use Rattle.macsec_reserve.specs.Keeping.{wanted_last}
 use Rattle.macsec_restarts.{
   proofs.{
     Listed.delivers_each_listed,
-    Names.{[], ◌++◌, ◌+◌, ◌<◌, ◌==◌, ◌^◌, ◌∙◌, ◌∷◌, ◌≡◌, ◌≤◌, accepted_from, accepted_in, Ahead, ahead_after, ahead_by},
-    Names.{ahead_step, All, All-append, All-contains, All-nil, All-weaker, Answer, ap, AreOfOneSa, arith, before_stays},
-    Names.{before_this_run, begins_again, Bool, bytes_eq-Decides, client_frame, delivered_from, delivered_from_with},
-    Names.{delivered_in_all, delivered_in_all_with, Delivery, delivery_name, dropped_not_reserved, endpoint_input},
-    Names.{endpoint_output, false, for_each_row, frame_fault, FrameFault, get_or, highest, highest-append},
-    Names.{if◌then◌else◌, inl, Input, Inputs, inr, is_through, is_valid, IsMember, IsSome, Judgement, judgement_of},
-    Names.{Keeping, keeping_after, keeping_step, KeepingInput, KeepingOutput, KeepsDurable, le-leb, leb-false},
-    Names.{leb-true, lets_through, link_frame, List, lt-leb, map, MatchesDeliveries, max, member_of_map, nat_le},
-    Names.{newly_accepted, newly_delivered, newly_delivered_with, newly_sent, None, not, not_yet, now_durable, opening},
-    Names.{opening_with, Option, option_map, passes, raised_by, received, reduced, reduced_reserves, refl, reported_in},
-    Names.{Reservation, reservations, row_name, Run, run_inside, RxPn, RxRow, salt_of, salt_stays, same_octets},
-    Names.{same_octets-refl, SameSalt, sent_from, sent_from_with, sent_in_all, sent_in_all_with, Some, Standing},
-    Names.{standing, standing_by, standing_of, State, subst, sym, through, true, ℕ},
+    Names.{[], ◌+◌, ◌<◌, ◌==◌, ◌^◌, ◌∙◌, ◌∷◌, ◌≡◌, ◌≤◌, accepted_from, Ahead, ahead_by, ahead_step, All, All-append},
+    Names.{All-nil, All-weaker, Answer, ap, arith, before_stays, before_this_run, begins_again, Bool, bytes_eq-Decides},
+    Names.{client_frame, Delivery, delivery_name, dropped_not_reserved, endpoint_input, endpoint_output, false},
+    Names.{for_each_row, frame_fault, FrameFault, highest, highest-append, if◌then◌else◌, inl, Input, Inputs, inr},
+    Names.{is_through, is_valid, IsMember, IsSome, Judgement, judgement_of, Keeping, keeping_step, KeepingInput},
+    Names.{KeepingOutput, le-leb, leb-false, leb-true, lets_through, link_frame, List, lt-leb, map, MatchesDeliveries},
+    Names.{max, member_of_map, nat_le, newly_accepted, newly_delivered, newly_delivered_with, newly_sent, None, not},
+    Names.{not_yet, now_durable, Option, option_map, passes, raised_by, received, refl, reported_in, Reservation},
+    Names.{row_name, RxPn, RxRow, salt_stays, same_octets, same_octets-refl, Some, Standing, standing, standing_by},
+    Names.{standing_of, State, subst, sym, through, true, ℕ},
     RowSteps.{each_given, found_row, is_given, IsGiven},
   },
   specs.{
-    AheadRuns.{AcceptsAbove, AcceptsAboveInAll, AcceptsReserved, DeliversEachListedWith, IsReservedIn},
+    AheadRuns.DeliversEachListedWith,
     AheadRuns.MatchesDeliveriesWith,
-    AheadSteps.{AsksWhereDropped, IsAsBefore, IsKeepingInside, PassesOnceReserved, ReachesPn, StepsInside},
-    AheadSteps.{TakesTheStep, WantsEnough},
+    AheadSteps.{AsksWhereDropped, IsAsBefore, PassesOnceReserved, ReachesPn, StepsInside, TakesTheStep, WantsEnough},
   },
 }
 use Rattle.macsec_secy.specs.Delivers.{DeliversFrom}
@@ -86,19 +82,6 @@ by_ahead P a _ _ stays _ _ _ = stays
 
 -- ---- a run
 
-pub k_inside : (inputs : Inputs) (a : Ahead) → (ahead_after a inputs).k ≡ keeping_after a.k (through a inputs)
-k_inside [] a = refl
-k_inside (input ∷ inputs) a = by_test (lets_through a input) refl (k_inside inputs (ahead_step a input).1)
-  where
-    by_test : (b : Bool) → lets_through a input ≡ b → (ahead_after (ahead_step a input).1 inputs).k ≡
-        keeping_after (ahead_step a input).1.k (through (ahead_step a input).1 inputs) →
-        (ahead_after (ahead_step a input).1 inputs).k ≡
-        keeping_after a.k (if b then input ∷ through (ahead_step a input).1 inputs
-        else through (ahead_step a input).1 inputs)
-    by_test true is rest = rest ∙ ap (λ k. keeping_after k (through (ahead_step a input).1 inputs))
-        (step_inside a input true is)
-    by_test false is rest = rw (rest, step_inside a input false is)
-
 reports : (inputs : Inputs) (a : Ahead) → reported_in (through a inputs) ≡ reported_in inputs
 reports [] a = refl
 reports (now_durable r ∷ inputs) a = rw (reports inputs _)
@@ -109,13 +92,6 @@ reports (endpoint_input input ∷ inputs) a = by_test (lets_through a (endpoint_
         else through (ahead_step a (endpoint_input input)).1 inputs) ≡ reported_in inputs
     by_test true rest = rest
     by_test false rest = rest
-
-pub is_keeping_inside : (ahead : Bool) (run : Run) → IsKeepingInside ahead run
-is_keeping_inside ahead run =
-    record {
-      inside = k_inside run.inputs (opening_with ahead run);
-      reports = reports run.inputs (opening_with ahead run);
-    }
 
 -- ---- without the option
 
@@ -146,57 +122,6 @@ pub none_sent : (a : Ahead) (input : KeepingInput) → lets_through a input ≡ 
 none_sent a (endpoint_input (client_frame _)) is = cc
 none_sent a _ _ = refl
 
-pub sent_inside : (inputs : Inputs) (a : Ahead) → sent_from a.k (through a inputs) ≡ sent_from_with a inputs
-sent_inside [] a = refl
-sent_inside (input ∷ inputs) a = by_test (lets_through a input) refl (sent_inside inputs _)
-  where
-    after : Ahead
-    after = (ahead_step a input).1
-
-    by_test : (b : Bool) → lets_through a input ≡ b →
-        sent_from after.k (through after inputs) ≡ sent_from_with after inputs →
-        sent_from a.k (if b then input ∷ through after inputs else through after inputs) ≡
-        newly_sent a.k input ++ sent_from_with after inputs
-    by_test true is rest =
-        ap (λ k. newly_sent a.k input ++ sent_from k (through after inputs)) (sym (step_inside a input true is))
-        ∙ ap (λ xs. newly_sent a.k input ++ xs) rest
-    by_test false is rest = ap (λ k. sent_from k (through after inputs)) (sym (step_inside a input false is)) ∙ rest
-        ∙ ap (λ xs. xs ++ sent_from_with after inputs) (sym (none_sent a input is))
-
-pub delivered_inside : (inputs : Inputs) (a : Ahead) →
-    delivered_from a.k (through a inputs) ≡ delivered_from_with a inputs
-delivered_inside [] a = refl
-delivered_inside (input ∷ inputs) a = by_test (lets_through a input) refl (delivered_inside inputs _)
-  where
-    after : Ahead
-    after = (ahead_step a input).1
-
-    by_test : (b : Bool) → lets_through a input ≡ b →
-        delivered_from after.k (through after inputs) ≡ delivered_from_with after inputs →
-        delivered_from a.k (if b then input ∷ through after inputs else through after inputs) ≡
-        (if b then newly_delivered a.k input else []) ++ delivered_from_with after inputs
-    by_test true is rest = ap (λ k. newly_delivered a.k input ++ delivered_from k (through after inputs))
-        (sym (step_inside a input true is)) ∙ ap (λ ds. newly_delivered a.k input ++ ds) rest
-    by_test false is rest = ap (λ k. delivered_from k (through after inputs))
-        (sym (step_inside a input false is)) ∙ rest
-
-pub sent_in_all_inside : (ahead : Bool) (runs : List Run) →
-    sent_in_all (map (run_inside ahead) runs) ≡ sent_in_all_with ahead runs
-sent_in_all_inside _ [] = refl
-sent_in_all_inside ahead (run ∷ runs) =
-    rw (sent_inside run.inputs (opening_with ahead run), sent_in_all_inside ahead runs)
-
-pub delivered_in_all_inside : (ahead : Bool) (runs : List Run) →
-    delivered_in_all (map (run_inside ahead) runs) ≡ delivered_in_all_with ahead runs
-delivered_in_all_inside _ [] = refl
-delivered_in_all_inside ahead (run ∷ runs) =
-    rw (delivered_inside run.inputs (opening_with ahead run), delivered_in_all_inside ahead runs)
-
-pub delivered_in_inside : (ahead : Bool) (run : Run) →
-    delivered_from (opening (run_inside ahead run)) (run_inside ahead run).inputs ≡
-    delivered_from_with (opening_with ahead run) run.inputs
-delivered_in_inside ahead run = delivered_inside run.inputs (opening_with ahead run)
-
 -- ---- its outputs
 
 carried : (a : Ahead) (input : KeepingInput) → newly_delivered_with a input ≡ newly_delivered a.k input →
@@ -217,8 +142,7 @@ delivers_each_listed_with a (endpoint_input input) =
     matches_by a (endpoint_input input) input _ _ _ refl (delivers_each_listed a.k (endpoint_input input))
 
 -- A PN that is accepted with the option is above all that earlier runs reserved, and at most what was reported durable
--- to
--- the run.
+-- to the run.
 
 -- ---- a step
 
@@ -228,10 +152,6 @@ before_stays_with a input = field_inside (λ k. k.before) before_stays a input
 salt_stays_with : (a : Ahead) (input : KeepingInput) → (ahead_step a input).1.k.salt ≡ a.k.salt
 salt_stays_with a input = field_inside (λ k. k.salt) salt_stays a input
 
-pub salt_after : (inputs : Inputs) (a : Ahead) → (ahead_after a inputs).k.salt ≡ a.k.salt
-salt_after [] a = refl
-salt_after (input ∷ inputs) a = salt_after inputs _ ∙ salt_stays_with a input
-
 pub option_by : (again : Bool) (it : Standing) (a : Ahead) (input : Input) (answer : Answer) →
     ((ahead_by again it a input answer).1.ahead ≡ a.ahead) × ((ahead_by again it a input answer).1.taken ≡ a.taken)
 option_by again it a input answer =
@@ -240,10 +160,6 @@ option_by again it a input answer =
 option_stays : (a : Ahead) (input : KeepingInput) → (ahead_step a input).1.ahead ≡ a.ahead
 option_stays a (now_durable r) = refl
 option_stays a (endpoint_input input) = (option_by _ _ a input _).0
-
-pub option_after : (inputs : Inputs) (a : Ahead) → (ahead_after a inputs).ahead ≡ a.ahead
-option_after [] a = refl
-option_after (input ∷ inputs) a = option_after inputs _ ∙ option_stays a input
 
 -- ---- what was reported durable
 
@@ -308,15 +224,6 @@ taken_step a (endpoint_input input) _ name =
     let same : highest (ahead_step a (endpoint_input input)).1.taken name ≡ highest a.taken name =
     rw ((option_by (begins_again a input) (standing a input) a input (keeping_step a.k (endpoint_input input))).1) in
     omega (arith, same)
-
-pub taken_after : (inputs : Inputs) (a : Ahead) (name : List ℕ) → highest (ahead_after a inputs).taken name ≤
-    max (highest a.taken name) (highest (reported_in inputs) name)
-taken_after [] a _ = omega arith
-taken_after (input ∷ inputs) a name = omega (
-  arith,
-  taken_after inputs (ahead_step a input).1 name,
-  taken_step a input inputs name,
-)
 
 -- ---- what is accepted
 
@@ -386,39 +293,6 @@ within (input ∷ inputs) a on =
         taken_step a input inputs (delivery_name a.k.salt d),
       );
     }) (accepted_from after inputs) (within inputs after (option_stays a input ∙ on)))
-
-pub accepts_reserved : (run : Run) → AcceptsReserved run
-accepts_reserved run d there =
-    let it = All-contains (IsWithin (reduced (reservations run.journal)) (salt_of run.journal)
-    (most_of (opening_with true run) run.inputs)) (accepted_in run) d
-    (within run.inputs (opening_with true run) refl) there in
-    record {
-      above = omega (
-        arith,
-        it.above,
-        reduced_reserves (reservations run.journal) (delivery_name (salt_of run.journal) d),
-      );
-      within = omega (arith, it.within);
-    }
-
--- ---- two runs
-
--- what is reserved in a later run is above what is reserved in an earlier one
-pub reserved_above : {run later : Run} → SameSalt run later → KeepsDurable run later → {d e : Delivery} →
-    IsReservedIn run d → IsReservedIn later e → AreOfOneSa d e → d.number < e.number
-reserved_above {run} {later} salt durable {d} {e} first second same =
-    let name : delivery_name (salt_of later.journal) e ≡ delivery_name (salt_of run.journal) d =
-    rw (salt, ← same.bytes, ← same.sci, ← same.an) in
-    let above = rw name at second.above in
-    omega (arith, first.within, above, durable (delivery_name (salt_of run.journal) d))
-
-accepts_above : (run later : Run) → SameSalt run later → KeepsDurable run later → AcceptsAbove run later
-accepts_above run later salt durable d e here there same = reserved_above salt durable
-    (accepts_reserved run d here) (accepts_reserved later e there) same
-
-pub accepts_above_in_all : (runs : List Run) → AcceptsAboveInAll runs
-accepts_above_in_all runs salt durable i j d less within' =
-    accepts_above (get_or runs i d) (get_or runs j d) (salt i j d less within') (durable i j d less within')
 
 -- A frame that was dropped because its PN was not reserved asks for a record, and passes once it is durable.
 

@@ -1,27 +1,20 @@
 -- What a run delivers in strict order is at or below what may have been accepted from the SA, and reserved: so no SA is
 -- created again at or below it.
 use Rattle.macsec_restarts.proofs.{
-  AheadEnds.{ahead_row_step, created_above, given_up_stays, past_of, past_step, row_end},
+  AheadEnds.{ahead_row_step, past_of, row_end},
   AheadInside.{reserved_now, step_inside},
-  Names.{[], ◌+◌, ◌<◌, ◌==◌, ◌^◌, ◌||◌, ◌∙◌, ◌∷◌, ◌≡◌, ◌≤◌, ◌⊎◌, Ahead, ahead_step, All, All-contains, ap, arith, Bool},
-  Names.{contained, CreatesAbove, delivered_at, Delivery, end_of_row, endpoint_input, EndpointLaws, eq-eqb, false},
-  Names.{frame_fault, get_or, HasStrictOrder, highest, inl, inr, InstalledKey, IsAbove, IsDeliveredFrom, IsGivenUp},
-  Names.{IsMember, IsSome, IsSound, IsStrictInput, Judgement, judgement_of, KeepingInput, KeysStay, lets_through},
-  Names.{link_frame, List, newly_delivered, None, now_durable, Option, or_parts, received_step, receiving_name, refl},
-  Names.{row_name, rx_row, rx_uses, RxRow, Sci, sending_name, Some, State, state_after_receiving, subst, sym, the_key},
-  Names.{true, unwrap_or, ℕ},
+  Names.{[], ◌+◌, ◌==◌, ◌^◌, ◌||◌, ◌∙◌, ◌∷◌, ◌≡◌, ◌≤◌, ◌⊎◌, Ahead, ahead_step, All, All-contains, arith, Bool},
+  Names.{contained, delivered_at, Delivery, end_of_row, endpoint_input, EndpointLaws, eq-eqb, false, frame_fault},
+  Names.{HasStrictOrder, highest, inl, inr, IsAbove, IsDeliveredFrom, IsGivenUp, IsMember, IsSome, IsSound},
+  Names.{IsStrictInput, Judgement, judgement_of, KeepingInput, lets_through, link_frame, List, newly_delivered, None},
+  Names.{or_parts, received_step, receiving_name, refl, row_name, rx_row, rx_uses, RxRow, Sci, sending_name, Some},
+  Names.{State, state_after_receiving, subst, sym, the_key, true, ℕ},
   RowSteps.{found_row, is_given, IsGiven, IsLaterRow, of_ours, RowStep},
-  Sends.keys_stay,
 }
 use Rattle.macsec_rx.specs.Rows.{AreRxRows}
 use Rattle.macsec_suite.specs.KeyRows.{key_row}
 
 -- ---- keys
-
--- a key that is in the table by its number is there later, with its octets
-record HasOctetsOf (keys after : List InstalledKey) (n : ℕ) : Type 0 where
-  there : IsSome (key_row after n)
-  octets : (the_key after n).bytes ≡ (the_key keys n).bytes
 
 -- no SA uses a key that is given up
 pub uses_it : (rows : List RxRow) (row : RxRow) (key : ℕ) → IsMember rows row → row.key ≡ key → rx_uses rows key ≡ true
@@ -43,41 +36,11 @@ lowest_fits _ [] _ _ there = absurd there
 lowest_fits scis (r ∷ rows) row are (inr later) = lowest_fits scis rows row are.2 later
 lowest_fits _ (r ∷ _) _ are (inl here) = rw (← here) (omega (arith, are.0.lowest, are.0.next))
 
-of_some : {o : Option InstalledKey} {key : InstalledKey} → o ≡ Some key → IsSome o
-of_some is = rw is refl
-
 module _ (laws : EndpointLaws) where
-  octets_stay : (s after : State) → IsSound s → IsSound after → KeysStay s after → (n : ℕ) → IsSome (key_row s.keys n) →
-      HasOctetsOf s.keys after.keys n
-  octets_stay s after sound sound' stay n there =
-      let key = (laws.keys_apart s sound).found n there in
-      let it = stay.keys (the_key s.keys n) key.there in
-      let number : it.later.number ≡ n = it.is_later.number ∙ key.number in
-      let found : key_row after.keys n ≡ Some it.later = ap (key_row after.keys) (sym number)
-      ∙ (laws.keys_apart after sound').by_number it.later it.there in
-      record {
-        there = of_some found;
-        octets = rw (found, it.is_later.bytes);
-      }
-
-  -- keys of the same octets have one number
-  one_number : (s : State) → IsSound s → (n m : ℕ) → IsSome (key_row s.keys n) → IsSome (key_row s.keys m) →
-      (the_key s.keys n).bytes ≡ (the_key s.keys m).bytes → n ≡ m
-  one_number s sound n m there there' same =
-      let apart = laws.keys_apart s sound in
-      let first = apart.found n there in
-      let second = apart.found m there' in
-      let one = apart.by_bytes (the_key s.keys n) (the_key s.keys m) first.there second.there same in
-      rw (← first.number, one, second.number)
-
   pub row_key : (s : State) → IsSound s → (sci : Sci) (an : ℕ) (row : RxRow) → rx_row s.rx.rows sci an ≡ Some row →
       IsSome (key_row s.keys row.key)
   row_key s sound sci an row there = All-contains (λ r. IsSome (key_row s.keys r.key)) _ row sound.rx_keys
       (contained _ row (found_row sci an _ row there))
-
-  keys_stay_with : (a : Ahead) (input : KeepingInput) → IsSound a.k.secy → lets_through a input ≡ true →
-      KeysStay a.k.secy (ahead_step a input).1.k.secy
-  keys_stay_with a input sound lets = rw (step_inside a input true lets) (keys_stay laws a.k input sound)
 
   -- ---- what was delivered
 
@@ -89,79 +52,6 @@ module _ (laws : EndpointLaws) where
       pub there : IsSome (key_row a.k.secy.keys key)
       pub octets : (the_key a.k.secy.keys key).bytes ≡ bytes
       pub past : IsGivenUp a.k.secy key ⊎ (d.number ≤ past_of a key sci an)
-
-    pub past_stays : (a : Ahead) (input : KeepingInput) → IsSound a.k.secy → IsSound (ahead_step a input).1.k.secy →
-        a.k.keeps ≡ true → lets_through a input ≡ true → (d : Delivery) → IsPast a d → IsPast (ahead_step a input).1 d
-    past_stays a input sound sound' keeps lets d it =
-        let after = (ahead_step a input).1 in
-        let later = octets_stay a.k.secy after.k.secy sound sound'
-        (keys_stay_with a input sound lets) it.key it.there in
-        record {
-          key = it.key;
-          there = later.there;
-          octets = later.octets ∙ it.octets;
-          past = by_past it.past (past_step a input it.key sci an keeps);
-        }
-      where
-        by_past : IsGivenUp a.k.secy it.key ⊎ (d.number ≤ past_of a it.key sci an) →
-            IsGivenUp (ahead_step a input).1.k.secy it.key
-            ⊎ (past_of a it.key sci an ≤ past_of (ahead_step a input).1 it.key sci an) →
-            IsGivenUp (ahead_step a input).1.k.secy it.key ⊎ (d.number ≤ past_of (ahead_step a input).1 it.key sci an)
-        by_past (inl up) _ = inl (given_up_stays a input it.key up)
-        by_past (inr _) (inl up) = inl up
-        by_past (inr past) (inr grows) = inr (omega (arith, past, grows))
-
-    -- so an SA that is created again begins above it
-    pub creates_above : (a : Ahead) (input : KeepingInput) → IsSound a.k.secy → IsSound (ahead_step a input).1.k.secy →
-        lets_through a input ≡ true →
-        (ds : List Delivery) → All (IsPast a) ds → CreatesAbove a.k.secy (ahead_step a input).1.k.secy bytes sci an ds
-    creates_above a input sound sound' lets ds all row there under fresh i d within =
-        by_row (rx_row s.rx.rows sci an) refl
-      where
-        s : State
-        s = a.k.secy
-
-        after : State
-        after = (ahead_step a input).1.k.secy
-
-        stay : KeysStay s after
-        stay = keys_stay_with a input sound lets
-
-        key_by : (input' : KeepingInput) (later : RxRow) →
-            rx_row (ahead_step a input').1.k.secy.rx.rows sci an ≡ Some later → (earlier : RxRow) →
-            rx_row s.rx.rows sci an ≡ Some earlier → later.key ≡ earlier.key
-        key_by (now_durable r) later there' earlier here =
-            let one : Some earlier ≡ Some later = sym here ∙ there' in
-            ap (λ o. (unwrap_or o later).key) (sym one)
-        key_by (endpoint_input input') later there' earlier here =
-            let it : IsLaterRow earlier later =
-            subst (λ o. RowStep input' o (Some later)) here (rw there' at (ahead_row_step a input' sci an)) in
-            it.key
-
-        -- no SA has a key that is given up
-        by_past : (key : ℕ) → key ≡ row.key → past_of a key sci an < row.next → IsGivenUp s key
-            ⊎ ((get_or ds i d).number ≤ past_of a key sci an) → (get_or ds i d).number < row.next
-        by_past _ one above (inr past) = omega (arith, past, above)
-        by_past key one _ (inl up) =
-            absurd (not_used after key (given_up_stays a input key up) row (found_row sci an after.rx.rows row there)
-            (sym one))
-
-        by_row : (o : Option RxRow) → rx_row s.rx.rows sci an ≡ o → (get_or ds i d).number < row.next
-        by_row None none =
-            let it = all i d within in
-            let later = octets_stay s after sound sound' stay it.key it.there in
-            let one = one_number after sound' it.key row.key later.there (row_key after sound' sci an row there)
-            (later.octets ∙ it.octets ∙ sym under) in
-            let above : past_of a it.key sci an < row.next =
-            rw one (created_above a input sci an row none there lets) in
-            by_past it.key one above it.past
-        by_row (Some earlier) here = absurd (fresh earlier here (rw (← kept_octets.octets, ← same_key, under)))
-          where
-            kept_octets : HasOctetsOf s.keys after.keys earlier.key
-            kept_octets = octets_stay s after sound sound' stay earlier.key (row_key s sound sci an earlier here)
-
-            same_key : row.key ≡ earlier.key
-            same_key = key_by input row there earlier here
 
     -- ---- a new delivery
 

@@ -6,11 +6,8 @@ pub mod TwoRunsEach
 pub mod NotSent
 pub mod Replays
 pub mod Blocks
-pub mod ReservesAhead
 pub mod Extended
-pub mod ExtendedForgets
 pub mod OtherSuites
 pub mod Rewound
-pub mod Forgets
 pub mod Renews
 pub mod RenewsInOrder

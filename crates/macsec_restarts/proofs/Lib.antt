@@ -8,11 +8,8 @@ pub mod AheadInside
 mod AheadEnds
 mod AheadPast
 mod Pushed
-mod AheadOrder
-mod SameBut
 pub mod AheadForgets
 mod Examples
-mod KeptOrder
 mod ForgettingEnds
 mod RenewingSteps
 mod RenewingEnds
@@ -28,3 +25,8 @@ mod RenewingKeys
 mod RenewingPast
 mod RenewingOrder
 mod OnDisk
+mod Premises
+mod Consequences
+mod OnDiskOrder
+mod OnDiskHappenings
+mod RenewingOutputs

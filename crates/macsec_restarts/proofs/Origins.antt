@@ -8,18 +8,18 @@ use Rattle.macsec_restarts.{
     Names.{[], ◌++◌, ◌∙◌, ◌∷◌, ◌≡◌, ◌≤◌, ◌⊎◌, A, AgreeOnKey, AgreeOnKeys, All, All-cons, All-contains, All-head},
     Names.{All-nil, All-tail, AllPairs, AllPairs-cons, ap, append-nil, append_assoc, AreOctets, ArePeers, AtEach, B},
     Names.{closing, comes_in, contained, Contains, End, endpoint_input, EndpointLaws, Events, get_or, Grammar},
-    Names.{Happening, IfSome, if◌then◌else◌, inl, Inputs, inr, InstalledKey, is_xpn, IsDeliveredFrom},
-    Names.{IsGenuineAt, IsHistory, IsMember, IsSameEnd, IsSound, iv_of, iv_of_parts, IvParts, judgement_of, Keeping},
-    Names.{KeepingInput, KeepsDurable, key_row_facts, last_of, last_run, link_frame, List, map, map-append, member},
-    Names.{MpduParts, no_pairs, None, one_alone, opening, Option, pairs-head, pairs-tail, reading, refl, Run, runs_of},
-    Names.{RxRow, SameSalt, sealed_in_all, sent_in_all, SentIn, Some, State, StaysSound, Strict, subst, suc, sym, take},
+    Names.{Happening, IfSome, if◌then◌else◌, inl, Inputs, inr, InstalledKey, is_xpn, IsDeliveredFrom, IsGenuineAt},
+    Names.{IsHistory, IsMember, IsSameEnd, IsSound, iv_of, iv_of_parts, IvParts, judgement_of, Keeping, KeepingInput},
+    Names.{KeepsDurable, key_row_facts, last_of, last_run, link_frame, List, map, map-append, member, MpduParts},
+    Names.{no_pairs, None, one_alone, opening, Option, pairs-head, pairs-tail, reading, refl, Run, runs_of, RxRow},
+    Names.{SameSalt, sealed_in_all, sent_in_all, SentIn, Some, State, StaysSound, Strict, subst, suc, sym, take},
     Names.{the_key, true, use_opened, use_opened_in, WasSent, zero, ℕ},
     Pushed.{at_end, closing-input, either_list, in_front, is_next, IsNext, new_input, new_run, same_runs, with_input},
     Pushed.with_last,
     Sends.{by_runs, closing_sound, IsSentIn, IsSoundRun, keys_stay, last_member, last_or_before, seal_of_sent},
     Sends.{seals_of_runs, stay_after},
   },
-  specs.{Origin.{AlwaysComesFromOther, ComesFromOther}, Used.{ArePeersAtAll, ComesFromOtherAtAll, IsSoundHistory}},
+  specs.{Origin.ComesFromOther, Used.{ArePeersAtAll, ComesFromOtherAtAll, IsSoundHistory}},
 }
 use Rattle.macsec_secy.specs.{Delivers.{IsOfOtherSender, IsOpened}, Kept.KeyStaysIn}
 use Rattle.macsec_suite.specs.IvLaws.{HaveSameSender}
@@ -477,8 +477,3 @@ at_all peers = record {
 
 pub comes_from_other : EndpointLaws → Grammar → (before : Events) → ComesFromOther before
 comes_from_other laws grammar before peers = comes_from_other_at_all laws grammar before (at_all peers)
-
-pub always_comes_from_other : EndpointLaws → Grammar → (events : Events) → AlwaysComesFromOther events
-always_comes_from_other laws grammar events genuine peers k e run frame row delivered octets happens last strict of_row
-    delivers = comes_from_other laws grammar _ (peers_taken laws k [] events peers) e run frame row delivered octets
-    (rw happens at (genuine k)) last strict of_row delivers

@@ -1,6 +1,6 @@
 -- Several runs of an endpoint that renews keys and can reserve ahead of receiving: what it sends, by the keeping
 -- endpoint inside, and what it accepts.
-use Rattle.macsec_ahead.specs.Renewing.{ahead_after_renewing, unless_refused}
+use Rattle.macsec_ahead.specs.{Ahead.kept, Renewing.{ahead_after_renewing, unless_refused}}
 use Rattle.macsec_reserve.specs.{
   Forgetting.as_taken,
   Renewing.{forgetting_refusal, unless_refused as unless_not_taken},
@@ -8,7 +8,7 @@ use Rattle.macsec_reserve.specs.{
 }
 use Rattle.macsec_restarts.{
   proofs.{
-    AheadForgets.{forgetting_is, forgetting_stays, forgets_inside},
+    AheadForgets.{forgetting_is, forgetting_stays, forgets_inside, takes_step},
     AheadInside.{by_ahead, IsWithin, none_sent, within_input},
     Forgetting.{option_kept, pairs-map, taken_kept},
     Names.{[], ◌++◌, ◌<◌, ◌∙◌, ◌∷◌, ◌≡◌, ◌≤◌, Ahead, ahead_forgetting_step, All, All-append, All-contains, All-map},
@@ -27,7 +27,7 @@ use Rattle.macsec_restarts.{
   specs.RenewingRuns.{IsSoundRun, IsSoundRunRenewing, IsUsedIn, IsWeakerToAcceptWith, IsWeakerWith},
   specs.RenewingRuns.{KeepsAcceptedWith, KeepsUsedRenewing, KeepsUsedWith, NoIvIfUsedIsKeptWith, opening_of},
   specs.RenewingRuns.{RisesIfUsedIsKeptWith, sent_by_all, sent_by_run, sent_from_renewing, sent_in_all_renewing},
-  specs.RenewingRuns.{sent_in_renewing, sent_renewing, states_of, states_renewing},
+  specs.RenewingRuns.{sent_in_renewing, sent_renewing, states_of, states_renewing, StepsRenewing},
   specs.Used.Covers,
 }
 use Rattle.macsec_secy.specs.Commands.{uses}
@@ -49,6 +49,17 @@ pub renewing_stays : (a : Ahead) (input : KeepingInput) → lets_through a input
     (ahead_renewing_step a input).1 ≡ a
 renewing_stays a (endpoint_input (operator_command (Key key))) is = cc
 renewing_stays a input is = forgetting_stays a input is
+
+renewing_output : (a : Ahead) (input : KeepingInput) → lets_through a input ≡ true →
+    (ahead_renewing_step a input).0 ≡ kept (renewing_step a.k input).0
+renewing_output a (endpoint_input (operator_command (Key key))) is = refl
+renewing_output a input is = (takes_step a input is).output
+
+pub steps_renewing : (a : Ahead) (input : KeepingInput) → StepsRenewing a input
+steps_renewing a input = record {
+  takes = λ is. record { output = renewing_output a input is; after = renews_inside a input is };
+  stays = renewing_stays a input;
+}
 
 step_inside : (a : Ahead) (input : KeepingInput) (b : Bool) → lets_through a input ≡ b →
     (ahead_renewing_step a input).1.k ≡ (if b then (renewing_step a.k input).1 else a.k)

@@ -3,7 +3,6 @@ use Rattle.macsec_restarts.{
   proofs.{
     AheadEnds.past_of,
     AheadInside.step_inside,
-    AheadOrder.{cut, first_moments},
     AheadPast.{IsPast, new_past},
     InOrder.{each_found, rising},
     Names.{[], ◌&&◌, ◌++◌, ◌<◌, ◌==◌, ◌∙◌, ◌∷◌, ◌≡◌, ◌≤◌, ◌⊎◌, A, Ahead, ahead_step, All, All-append, All-cons},
@@ -28,7 +27,7 @@ use Rattle.macsec_restarts.{
     RenewingSends.sound_after,
     RowSteps.{all_pass, all_there, at_most_one, Before, below_above, is_given, is_ours, IsBelowNext, IsGiven},
     RowSteps.{IsPlacedAt, of_ours, placed_at, same_place},
-    RunsWith.{IsHereditary, pairs_first, push, runs_first},
+    RunsWith.{cut, first_moments, IsHereditary, pairs_first, push, runs_first},
   },
   specs.{
     Kept.last_of,
@@ -377,6 +376,16 @@ module _ (laws : EndpointLaws) (renews : RenewingLaws) (giving : GivingUp) (gram
       one_more laws giving bytes sci an r input (sound_less input r sound') sound' (λ d there. (fair d there).order)
       now)
       [] events refl each (All-nil _)
+
+  -- what it delivered from the SA it accepted, from valid frames
+  pub all_accepted : (events : Events) → ((f : End) → All IsSoundRun (runs_at ahead f events)) →
+      AtEach (AskedOfLast ahead e (IsFairAt ahead e bytes sci an)) [] events →
+      All (λ r. (d : Delivery) → Contains (delivered_at_by bytes sci an r) d → Contains (accepted_by_run r) d)
+      (runs_at ahead e events)
+  all_accepted events sounds each i d within x there =
+      let r = get_or (runs_at ahead e events) i d in
+      All-contains (Contains (accepted_by_run r)) (delivered_at_by bytes sci an r) x
+      (nows events sounds each i d within).accepted there
 
   from_last : (before : Events) (input : KeepingInput) (o : Option RunWith) → IfSome o (λ r. Fair before r input) →
       IfSome o (λ r. From before r input)

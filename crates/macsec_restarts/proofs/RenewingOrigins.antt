@@ -2,9 +2,7 @@
 use Rattle.macsec_link.{proofs.Reflections.recovered_most, specs.Trace.use_to_open_by}
 use Rattle.macsec_restarts.{
   proofs.{
-    AheadOrder.{cut, first_moments},
     AheadPast.uses_it,
-    KeptOrder.last_there,
     Names.{[], ◌++◌, ◌∙◌, ◌∷◌, ◌≡◌, ◌≤◌, ◌⊎◌, A, AgreeOnKey, Ahead, All, All-append, All-cons, All-contains},
     Names.{All-filter, All-head, All-nil, All-tail, AllPairs, ap, append-nil, append_assoc, AreOctets, AtEach, B},
     Names.{begins, Bool, comes_in, contained, Contains, Delivery, End, EndConfig, EndpointLaws, Events, false, filter},
@@ -18,7 +16,8 @@ use Rattle.macsec_restarts.{
     RenewingKeepers.RenewingLaws,
     RenewingSends.{by_runs, config_after, IsSentByOne, IsSentThen, one_key, sound_after, used_then},
     RowSteps.{all_there, each_given, found_row, is_given, IsGiven},
-    RunsWith.{begins_run, gets_input, Grows, grows, push, push_last, runs_first, stays_as_it_is},
+    RunsWith.{begins_run, cut, first_moments, gets_input, Grows, grows, last_there, push, push_last, runs_first},
+    RunsWith.{stays_as_it_is},
   },
   specs.{
     Kept.last_of as last_run_of,

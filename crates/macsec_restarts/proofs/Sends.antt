@@ -10,14 +10,14 @@ use Rattle.macsec_restarts.{
     Names.{All-tail, All-weaker, AllPairs, and_parts, arith, before_stays, Bool, by_tests, CipherUse, client_frame},
     Names.{closing, contained, Contains, endpoint_input, EndpointLaws, false, frame_fault, FrameFault, from_later},
     Names.{get_or, highest, highest-append, if◌then◌else◌, inl, Input, Inputs, inr, IsFrom, IsMember, IsSound, Keeping},
-    Names.{keeping_after, keeping_step, KeepingInput, keeps_stays, KeepsDurable, KeepsUsed, KeysStay, last_run},
-    Names.{leb-true, List, ltb-true, map, map-append, max, may_go, nat_le, nat_lt, newly_sent, no_pairs, None, not},
-    Names.{now_durable, one_alone, opening, Option, pairs-append, pairs-head, pairs-tail, reduced, reduced_reserves},
-    Names.{refl, reported_in, Reservation, reservations, Rises, Run, salt_of, salt_stays, SameSalt, sealed_by},
-    Names.{sealed_if, sealed_in_all, sending_name, sending_of, sent_by, sent_from, sent_in_all, SentIn, Some, State},
-    Names.{StaysSound, step, subst, suc, sym, the_key, true, tx_options, TxRow, use_sent, ℕ},
+    Names.{keeping_after, keeping_step, KeepingInput, keeps_stays, KeepsDurable, KeysStay, last_run, leb-true, List},
+    Names.{ltb-true, map, map-append, max, may_go, nat_le, nat_lt, newly_sent, no_pairs, None, not, now_durable},
+    Names.{one_alone, opening, Option, pairs-append, pairs-head, pairs-tail, reduced, reduced_reserves, refl},
+    Names.{reported_in, Reservation, reservations, Rises, Run, salt_of, salt_stays, SameSalt, sealed_by, sealed_if},
+    Names.{sealed_in_all, sending_name, sending_of, sent_by, sent_from, sent_in_all, SentIn, Some, State, StaysSound},
+    Names.{step, subst, suc, sym, the_key, true, tx_options, TxRow, use_sent, ℕ},
   },
-  specs.{Sent.{ListsEachUse, NumbersRise}, Used.{Covers, IsWeaker, RisesIfUsedIsKept}},
+  specs.Sent.{ListsEachUse, NumbersRise},
 }
 use Rattle.macsec_secy.specs.{Laws.number_used, Protects.OpensAs}
 
@@ -323,45 +323,3 @@ sends_rise laws (run ∷ runs) sound salt durable =
 
 pub numbers_rise : EndpointLaws → (runs : List Run) → NumbersRise runs
 numbers_rise laws runs is = sends_rise laws runs is.sound is.salt is.durable
-
--- ---- if a later run reads what was used, under the names under which it sends
-
-above_used : (later : Run) (x y : SentIn) → Covers later x y → IsLeasedIn later y → Rises x y
-above_used later x y covers second bytes = omega (
-  arith,
-  covers bytes,
-  second.above,
-  reduced_reserves (reservations later.journal) (sending_name (salt_of later.journal) y.seal.key),
-)
-
-pub rises_in : (run q : Run) → KeepsUsed run q →
-    All (λ x. All (Rises x) (sent_from (opening q) q.inputs)) (sent_from (opening run) run.inputs)
-rises_in run q keeps i d within j e within' =
-    let sends = sent_from (opening q) q.inputs in
-    above_used q (get_or (sent_from (opening run) run.inputs) i d) _
-    (keeps i d within j e within') (leased q.inputs _ refl j e within')
-
-used_to_later : (run : Run) (later : List Run) → All (KeepsUsed run) later →
-    All (λ x. All (Rises x) (sent_in_all later)) (sent_from (opening run) run.inputs)
-used_to_later _ [] _ i d _ = All-nil _
-used_to_later run (q ∷ qs) keeps i d within = All-append (Rises (get_or (sent_from (opening run) run.inputs) i d)) _
-    _ (rises_in run q (All-head (KeepsUsed run) q qs keeps) i d within)
-    (used_to_later run qs (All-tail (KeepsUsed run) q qs keeps) i d within)
-
-pub rises_if_used_is_kept : EndpointLaws → (runs : List Run) → RisesIfUsedIsKept runs
-rises_if_used_is_kept _ [] _ _ = no_pairs Rises
-rises_if_used_is_kept laws (run ∷ runs) sound keeps =
-    pairs-append Rises _ _ (in_run laws _ _ (All-head IsSoundRun run runs sound))
-    (rises_if_used_is_kept laws runs (All-tail IsSoundRun run runs sound) (pairs-tail KeepsUsed run runs keeps))
-    (used_to_later run runs (pairs-head KeepsUsed run runs keeps))
-
-covered : (run later : Run) → SameSalt run later → KeepsDurable run later → (x : SentIn) → IsLeasedIn run x →
-    (y : SentIn) → Covers later x y
-covered run later salt durable x first y bytes =
-    let name = sending_name (salt_of run.journal) x.seal.key in
-    let here : x.number ≤ highest (reservations later.journal) name = omega (arith, first.within, durable name) in
-    rw salt (rw bytes at here)
-
-pub is_weaker : (run later : Run) → IsWeaker run later
-is_weaker run later salt durable i d within j e _ = covered run later salt durable _
-    (leased run.inputs (opening run) refl i d within) (get_or (sent_from (opening later) later.inputs) j e)

@@ -1,21 +1,17 @@
 -- Laws of an endpoint that can reserve ahead of receiving: of its steps, and of the keeping endpoint inside.
-use Rattle.std.specs.Prelude.{◌≡◌, ◌<◌, ◌≤◌, ◌⊎◌, ◌^◌, ℕ, List, Bool, true, false, None, Some, IsSome}
-use Rattle.macsec_tag.specs.declared.identifiers.Sci.{Sci}
-use Rattle.macsec_suite.specs.declared.refusal.Refusal.TheVariants.{PnFloor}
-use Rattle.macsec_commands.specs.declared.command.Command.TheVariants.{RxSa}
+use Rattle.std.specs.Prelude.{◌≡◌, ◌<◌, ◌≤◌, ◌^◌, ℕ, List, true, false, None, Some, IsSome}
 use Rattle.macsec_rx.specs.declared.RxRow.{RxRow}
 use Rattle.macsec_rx.specs.Channels.{rx_row}
 use Rattle.macsec_secy.specs.Reception.{judgement_of}
-use Rattle.macsec_secy.specs.GivenUp.{IsGivenUp}
 use Rattle.macsec_secy.specs.Sound.{IsSound}
-use Rattle.macsec_secy.specs.Step.{Input, client_frame, link_frame, operator_command, refused}
+use Rattle.macsec_secy.specs.Step.{Input, client_frame, link_frame}
 use Rattle.macsec_reserve.specs.declared.reservation.Reservation.{Reservation}
-use Rattle.macsec_reserve.specs.Histories.{Run, closing, reported}
 use Rattle.macsec_reserve.specs.Journal.{highest}
-use Rattle.macsec_reserve.specs.Keeping.{KeepingInput, endpoint_input, endpoint_output, keeping_step, now_durable}
+use Rattle.macsec_reserve.specs.Keeping.{KeepingInput, endpoint_input, keeping_step, now_durable}
 use Rattle.macsec_reserve.specs.Replay.{row_name}
 use Rattle.macsec_rx.specs.declared.within.RxPn.{RxPn}
-use Rattle.macsec_ahead.specs.Ahead.{Ahead, ahead_after, ahead_step, begins_again, closing_with, dropped_not_reserved, kept, lets_through, passes, run_inside, standing, wanted_to_accept}
+use Rattle.macsec_ahead.specs.Ahead.{Ahead, ahead_step, begins_again, dropped_not_reserved, kept, lets_through, passes}
+use Rattle.macsec_ahead.specs.Ahead.{standing, wanted_to_accept}
 use Rattle.macsec_ahead.specs.Ends.{end_of, end_of_row}
 
 -- ---- the keeping endpoint inside
@@ -32,24 +28,20 @@ pub record StepsInside (a : Ahead) (input : KeepingInput) : Type 0 where
   pub reports : (r : Reservation) → lets_through a (now_durable r) ≡ true
   pub frames : (frame : List ℕ) → lets_through a (endpoint_input (client_frame frame)) ≡ true
 
--- so after a run the keeping endpoint inside is as after `run_inside`, and the same was reported to both runs
-pub record IsKeepingInside (ahead : Bool) (run : Run) : Type 0 where
-  pub inside : (closing_with ahead run).k ≡ closing (run_inside ahead run)
-  pub reports : reported (run_inside ahead run) ≡ reported run
-
 -- without the option it is the keeping endpoint, except where a command creates a deleted SA again too low
 abbrev pub IsAsBefore : Ahead → Input → Type 0
 IsAsBefore a input = a.ahead ≡ false → begins_again a input ≡ false → TakesTheStep a (endpoint_input input)
 
 -- ---- a frame that was dropped can be presented again
 
--- once a durable record under the SA's name reaches the frame's PN, the frame is not dropped any more, unless an earlier run
--- may have accepted its PN
+-- once a durable record under the SA's name reaches the frame's PN, the frame is not dropped any more, unless an
+-- earlier run may have accepted its PN
 abbrev pub PassesOnceReserved : Ahead → List ℕ → RxRow → List ℕ → Reservation → Type 0
 PassesOnceReserved a frame row delivered r =
     let j = judgement_of a.k.secy frame in
     IsSound a.k.secy → j.row ≡ Some row → j.delivered ≡ Some delivered →
-    r.name ≡ row_name a.k.salt a.k.secy row → highest a.k.before (row_name a.k.salt a.k.secy row) < j.number → j.number ≤ r.last →
+    r.name ≡ row_name a.k.salt a.k.secy row → highest a.k.before (row_name a.k.salt a.k.secy row) < j.number →
+    j.number ≤ r.last →
     standing (ahead_step a (now_durable r)).1 (link_frame frame) ≡ passes
 
 -- a record for the SA that reaches a PN
@@ -61,8 +53,8 @@ pub record ReachesPn (a : Ahead) (n : ℕ) (row : RxRow) (r : Reservation) : Typ
 abbrev pub WantsEnough : Ahead → ℕ → ℕ → RxRow → Reservation → Type 0
 WantsEnough a amount next row r = wanted_to_accept a amount next row ≡ Some r → ReachesPn a next row r
 
--- the output for a frame that was dropped as not reserved names its SA and its PN; with this PN as the next one, there is a
--- record to write
+-- the output for a frame that was dropped as not reserved names its SA and its PN; with this PN as the next one, there
+-- is a record to write
 pub record AsksForRecord (a : Ahead) (amount : ℕ) (row : RxRow) (number : ℕ) (at : RxPn) : Type 0 where
   pub of_sci : at.sci ≡ row.sci
   pub of_an : at.an ≡ row.an
@@ -71,7 +63,8 @@ pub record AsksForRecord (a : Ahead) (amount : ℕ) (row : RxRow) (number : ℕ)
 
 abbrev pub AsksWhereDropped : Ahead → List ℕ → ℕ → RxRow → RxPn → Type 0
 AsksWhereDropped a frame amount row at =
-    (judgement_of a.k.secy frame).row ≡ Some row → at.number < 2 ^ 64 → (ahead_step a (endpoint_input (link_frame frame))).0 ≡ dropped_not_reserved at →
+    (judgement_of a.k.secy frame).row ≡ Some row → at.number < 2 ^ 64 →
+    (ahead_step a (endpoint_input (link_frame frame))).0 ≡ dropped_not_reserved at →
     AsksForRecord a amount row (judgement_of a.k.secy frame).number at
 
 -- ---- SAs that are deleted
@@ -80,16 +73,6 @@ AsksWhereDropped a frame amount row at =
 abbrev pub RemembersEnd : Ahead → KeepingInput → RxRow → Type 0
 RemembersEnd a input row =
     let after = (ahead_step a input).1 in
-    a.k.keeps ≡ true → rx_row a.k.secy.rx.rows row.sci row.an ≡ Some row → rx_row after.k.secy.rx.rows row.sci row.an ≡ None →
+    a.k.keeps ≡ true → rx_row a.k.secy.rx.rows row.sci row.an ≡ Some row →
+    rx_row after.k.secy.rx.rows row.sci row.an ≡ None →
     end_of_row row ≤ end_of after.ended row.key row.sci row.an
-
--- the end is remembered for the rest of the run, or until its key is retired: then no SA is created under the key any more
-abbrev pub KeepsEnds : Ahead → List KeepingInput → ℕ → Sci → ℕ → Type 0
-KeepsEnds a inputs key sci an =
-    let after = ahead_after a inputs in IsGivenUp after.k.secy key ⊎ (end_of a.ended key sci an ≤ end_of after.ended key sci an)
-
--- the SA is not created again under the key at that end or below it, and nothing changes
-abbrev pub RefusesBelowEnd : Ahead → Sci → ℕ → ℕ → ℕ → ℕ → Type 0
-RefusesBelowEnd a sci an key ssci lowest =
-    0 < lowest → lowest ≤ end_of a.ended key sci an →
-    ahead_step a (endpoint_input (operator_command (RxSa sci an key ssci lowest))) ≡ (kept (endpoint_output (refused PnFloor)), a)

@@ -6,8 +6,8 @@ use Rattle.macsec_commands.specs.declared.event.End.TheVariants.{A, B}
 use Rattle.macsec_reserve.specs.Histories.{Run}
 use Rattle.macsec_reserve.specs.Keeping.{KeepingInput}
 
--- an end begins a run with the octets of its journal, whenever its last run ended; or its endpoint gets an input. A link
--- frame is an input of any octets, so the link needs no state
+-- an end begins a run with the octets of its journal, whenever its last run ended; or its endpoint gets an input. A
+-- link frame is an input of any octets, so the link needs no state
 pub data Happening : Type 0 where
   begins : End → EndConfig → List ℕ → Happening
   comes_in : End → KeepingInput → Happening
@@ -28,7 +28,8 @@ inputs_until e (comes_in f input ∷ more) = if same_end e f then input ∷ inpu
 abbrev pub runs_of : End → List Happening → List Run
 runs_of e [] = []
 runs_of e (begins f config journal ∷ more) =
-    if same_end e f then record { journal = journal; config = config; inputs = inputs_until e more } ∷ runs_of e more else runs_of e more
+    if same_end e f then record { journal = journal; config = config; inputs = inputs_until e more } ∷ runs_of e more
+    else runs_of e more
 runs_of e (comes_in f input ∷ more) = runs_of e more
 
 abbrev pub last_run : List Run → Option Run
@@ -40,9 +41,3 @@ last_run (run ∷ later ∷ more) = last_run (later ∷ more)
 abbrev pub AtEach : (List Happening → Happening → Type 0) → List Happening → List Happening → Type 0
 AtEach P before [] = Unit {0}
 AtEach P before (h ∷ more) = P before h × AtEach P (before ++ h ∷ []) more
-
--- the happenings that pass a test, which may look at all that happened before
-abbrev pub passing_from : (List Happening → Happening → Bool) → List Happening → List Happening → List Happening
-passing_from test before [] = []
-passing_from test before (h ∷ more) =
-    if test before h then h ∷ passing_from test (before ++ h ∷ []) more else passing_from test (before ++ h ∷ []) more

@@ -7,9 +7,7 @@ pub mod Order
 pub mod Acceptance
 pub mod AheadSteps
 pub mod AheadRuns
-pub mod AheadOrder
 pub mod AheadForgetting
-pub mod ForgettingOrder
 pub mod Used
 pub mod Kept
 pub mod RenewingRuns
@@ -19,3 +17,5 @@ pub mod StrictLists
 pub mod RenewingEnds
 pub mod RenewingLists
 pub mod OnDisk
+pub mod OnDiskOrder
+pub mod RenewingOutputs

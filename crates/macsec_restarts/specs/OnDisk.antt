@@ -2,35 +2,18 @@
 -- name: another one that was let go takes nothing from it.
 use Rattle.std.specs.Prelude.{◌≡◌, ◌<◌, ℕ, List, length, Bool, true, Contains}
 use Rattle.std.specs.List.{AllPairs}
-use Rattle.macsec_reserve.specs.Histories.{opening}
 use Rattle.macsec_reserve.specs.Journal.{salt_of, sending_name}
 use Rattle.macsec_journal.specs.Laws.{IsKept, all_begun, gone_since}
 use Rattle.macsec_journal.specs.World.{Begun, Event, Form, Happen, after_all, created}
-use Rattle.macsec_restarts.specs.AheadForgetting.{accepted_in_forgetting}
 use Rattle.macsec_restarts.specs.AheadRuns.{AreOfOneSa, delivery_name}
 use Rattle.macsec_restarts.specs.Delivered.{Delivery}
 use Rattle.macsec_restarts.specs.Kept.{RunWith}
 use Rattle.macsec_restarts.specs.RenewingRuns.{accepted_by_run, sent_by_run}
-use Rattle.macsec_restarts.specs.Sent.{SentIn, sent_from}
+use Rattle.macsec_restarts.specs.Sent.{SentIn}
 
 -- the name was not let go between the beginnings of the two runs
 abbrev pub StaysBetween : Begun → Begun → List ℕ → Type 0
 StaysBetween b later name = IsKept (gone_since b later.gone) name
-
-pub record RisesIfNameStays (b later : Begun) : Type 0 where
-  -- what the later run sends under a key has a higher packet number than all that the earlier run sent under it
-  pub sends : (x y : SentIn) → Contains (sent_from (opening b.run) b.run.inputs) x →
-      Contains (sent_from (opening later.run) later.run.inputs) y → x.seal.key ≡ y.seal.key →
-      StaysBetween b later (sending_name (salt_of later.run.journal) y.seal.key) → x.number < y.number
-  -- and what it accepts from a receive SA, where both reserve ahead of receiving
-  pub accepts : (d e : Delivery) → Contains (accepted_in_forgetting b.run) d →
-      Contains (accepted_in_forgetting later.run) e → AreOfOneSa d e →
-      StaysBetween b later (delivery_name (salt_of later.run.journal) e) → d.number < e.number
-
-abbrev pub RisesOnDisk : Form → List ℕ → List Event → Type 0
-RisesOnDisk form salt events =
-    length salt ≡ 24 → Happen (created form salt) events → AllPairs RisesIfNameStays
-    (all_begun (after_all (created form salt) events))
 
 -- ---- endpoints that renew keys
 

@@ -1,5 +1,5 @@
--- Order, and each frame at most once, over restarts: what an end delivers from one SCI and association number (AN) under
--- the octets of a key is, with its packet numbers (PNs), a subsequence of what the other end sent under them.
+-- Order, and each frame at most once, over restarts: what an end delivers from one SCI and association number (AN)
+-- under the octets of a key is, with its packet numbers (PNs), a subsequence of what the other end sent under them.
 use Rattle.std.specs.Prelude.{◌≡◌, ◌<◌, ◌≤◌, ℕ, List, [], ◌∷◌, map, take, true, Some, IfSome, Contains}
 use Rattle.std.specs.List.{All}
 use Rattle.macsec_tag.specs.declared.identifiers.Sci.{Sci}
@@ -13,7 +13,7 @@ use Rattle.macsec_link.specs.World.{other_end}
 use Rattle.macsec_link.specs.Origin.{IsSubsequence}
 use Rattle.macsec_reserve.specs.Histories.{Run, closing, opening}
 use Rattle.macsec_reserve.specs.Journal.{highest, receiving_name, reservations, salt_of, sending_name}
-use Rattle.macsec_reserve.specs.Keeping.{KeepingInput, keeping_step}
+use Rattle.macsec_reserve.specs.Keeping.{Keeping, KeepingInput, keeping_step}
 use Rattle.macsec_restarts.specs.Delivered.{Delivery, delivered_at, delivered_from, delivered_in_all, newly_delivered}
 use Rattle.macsec_restarts.specs.Happenings.{AtEach, Happening, begins, comes_in, last_run, runs_of, same_end}
 use Rattle.macsec_restarts.specs.Peers.{ArePeers, HasOctets, IsGenuineAt}
@@ -38,6 +38,11 @@ pub record HasStrictOrder (s : State) : Type 0 where
   pub replay : s.options.replay ≡ true
   pub window : s.options.window ≡ 0
 
+-- if the input delivers a frame from the SA, the end has strict order
+abbrev pub IsStrictInput : Keeping → List ℕ → Sci → ℕ → KeepingInput → Type 0
+IsStrictInput k bytes sci an input =
+    (d : Delivery) → Contains (delivered_at bytes sci an (newly_delivered k input)) d → HasStrictOrder k.secy
+
 -- the SA is under these key octets
 abbrev pub IsUnder : State → List ℕ → RxRow → Type 0
 IsUnder s bytes row = (the_key s.keys row.key).bytes ≡ bytes
@@ -46,27 +51,33 @@ IsUnder s bytes row = (the_key s.keys row.key).bytes ≡ bytes
 abbrev pub CreatesAbove : State → State → List ℕ → Sci → ℕ → List Delivery → Type 0
 CreatesAbove s after bytes sci an ds =
     (row : RxRow) → rx_row after.rx.rows sci an ≡ Some row → IsUnder after bytes row →
-    ((earlier : RxRow) → rx_row s.rx.rows sci an ≡ Some earlier → IsUnder s bytes earlier → ⊥) → All (λ d. d.number < row.next) ds
+    ((earlier : RxRow) → rx_row s.rx.rows sci an ≡ Some earlier → IsUnder s bytes earlier → ⊥) →
+    All (λ d. d.number < row.next) ds
 
--- if the input delivers a frame from the SA, the end has strict order; if it creates the SA again, the SA begins above what
--- this run delivered from it
+-- if the input delivers a frame from the SA, the end has strict order; if it creates the SA again, the SA begins above
+-- what this run delivered from it
 pub record IsOrderedInput (run : Run) (bytes : List ℕ) (sci : Sci) (an : ℕ) (input : KeepingInput) : Type 0 where
-  pub order : (d : Delivery) → Contains (delivered_at bytes sci an (newly_delivered (closing run) input)) d → HasStrictOrder (closing run).secy
-  pub creates : CreatesAbove (closing run).secy (keeping_step (closing run) input).1.secy bytes sci an (delivered_in run bytes sci an)
+  pub order : (d : Delivery) → Contains (delivered_at bytes sci an (newly_delivered (closing run) input)) d →
+      HasStrictOrder (closing run).secy
+  pub creates : CreatesAbove (closing run).secy (keeping_step (closing run) input).1.secy bytes sci an
+      (delivered_in run bytes sci an)
 
 -- a journal has saved all of these deliveries
 abbrev pub SavedIn : List ℕ → List ℕ → Sci → ℕ → List Delivery → Type 0
 SavedIn journal bytes sci an ds =
-    All (λ d. d.number ≤ highest (reservations journal) (receiving_name (sending_name (salt_of journal) bytes) sci an)) ds
+    let name = receiving_name (sending_name (salt_of journal) bytes) sci an in
+    All (λ d. d.number ≤ highest (reservations journal) name) ds
 
--- a run begins only with a journal that has saved what was delivered so far. After a crash that loses the last save this is
--- false, and recorded frames since that save are accepted again
+-- a run begins only with a journal that has saved what was delivered so far. After a crash that loses the last save
+-- this is false, and recorded frames since that save are accepted again
 abbrev pub IsOrderedAt : End → List ℕ → Sci → ℕ → List Happening → Happening → Type 0
-IsOrderedAt e bytes sci an before (begins f config journal) = same_end e f ≡ true → SavedIn journal bytes sci an (delivered_so_far e bytes sci an before)
+IsOrderedAt e bytes sci an before (begins f config journal) =
+    same_end e f ≡ true → SavedIn journal bytes sci an (delivered_so_far e bytes sci an before)
 IsOrderedAt e bytes sci an before (comes_in f input) =
     same_end e f ≡ true → IfSome (last_run (runs_of e before)) (λ run. IsOrderedInput run bytes sci an input)
 
-pub record IsOrderly (e : End) (bytes : List ℕ) (sci : Sci) (an : ℕ) (before : List Happening) (h : Happening) : Type 0 where
+pub record IsOrderly (e : End) (bytes : List ℕ) (sci : Sci) (an : ℕ) (before : List Happening)
+    (h : Happening) : Type 0 where
   pub genuine : IsGenuineAt before h
   pub octets : HasOctets h
   pub ordered : IsOrderedAt e bytes sci an before h

@@ -1,10 +1,10 @@
 -- The premises on two ends over all their runs.
 --
 -- They are the only two members that have the keys. A third member of the connectivity association (CA) breaks the
--- premise that no ICV is forged: its frames open, and neither end sealed them. Each end has one journal, and each of its
--- runs begins beside it: a run of the same SCI and key without the journal, or before the list of happenings, is in no
--- law. Runs of one end come one after another: one endpoint at a time.
-use Rattle.std.specs.Prelude.{◌≡◌, ℕ, List, ◌++◌, take, slice_get, true, IfSome, Contains}
+-- premise that no ICV is forged: its frames open, and neither end sealed them. Each end has one journal, and each of
+-- its runs begins beside it: a run of the same SCI and key without the journal, or before the list of happenings, is in
+-- no law. Runs of one end come one after another: one endpoint at a time.
+use Rattle.std.specs.Prelude.{◌≡◌, List, ◌++◌, true, IfSome, Contains}
 use Rattle.std.specs.List.{All, AllPairs}
 use Rattle.macsec_tag.specs.Laws.{AreOctets}
 use Rattle.macsec_suite.specs.KeyRows.{InstalledKey}
@@ -25,9 +25,6 @@ IsGenuineAt before (comes_in e (endpoint_input (link_frame frame))) =
     (Contains (sealed_in_all (runs_of A before) ++ sealed_in_all (runs_of B before))))
 IsGenuineAt before other = Unit {0}
 
-abbrev pub IsGenuine : List Happening → Type 0
-IsGenuine events = (k : ℕ) → IfSome (slice_get events k) (IsGenuineAt (take k events))
-
 -- a link frame is octets, as any caller passes
 abbrev pub HasOctets : Happening → Type 0
 HasOctets (comes_in e (endpoint_input (link_frame frame))) = AreOctets frame
@@ -40,13 +37,13 @@ HasOctets other = Unit {0}
 pub record IsSameEnd (run later : Run) : Type 0 where
   -- the SCI is in the configuration, the own SSCI in each key
   pub sci : run.config.sci ≡ later.config.sci
-  pub ssci : (x y : InstalledKey) → Contains (closing run).secy.keys x → Contains (closing later).secy.keys y → x.bytes ≡ y.bytes →
-      is_xpn x.suite ≡ true → x.ssci ≡ y.ssci
+  pub ssci : (x y : InstalledKey) → Contains (closing run).secy.keys x → Contains (closing later).secy.keys y →
+      x.bytes ≡ y.bytes → is_xpn x.suite ≡ true → x.ssci ≡ y.ssci
 
--- each end has one history: its endpoint is sound at each moment, keys with the same octets agree, and each run reads in
--- the journal what was reported durable before. The journal may be shortened to the highest record of each name, and
--- crashes may leave any octets in it. Keys with the same octets agree at both ends too. The ends' SCIs and own SSCIs need
--- not differ: an endpoint has no receive SC of its own SCI and, under an XPN suite, no receive SA of its own SSCI
+-- each end has one history: its endpoint is sound at each moment, keys with the same octets agree, and each run reads
+-- in the journal what was reported durable before. The journal may be shortened to the highest record of each name, and
+-- crashes may leave any octets in it. Keys with the same octets agree at both ends too. The ends' SCIs and own SSCIs
+-- need not differ: an endpoint has no receive SC of its own SCI and, under an XPN suite, no receive SA of its own SSCI
 pub record ArePeers (events : List Happening) : Type 0 where
   -- in all runs of each end
   pub a : IsHistory (runs_of A events)

@@ -1,6 +1,6 @@
 -- Several runs of an endpoint that renews keys: a new key may take the row of a retired one, and the octets of retired
 -- keys are forgotten. So a run may have more keys than its table has rows. Each run begins beside a journal.
-use Rattle.std.specs.Prelude.{◌≡◌, ◌<◌, ◌≤◌, ℕ, List, [], ◌∷◌, ◌++◌, map, take, true, Contains}
+use Rattle.std.specs.Prelude.{◌≡◌, ◌<◌, ◌≤◌, ℕ, List, [], ◌∷◌, ◌++◌, map, take, true, false, Contains}
 use Rattle.std.specs.List.{All, AllPairs}
 use Rattle.macsec_suite.specs.CipherUses.{CipherUse}
 use Rattle.macsec_suite.specs.KeyRows.{InstalledKey}
@@ -15,7 +15,7 @@ use Rattle.macsec_reserve.specs.Keeping.{Keeping, KeepingInput, endpoint_input, 
 use Rattle.macsec_reserve.specs.Renewing.{forgetting_refusal}
 use Rattle.macsec_reserve.specs.RenewingRuns.{StaysSoundRenewing, renewing_after, renewing_step, sealed_renewing}
 use Rattle.macsec_reserve.specs.Unique.{HasOtherIv}
-use Rattle.macsec_ahead.specs.Ahead.{Ahead, AheadOutput, ahead_step, kept, opening_with}
+use Rattle.macsec_ahead.specs.Ahead.{Ahead, AheadOutput, ahead_step, kept, lets_through, opening_with}
 use Rattle.macsec_ahead.specs.Renewing.{ahead_after_renewing, command_renewing}
 use Rattle.macsec_restarts.specs.AheadRuns.{AreOfOneSa, delivery_name, newly_accepted}
 use Rattle.macsec_restarts.specs.Delivered.{Delivery}
@@ -86,6 +86,16 @@ ahead_renewing_step a (endpoint_input (operator_command (Key key))) =
     (kept (endpoint_output (command_output (forgetting_refusal a.k key))), ahead_after_renewing a key)
 ahead_renewing_step a (endpoint_input (operator_command c)) = command_renewing a c
 ahead_renewing_step a input = ahead_step a input
+
+-- the output, and the keeping endpoint after it, are what the keeping endpoint's renewing step gives
+pub record TakesTheRenewingStep (a : Ahead) (input : KeepingInput) : Type 0 where
+  pub output : (ahead_renewing_step a input).0 ≡ kept (renewing_step a.k input).0
+  pub after : (ahead_renewing_step a input).1.k ≡ (renewing_step a.k input).1
+
+-- it takes that step, or nothing changes
+pub record StepsRenewing (a : Ahead) (input : KeepingInput) : Type 0 where
+  pub takes : lets_through a input ≡ true → TakesTheRenewingStep a input
+  pub stays : lets_through a input ≡ false → (ahead_renewing_step a input).1 ≡ a
 
 abbrev pub ahead_renewing_after : Ahead → List KeepingInput → Ahead
 ahead_renewing_after a [] = a

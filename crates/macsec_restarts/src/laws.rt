@@ -13,25 +13,15 @@ ghost use Rattle.macsec_journal.specs.World.{Event, Form};
 ghost use Rattle.macsec_restarts.specs.Acceptance.{AcceptsInTime};
 ghost use Rattle.macsec_rx.specs.declared.within.RxPn.{RxPn};
 ghost use Rattle.macsec_ahead.specs.Ahead.{Ahead};
-ghost use Rattle.macsec_restarts.specs.AheadForgetting.{AcceptsAboveForgettingInAll, AcceptsReservedForgetting};
-ghost use Rattle.macsec_restarts.specs.AheadForgetting.{AheadForgetsAlike, StaysSoundInside, StepsForgetting};
-ghost use Rattle.macsec_restarts.specs.AheadOrder.{ComesInOrderOnceWith};
-ghost use Rattle.macsec_restarts.specs.AheadRuns.{AcceptsAboveInAll, AcceptsReserved, DeliversEachListedWith};
-ghost use Rattle.macsec_restarts.specs.AheadSteps.{AsksWhereDropped, IsAsBefore, IsKeepingInside, KeepsEnds};
-ghost use Rattle.macsec_restarts.specs.AheadSteps.{PassesOnceReserved, RefusesBelowEnd, RemembersEnd, StepsInside};
-ghost use Rattle.macsec_restarts.specs.AheadSteps.{WantsEnough};
-ghost use Rattle.macsec_restarts.specs.Delivered.{DeliversEachListed, DeliversFromSas};
-ghost use Rattle.macsec_restarts.specs.ForgettingOrder.{ComesInOrderOnceForgetting};
+ghost use Rattle.macsec_restarts.specs.AheadForgetting.{StepsForgetting};
+ghost use Rattle.macsec_restarts.specs.AheadSteps.{AsksWhereDropped, IsAsBefore, PassesOnceReserved};
+ghost use Rattle.macsec_restarts.specs.AheadSteps.{StepsInside, WantsEnough};
 ghost use Rattle.macsec_restarts.specs.Happenings.{Happening};
-ghost use Rattle.macsec_restarts.specs.OnDisk.{RisesOnDisk, RisesOnDiskRenewing};
+ghost use Rattle.macsec_restarts.specs.OnDisk.{RisesOnDiskRenewing};
+ghost use Rattle.macsec_restarts.specs.OnDiskOrder.{ComesInOrderOnDisk, HasTheRuns, JournalHistory, KeepsUsedInAll};
+ghost use Rattle.macsec_restarts.specs.OnDiskOrder.{NoIvAtBothOnDisk, NoIvOnDisk, TwoJournals};
 ghost use Rattle.macsec_restarts.specs.Order.{ComesInOrderOnce};
-ghost use Rattle.macsec_restarts.specs.Origin.{AlwaysComesFromOther, ComesFromOther};
-ghost use Rattle.macsec_restarts.specs.Sent.{ListsEachUse, NumbersRise, SealsEachFrame};
-ghost use Rattle.macsec_restarts.specs.ForgettingEnds.{KeepsEndsForgetting, NeverDeliversAgainUnderWith};
-ghost use Rattle.macsec_restarts.specs.ForgettingEnds.{NeverDeliversAgainWith, RefusesBelowEndForgetting};
-ghost use Rattle.macsec_restarts.specs.ForgettingEnds.{RemembersEndForgetting};
-ghost use Rattle.macsec_restarts.specs.Kept.{ComesInOrderIfKept, ComesInOrderIfRead, IsWeakerToDeliver, IsWeakerToSend};
-ghost use Rattle.macsec_restarts.specs.Kept.{PeersAtEach, RunWith};
+ghost use Rattle.macsec_restarts.specs.Kept.{RunWith};
 ghost use Rattle.macsec_restarts.specs.RenewingOrder.{ComesFromOtherRenewing, ComesInOrderIfKeptRenewing};
 ghost use Rattle.macsec_restarts.specs.RenewingOrder.{ComesInOrderIfReadRenewing, IsWeakerToDeliverWith};
 ghost use Rattle.macsec_restarts.specs.RenewingOrder.{IsWeakerToSendWith, NoIvAtBothRenewing, PeersAtEachRenewing};
@@ -40,66 +30,22 @@ ghost use Rattle.macsec_restarts.specs.RenewingEnds.{NeverDeliversAgainRenewing,
 ghost use Rattle.macsec_restarts.specs.RenewingEnds.{RefusesBelowEndRenewing, RemembersEndRenewing};
 ghost use Rattle.macsec_restarts.specs.RenewingLists.{DeliversEachListedRenewing, DeliversFromSasRenewing};
 ghost use Rattle.macsec_restarts.specs.RenewingLists.{SealsEachFrameRenewing};
+ghost use Rattle.macsec_restarts.specs.RenewingOutputs.{DeliversFromSasWhatIsListed, DeliversWhatIsListed};
+ghost use Rattle.macsec_restarts.specs.RenewingOutputs.{SendsWhatIsListed};
 ghost use Rattle.macsec_restarts.specs.RenewingRuns.{AcceptsAboveIfKeptWith, IsWeakerToAcceptWith, IsWeakerWith};
 ghost use Rattle.macsec_restarts.specs.RenewingRuns.{NoIvIfUsedIsKeptRenewing, NoIvIfUsedIsKeptWith};
 ghost use Rattle.macsec_restarts.specs.RenewingRuns.{RisesIfUsedIsKeptRenewing, RisesIfUsedIsKeptWith};
-ghost use Rattle.macsec_restarts.specs.StrictLists.{DeliversEachListedForgetting, DeliversFromSasForgetting};
-ghost use Rattle.macsec_restarts.specs.StrictLists.{DeliversFromSasWith};
-ghost use Rattle.macsec_restarts.specs.Used.{AcceptsAboveIfKept, ComesFromOtherAtAll, ComesFromOtherForgetting};
-ghost use Rattle.macsec_restarts.specs.Used.{IsWeaker, IsWeakerToAccept, NoIvAtBothForgetting, NumbersRiseForgetting};
-ghost use Rattle.macsec_restarts.specs.Used.{RisesIfUsedIsKept, NoIvIfUsedIsKept, NoIvIfUsedIsKeptForgetting};
+ghost use Rattle.macsec_restarts.specs.RenewingRuns.{StepsRenewing};
+ghost use Rattle.macsec_restarts.specs.Sent.{ListsEachUse};
 
 use macsec_journal::laws::keeps_history;
 use macsec_reserve::laws::{
-    delivers_above, forgets_alike, refuses_forgotten_keys, renewing_gives_up_octets,
-    renews_keys_safely, repeats_no_iv_at_both, saves_accepted,
+    delivers_above, refuses_forgotten_keys, renewing_gives_up_octets, renews_keys_safely,
+    saves_accepted,
 };
 use macsec_secy::laws::{accepts_sent, delivers_in_time, keys_stay, protects_frames, rx_rows_stay};
 use macsec_suite::laws::equal_ivs;
 use macsec_tag::laws::reads_by_grammar;
-
-/// Each protected frame that leaves is one use of the cipher, and has its octets; no other output seals anything
-/// (`leaves`). The list of what was sent has one entry for each use, with that use (`listed`).
-pub fn seals_each_frame()
-    ensures leaves { (k : Keeping) (input : KeepingInput) → SealsEachFrame k input }
-    ensures listed { (k : Keeping) (input : KeepingInput) → ListsEachUse k input }
-{}
-
-/// The list of what was delivered has one entry for each client frame that comes out from a receive SA, and no other
-/// output adds to it (`listed`). In the mode Strict no frame is delivered at the controlled port without an SA
-/// (`strict`).
-pub fn lists_each_delivery()
-    ensures listed { (k : Keeping) (input : KeepingInput) → DeliversEachListed k input }
-    ensures strict { (k : Keeping) (input : KeepingInput) → DeliversFromSas k input }
-{}
-
-/// The packet numbers that an end uses under the octets of a key rise over all its runs.
-pub fn numbers_rise()
-    ensures { (runs : List Run) → NumbersRise runs }
-{
-    // Laws that the proof cites; the calls do nothing.
-    equal_ivs();
-    keys_stay();
-    rx_rows_stay();
-    protects_frames();
-    delivers_in_time();
-}
-
-/// Origin: what a strictly validating end delivers from a receive SA was sent before by the other end, in one of its
-/// runs. It holds now, after all that happened (`now`), and at each moment of a list of happenings (`always`).
-/// Premises: no ICV is forged, link frames are octets, and the two ends are peers (`ArePeers`).
-pub fn comes_from_other()
-    ensures now { (before : List Happening) → ComesFromOther before }
-    ensures always { (events : List Happening) → AlwaysComesFromOther events }
-{
-    // Laws that the proof cites; the calls do nothing.
-    reads_by_grammar();
-    equal_ivs();
-    keys_stay();
-    rx_rows_stay();
-    protects_frames();
-    delivers_in_time();
-}
 
 /// Order, and each frame at most once: at each moment, what was delivered over all runs under the octets of a key, from
 /// one SCI and association number, is with its packet numbers a subsequence of what the other end sent under them.
@@ -131,28 +77,14 @@ pub fn accepts_in_time()
 }
 
 /// An endpoint that can reserve ahead of receiving takes each step of the keeping endpoint inside, or nothing changes
-/// (`step`), so a run of it is a run of the keeping endpoint to which the same was reported (`run`). Without the option
-/// it differs only where a command creates an SA again at a packet number which the run may have accepted (`before`).
+/// (`step`). Without the option it differs only where a command creates an SA again at a packet number which the run
+/// may have accepted (`before`). If it forgets retired keys, or renews keys, it takes the steps of the keeping endpoint
+/// that does so (`forgetting`, `renewing`). A frame or a report takes the same step in all three.
 pub fn is_keeping_inside()
     ensures step { (a : Ahead) (input : KeepingInput) → StepsInside a input }
-    ensures run { (ahead : Bool) (run : Run) → IsKeepingInside ahead run }
     ensures before { (a : Ahead) (input : Input) → IsAsBefore a input }
-{}
-
-/// The list of what such an endpoint delivered has one entry for each client frame that comes out from a receive SA,
-/// and no other output adds to it.
-pub fn lists_each_delivery_ahead()
-    ensures { (a : Ahead) (input : KeepingInput) → DeliversEachListedWith a input }
-{}
-
-/// With the option, a run accepts only packet numbers above what its journal reserved when it began, and at most what
-/// was reported durable to it (`reserved`). This holds whatever comes in, and whatever the modes, the replay protection
-/// and the windows are. So what a later run accepts from an SA has a higher packet number than all that an earlier run
-/// accepted from it (`later`). Premises of `later`: every later run reads the same salt of the journal, and what was
-/// reported durable; and every run has the option.
-pub fn accepts_above()
-    ensures reserved { (run : Run) → AcceptsReserved run }
-    ensures later { (runs : List Run) → AcceptsAboveInAll runs }
+    ensures forgetting { (a : Ahead) (input : KeepingInput) → StepsForgetting a input }
+    ensures renewing { (a : Ahead) (input : KeepingInput) → StepsRenewing a input }
 {}
 
 /// A frame that was dropped because its packet number was not reserved asks for a record (`asks`). Such a record
@@ -166,235 +98,6 @@ pub fn accepts_once_reserved()
 {
     // The law that the proof cites; the call does nothing.
     delivers_in_time();
-}
-
-/// Where a run deletes a receive SA, its end is remembered (`remembers`) for the rest of the run, or until its key is
-/// retired (`keeps`): at that end or below it the SA is not created again under the same key (`refuses`).
-pub fn begins_above_its_end()
-    ensures remembers { (a : Ahead) (input : KeepingInput) (row : RxRow) → RemembersEnd a input row }
-    ensures keeps { (a : Ahead) (inputs : List KeepingInput) (key : ℕ) (sci : Sci) (an : ℕ) →
-        KeepsEnds a inputs key sci an }
-    ensures refuses { (a : Ahead) (sci : Sci) (an key ssci lowest : ℕ) → RefusesBelowEnd a sci an key ssci lowest }
-{}
-
-/// Order, and each frame at most once, of an end whose endpoint can reserve ahead of receiving. No premise is about the
-/// commands that create SAs. Premises: the premises of origin hold for the keeping endpoints inside; whenever the end
-/// delivers from the SA, it validates strictly and drops late frames at a window of 0; and without the option, whenever
-/// one of its runs begins, its journal has saved all packet numbers that were delivered so far.
-pub fn comes_in_order_once_ahead()
-    ensures { (ahead : End → Bool) (events : List Happening) → ComesInOrderOnceWith ahead events }
-{
-    // Laws that the proof cites; the calls do nothing.
-    reads_by_grammar();
-    equal_ivs();
-    keys_stay();
-    rx_rows_stay();
-    protects_frames();
-    delivers_in_time();
-    delivers_above();
-}
-
-// ---- endpoints that forget the keys that they retire, as the library for C makes them
-
-/// Each input takes the step of the keeping endpoint that forgets retired keys, or nothing changes (`inside`). Over a
-/// whole run the endpoint gives the same answers as one that forgets none and is not given the octets of retired keys
-/// again. It sends, delivers and accepts the same. The same is reserved ahead of receiving, and the same ends of SAs
-/// are remembered (`alike`). A new SA under a retired key is refused by both, with `KeyRetired` or with `PnFloor`. The
-/// keeping endpoint inside the one that forgets none stays sound (`sound`).
-pub fn forgets_alike_ahead()
-    ensures inside { (a : Ahead) (input : KeepingInput) → StepsForgetting a input }
-    ensures alike { (ahead : Bool) (run : Run) → AheadForgetsAlike ahead run }
-    ensures sound { (ahead : Bool) (run : Run) → StaysSoundInside ahead run }
-{
-    // The law that the proof cites; the call does nothing.
-    forgets_alike();
-}
-
-/// `accepts_above` for endpoints that forget retired keys.
-pub fn accepts_above_forgetting()
-    ensures reserved { (run : Run) → AcceptsReservedForgetting run }
-    ensures later { (runs : List Run) → AcceptsAboveForgettingInAll runs }
-{}
-
-/// `comes_in_order_once_ahead` for ends whose endpoints forget retired keys. Premises: these endpoints are sound at
-/// each moment; and the premises of `comes_in_order_once_ahead` hold for endpoints that forget none and are not given
-/// the octets of retired keys again.
-pub fn comes_in_order_once_forgetting()
-    ensures { (ahead : End → Bool) (events : List Happening) → ComesInOrderOnceForgetting ahead events }
-{
-    // Laws that the proof cites; the calls do nothing.
-    reads_by_grammar();
-    equal_ivs();
-    keys_stay();
-    rx_rows_stay();
-    protects_frames();
-    delivers_in_time();
-    delivers_above();
-    forgets_alike();
-}
-
-/// `numbers_rise`, if each later run reads what was used before, under the names under which it sends (`kept`). This
-/// asks less than `numbers_rise` (`weaker`).
-pub fn numbers_rise_if_used_is_kept()
-    ensures kept { (runs : List Run) → RisesIfUsedIsKept runs }
-    ensures weaker { (run later : Run) → IsWeaker run later }
-{
-    // Laws that the proof cites; the calls do nothing.
-    equal_ivs();
-    keys_stay();
-    rx_rows_stay();
-    protects_frames();
-    delivers_in_time();
-}
-
-/// `numbers_rise` for ends whose endpoints forget retired keys.
-pub fn numbers_rise_forgetting()
-    ensures { (ahead : Bool) (runs : List Run) → NumbersRiseForgetting ahead runs }
-{
-    // Laws that the proof cites; the calls do nothing.
-    equal_ivs();
-    keys_stay();
-    rx_rows_stay();
-    protects_frames();
-    delivers_in_time();
-    forgets_alike();
-}
-
-/// No IV at both ends, for ends whose endpoints forget retired keys.
-pub fn no_iv_at_both_forgetting()
-    ensures { (ahead other : Bool) (runs others : List Run) → NoIvAtBothForgetting ahead other runs others }
-{
-    // Laws that the proof cites; the calls do nothing.
-    repeats_no_iv_at_both();
-    forgets_alike();
-}
-
-/// Origin, whatever the journals are: `comes_from_other` without a premise on what later runs read.
-pub fn comes_from_other_at_all()
-    ensures { (before : List Happening) → ComesFromOtherAtAll before }
-{
-    // Laws that the proof cites; the calls do nothing.
-    reads_by_grammar();
-    equal_ivs();
-    keys_stay();
-    rx_rows_stay();
-    protects_frames();
-    delivers_in_time();
-}
-
-/// No IV twice, if each later run reads what was used before, under the names under which it sends (`kept`); also where
-/// retired keys are forgotten, with `ahead` and without it (`forgetting`).
-pub fn no_iv_if_used_is_kept()
-    ensures kept { (runs : List Run) → NoIvIfUsedIsKept runs }
-    ensures forgetting { (ahead : Bool) (runs : List Run) → NoIvIfUsedIsKeptForgetting ahead runs }
-{
-    // Laws that the proof cites; the calls do nothing.
-    equal_ivs();
-    keys_stay();
-    rx_rows_stay();
-    protects_frames();
-    delivers_in_time();
-    forgets_alike();
-}
-
-/// `accepts_above_forgetting`, if each later run reads what was accepted before, of the SAs from which it accepts
-/// (`kept`). This asks less (`weaker`).
-pub fn accepts_above_if_kept()
-    ensures kept { (runs : List Run) → AcceptsAboveIfKept runs }
-    ensures weaker { (run later : Run) → IsWeakerToAccept run later }
-{}
-
-/// Origin, for ends whose endpoints forget retired keys: each frame that an end delivered on an SA was sent by the
-/// other end, under the same key octets and with the same packet number.
-pub fn comes_from_other_forgetting()
-    ensures { (ahead : End → Bool) (events : List Happening) → ComesFromOtherForgetting ahead events }
-{
-    // Laws that the proof cites; the calls do nothing.
-    reads_by_grammar();
-    equal_ivs();
-    keys_stay();
-    rx_rows_stay();
-    protects_frames();
-    delivers_in_time();
-    forgets_alike();
-}
-
-/// `comes_in_order_once_forgetting` with weaker premises on journals (`kept`): each later run of the receiver reads
-/// what was delivered before from the SA, if it delivers from it, and each later run of the sender reads what was sent
-/// before under the key octets, if it sends under them. What was reported durable need not be read; but it suffices
-/// (`sends`, `delivers`), for any two runs, of the receiver if the earlier one had the option (`read`). Nothing is
-/// asked of other names, so a journal may lose the names of keys that do not come again, and an endpoint that takes
-/// over may begin below what the one before it had reserved. Each run has the option to reserve ahead of receiving, or
-/// it does not. No ICV is forged, there is strict order, and the ends are peers so far, wherever the end delivers from
-/// the SA; for the last of these it is enough that they are peers in the end (`peers`).
-pub fn comes_in_order_if_kept()
-    ensures kept { (ahead : End → ℕ → Bool) (events : List Happening) → ComesInOrderIfKept ahead events }
-    ensures read { (ahead : End → ℕ → Bool) (events : List Happening) → ComesInOrderIfRead ahead events }
-    ensures sends { (bytes : List ℕ) (r later : RunWith) → IsWeakerToSend bytes r later }
-    ensures delivers { (bytes : List ℕ) (sci : Sci) (an : ℕ) (r later : RunWith) →
-        IsWeakerToDeliver bytes sci an r later }
-    ensures peers { (ahead : End → ℕ → Bool) (events : List Happening) → PeersAtEach ahead events }
-{
-    // Laws that the proof cites; the calls do nothing.
-    reads_by_grammar();
-    equal_ivs();
-    keys_stay();
-    rx_rows_stay();
-    protects_frames();
-    delivers_in_time();
-    delivers_above();
-    forgets_alike();
-}
-
-/// `begins_above_its_end` for endpoints that forget retired keys.
-pub fn begins_above_its_end_forgetting()
-    ensures remembers { (a : Ahead) (input : KeepingInput) (row : RxRow) → RemembersEndForgetting a input row }
-    ensures keeps { (a : Ahead) (inputs : List KeepingInput) (key : ℕ) (sci : Sci) (an : ℕ) →
-        KeepsEndsForgetting a inputs key sci an }
-    ensures refuses { (a : Ahead) (sci : Sci) (an key ssci lowest : ℕ) →
-        RefusesBelowEndForgetting a sci an key ssci lowest }
-{}
-
-/// What a run accepted before it saved the SA's number, at replay window 0, is not delivered again by a later run that
-/// drops late frames. This is `macsec_reserve::laws::never_delivers_again` for endpoints that can reserve ahead of
-/// receiving, those that forget retired keys (`forgets`) and those that forget none, each run with the option or
-/// without it. It holds for an SA of that name (`named`) or, if the journal keeps its salt, of those key octets
-/// (`keyed`). The later run need only read what was reported durable under this one name.
-pub fn never_delivers_again_with()
-    ensures named { (forgets ahead other : Bool) (run later : Run) (name : List ℕ) (n : ℕ) →
-        NeverDeliversAgainWith forgets ahead other run later name n }
-    ensures keyed { (forgets ahead other : Bool) (run later : Run) (bytes : List ℕ) (sci : Sci) (an n : ℕ) →
-        NeverDeliversAgainUnderWith forgets ahead other run later bytes sci an n }
-{
-    // Laws that the proof cites; the calls do nothing.
-    equal_ivs();
-    keys_stay();
-    rx_rows_stay();
-    protects_frames();
-    delivers_in_time();
-    delivers_above();
-    saves_accepted();
-    forgets_alike();
-}
-
-/// `lists_each_delivery_ahead` for endpoints that forget retired keys (`listed`). In the mode Strict no frame is
-/// delivered at the controlled port without an SA, by such an endpoint (`strict`) and by one that forgets none
-/// (`strict_ahead`).
-pub fn lists_each_delivery_forgetting()
-    ensures listed { (a : Ahead) (input : KeepingInput) → DeliversEachListedForgetting a input }
-    ensures strict { (a : Ahead) (input : KeepingInput) → DeliversFromSasForgetting a input }
-    ensures strict_ahead { (a : Ahead) (input : KeepingInput) → DeliversFromSasWith a input }
-{}
-
-/// Over a journal on a disk that fails (`macsec_journal`), a later run sends under a key, and accepts from a receive
-/// SA, only higher packet numbers than an earlier run did, if the name of the key or of the SA was not let go between
-/// them. No other name matters. The sender is the `Keeper`, which forgets no key; the receiver forgets retired keys,
-/// and both runs reserve ahead of receiving.
-pub fn rises_on_disk()
-    ensures { (form : Form) (salt : List ℕ) (events : List Event) → RisesOnDisk form salt events }
-{
-    // The law that the proof cites; the call does nothing.
-    keeps_history();
 }
 
 // ---- endpoints that renew keys: a new key may take the row of a retired one, and retired keys are forgotten
@@ -445,8 +148,9 @@ pub fn accepts_above_if_kept_renewing()
     ensures weaker { (run later : RunWith) → IsWeakerToAcceptWith run later }
 {}
 
-/// `rises_on_disk` for endpoints that renew keys. Each run reserves ahead of receiving or not; for what is accepted
-/// both do.
+/// Over a journal on a disk that fails (`macsec_journal`), a later run sends under a key, and accepts from a receive
+/// SA, only higher packet numbers than an earlier run did, if the name of the key or of the SA was not let go between
+/// them. No other name matters. Each run reserves ahead of receiving or not; for what is accepted both do.
 pub fn rises_on_disk_renewing()
     ensures { (form : Form) (salt : List ℕ) (events : List Event) → RisesOnDiskRenewing form salt events }
 {
@@ -487,13 +191,15 @@ pub fn comes_from_other_renewing()
     renews_keys_safely();
 }
 
-/// `comes_in_order_if_kept` for endpoints that renew keys: at each moment, what an end delivered over all runs under
-/// the octets of a key, from one SCI and association number, is with its packet numbers a subsequence of what the other
-/// end sent under them. Premises: those of `comes_from_other_renewing`, and strict order, wherever the end delivers
-/// from this SA; and each later run reads what was delivered before from the SA, if it delivers from it, and what was
-/// sent before under the key octets, if it sends under them (`kept`). What was reported durable need not be read; but
-/// it suffices (`sends`, `delivers`), for any two runs, of the receiver if the earlier one had the option (`read`).
-/// Other names may be lost. It is enough that the ends are peers in the end (`peers`).
+/// Order, and each frame at most once, of endpoints that renew keys: at each moment, what an end delivered over all
+/// runs under the octets of a key, from one SCI and association number, is with its packet numbers a subsequence of
+/// what the other end sent under them. Premises: those of `comes_from_other_renewing`, and strict order, wherever the
+/// end delivers from this SA; and each later run reads what was delivered before from the SA, if it delivers from it,
+/// and what was sent before under the key octets, if it sends under them (`kept`). What was reported durable need not
+/// be read; but it suffices (`sends`, `delivers`), for any two runs, of the receiver if the earlier one had the option
+/// (`read`). Nothing is asked of other names. So a journal may lose the names of keys that do not come again, and an
+/// endpoint that takes over may begin below what the one before it had reserved. It is enough that the ends are peers
+/// in the end (`peers`).
 pub fn comes_in_order_if_kept_renewing()
     ensures kept { (ahead : End → ℕ → Bool) (events : List Happening) → ComesInOrderIfKeptRenewing ahead events }
     ensures read { (ahead : End → ℕ → Bool) (events : List Happening) → ComesInOrderIfReadRenewing ahead events }
@@ -514,24 +220,24 @@ pub fn comes_in_order_if_kept_renewing()
     renews_keys_safely();
 }
 
-/// `lists_each_delivery` for endpoints that renew keys: the list of deliveries has one entry for each client frame that
-/// comes out from a receive SA (`listed`), and in the mode Strict no frame is delivered at the controlled port without
-/// an SA (`strict`).
+/// The list of what an endpoint that renews keys delivered has one entry for each client frame that comes out from a
+/// receive SA, and no other output adds to it (`listed`). In the mode Strict no frame is delivered at the controlled
+/// port without an SA (`strict`).
 pub fn lists_each_delivery_renewing()
     ensures listed { (a : Ahead) (input : KeepingInput) → DeliversEachListedRenewing a input }
     ensures strict { (a : Ahead) (input : KeepingInput) → DeliversFromSasRenewing a input }
 {}
 
-/// `seals_each_frame` for endpoints that renew keys: each protected frame that leaves is one use of the cipher, and has
-/// its octets. No other output seals anything.
+/// Each protected frame that leaves an endpoint that renews keys is one use of the cipher, and has its octets. No other
+/// output seals anything (`leaves`). The list of what was sent has one entry for each use, with that use (`listed`).
 pub fn seals_each_frame_renewing()
-    ensures { (a : Ahead) (input : KeepingInput) → SealsEachFrameRenewing a input }
+    ensures leaves { (a : Ahead) (input : KeepingInput) → SealsEachFrameRenewing a input }
+    ensures listed { (k : Keeping) (input : KeepingInput) → ListsEachUse k input }
 {}
 
-/// `begins_above_its_end` for endpoints that renew keys. Where a step deletes an SA, its end is remembered
-/// (`remembers`) for the rest of the run, or until its key is given up (`keeps`): at that end or below it the SA is not
-/// created under the key (`refuses`). So it begins above its end (`begins`), unless the key was given up: then a new
-/// key may have the number.
+/// Where a step of an endpoint that renews keys deletes a receive SA, its end is remembered (`remembers`) for the rest
+/// of the run, or until its key is given up (`keeps`): at that end or below it the SA is not created under the key
+/// (`refuses`). So it begins above its end (`begins`), unless the key was given up: then a new key may have the number.
 pub fn begins_above_its_end_renewing()
     ensures remembers { (a : Ahead) (input : KeepingInput) (row : RxRow) → RemembersEndRenewing a input row }
     ensures keeps { (a : Ahead) (inputs : List KeepingInput) (key : ℕ) (sci : Sci) (an : ℕ) →
@@ -554,4 +260,79 @@ pub fn never_delivers_again_renewing()
     // Laws that the proof cites; the calls do nothing.
     delivers_in_time();
     saves_accepted();
+}
+
+/// What a whole run gives out, of endpoints that renew keys. Its protected frames are those of the uses that are listed
+/// as sent, each once and in their order: additional data, ciphertext and tag of the use (`sent`). The client frames
+/// that it delivers from SAs are those that are listed as delivered, each once and in their order (`from_sas`). If the
+/// mode is always Strict, it delivers no others at the controlled port (`strict`).
+pub fn gives_out_what_is_listed()
+    ensures sent { (r : RunWith) → SendsWhatIsListed r }
+    ensures from_sas { (r : RunWith) → DeliversFromSasWhatIsListed r }
+    ensures strict { (r : RunWith) → DeliversWhatIsListed r }
+{}
+
+// ---- over the journal of `macsec_journal`, on a disk that fails: no premise is about what a later run reads
+
+/// Over a journal on a disk that fails, each later run reads what earlier runs sent and accepted, under each name that
+/// was not let go between the beginnings of the two runs: the premises on journals of
+/// `no_iv_if_used_is_kept_renewing`, `accepts_above_if_kept_renewing` and `comes_in_order_if_kept_renewing`. For what
+/// is accepted the earlier run reserved ahead of receiving. Each run has this option, or it does not.
+pub fn keeps_used_on_disk()
+    ensures { (ahead : ℕ → Bool) (journal : JournalHistory) → KeepsUsedInAll ahead journal }
+{
+    // The law that the proof cites; the call does nothing.
+    keeps_history();
+}
+
+/// `no_iv_if_used_is_kept_renewing` for the runs over such a journal. In place of what a later run reads, the premise
+/// is that no name was let go between two runs that both send under its key.
+pub fn no_iv_on_disk()
+    ensures { (ahead : ℕ → Bool) (journal : JournalHistory) → NoIvOnDisk ahead journal }
+{
+    // Laws that the proof cites; the calls do nothing.
+    equal_ivs();
+    keys_stay();
+    rx_rows_stay();
+    protects_frames();
+    delivers_in_time();
+    renews_keys_safely();
+    keeps_history();
+}
+
+/// `no_iv_at_both_renewing` for the runs of two ends, over such a journal at each.
+pub fn no_iv_at_both_on_disk()
+    ensures { (ahead other : ℕ → Bool) (journal theirs : JournalHistory) →
+        NoIvAtBothOnDisk ahead other journal theirs }
+{
+    // Laws that the proof cites; the calls do nothing.
+    equal_ivs();
+    keys_stay();
+    rx_rows_stay();
+    protects_frames();
+    delivers_in_time();
+    renews_keys_safely();
+    keeps_history();
+}
+
+/// `comes_in_order_if_kept_renewing` for two ends, over such a journal at each, whatever happens to both in one order
+/// of time (`order`). The runs of each end are those that were begun over its journal (`runs`). In place of what a
+/// later run reads, the premises are that no name was let go between two runs of the sender that both send under the
+/// key, nor between two runs of the receiver that both deliver from the SA, and that the earlier one of the receiver
+/// reserved ahead of receiving.
+pub fn comes_in_order_on_disk()
+    ensures runs { (two : TwoJournals) (e : End) → HasTheRuns two e }
+    ensures order { (ahead : End → ℕ → Bool) (two : TwoJournals) → ComesInOrderOnDisk ahead two }
+{
+    // Laws that the proof cites; the calls do nothing.
+    reads_by_grammar();
+    equal_ivs();
+    keys_stay();
+    rx_rows_stay();
+    protects_frames();
+    delivers_in_time();
+    refuses_forgotten_keys();
+    renewing_gives_up_octets();
+    renews_keys_safely();
+    keeps_history();
 }

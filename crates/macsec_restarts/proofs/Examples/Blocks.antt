@@ -1,24 +1,20 @@
 -- How worked runs are shown to meet all premises of order and once except one.
 use Rattle.macsec_counterexamples.proofs.Restarts.{Goes.{commands_by, link_step}, Tables.heard_sound}
 use Rattle.macsec_restarts.proofs.{
-  AheadInside.stays,
-  AheadOrder.closing_with-input,
-  Names.{[], ◌++◌, ◌<◌, ◌∙◌, ◌∷◌, ◌≡◌, ◌≢◌, ◌⊎◌, A, accepted_from, after_commands, AgreeOnKeys, Ahead, ahead_after},
-  Names.{ahead_by, ahead_step, All, All-nil, All-weaker, all_fit, AllPairs, Answer, ap, append-nil, append_assoc},
-  Names.{AreNew, AreOctets, ArePeers, AtEach, B, begins, Bool, carried_step, CipherUse, closing, closing_with},
-  Names.{comes_in, ComesInOrder, Command, command, commands_stay, contained, Contains, CreatesAbove, delivered_at},
-  Names.{delivered_by, delivered_from, delivered_in, delivered_in_all, delivered_so_far, Delivery, effect, End},
-  Names.{EndConfig, ended_after, endpoint_input, Events, false, first_carried, frame_fault, get_or, Happening},
-  Names.{HasOctets, IfSome, if◌then◌else◌, inl, Input, Inputs, inputs_until, inr, InstalledKey, is_inside, is_through},
+  Names.{[], ◌++◌, ◌<◌, ◌∙◌, ◌∷◌, ◌≡◌, ◌≢◌, ◌⊎◌, A, after_commands, AgreeOnKeys, Ahead, ahead_by, ahead_step, All},
+  Names.{All-nil, All-weaker, all_fit, AllPairs, Answer, ap, append-nil, append_assoc, AreNew, AreOctets, ArePeers},
+  Names.{AtEach, B, begins, Bool, CipherUse, closing, comes_in, ComesInOrder, Command, command, commands_stay},
+  Names.{contained, Contains, CreatesAbove, delivered_at, delivered_by, delivered_from, delivered_in, delivered_in_all},
+  Names.{delivered_so_far, Delivery, End, EndConfig, ended_after, endpoint_input, Events, false, frame_fault, get_or},
+  Names.{Happening, HasOctets, IfSome, if◌then◌else◌, inl, Input, Inputs, inputs_until, inr, InstalledKey, is_through},
   Names.{is_xpn, IsGenuineAt, IsHistory, IsMember, IsOrderedAt, IsOrderedInput, IsOrderly, IsSameEnd, IsSound},
   Names.{Judgement, judgement_of, Keeping, keeping_after, keeping_step, KeepingInput, KeepsDurable, last_run},
-  Names.{lets_through, link_frame, List, map, map-append, member, newly_accepted, newly_delivered, newly_sent, None},
-  Names.{none_refused, opening, opening_with, operator_command, Option, passes, passing_from, refl, Run, run_inside},
-  Names.{runs_of, same_end, SameSalt, SavedIn, Sci, sealed_in_all, sent_from, sent_in_all, SentIn, Some, sound_end},
-  Names.{sound_next, Standing, State, state_after_receiving, StaysSound, step, Strict, subst, sym, tables_fit, through},
-  Names.{true, use_opened, Uses, ℕ},
+  Names.{lets_through, link_frame, List, map, map-append, member, newly_delivered, newly_sent, None, none_refused},
+  Names.{opening, Option, passes, refl, Run, runs_of, same_end, SameSalt, SavedIn, Sci, sealed_in_all, sent_from},
+  Names.{sent_in_all, SentIn, Some, sound_end, sound_next, Standing, State, state_after_receiving, StaysSound, step},
+  Names.{Strict, subst, sym, tables_fit, true, use_opened, Uses, ℕ},
   Pushed.{at_end, closing-input, delivered_in-input, either_list, in_front, last_run-push, last_run-with_last},
-  Pushed.{run_with, runs_of-begins, runs_of-input, sends_more, with_input},
+  Pushed.{runs_of-begins, runs_of-input, sends_more, with_input},
   Sends.{seal_of_sent, seals_of_runs},
 }
 
@@ -594,32 +590,6 @@ module _ (left_out : Premise) (bytes : List ℕ) (sci : Sci) (an : ℕ) where
 
 -- ---- a run, input by input: what is let through, and the last state
 
-pub record Through (a : Ahead) (inputs inner : Inputs) (ds : List Delivery) (last : Ahead) : Type 0 where
-  pub is : through a inputs ≡ inner
-  pub accepts : accepted_from a inputs ≡ ds
-  pub ends : ahead_after a inputs ≡ last
-
-pub through_end : (a : Ahead) → Through a [] [] [] a
-through_end a = record { is = refl; accepts = refl; ends = refl }
-
-pub passes_next : {a after last : Ahead} {input : KeepingInput} {inputs inner : Inputs} {new ds : List Delivery} →
-    lets_through a input ≡ true → newly_accepted a input ≡ new → (ahead_step a input).1 ≡ after →
-    Through after inputs inner ds last → Through a (input ∷ inputs) (input ∷ inner) (new ++ ds) last
-passes_next {a} {input} {inputs} {new} lets is_new is_after rest = record {
-  is = rw (lets, is_after, rest.is);
-  accepts = rw (is_new, is_after, rest.accepts);
-  ends = rw (is_after, rest.ends);
-}
-
-pub drops_next : {a last : Ahead} {input : KeepingInput} {inputs inner : Inputs} {ds : List Delivery} →
-    lets_through a input ≡ false → newly_accepted a input ≡ [] → Through a inputs inner ds last →
-    Through a (input ∷ inputs) inner ds last
-drops_next {a} {input} {inputs} lets none rest = record {
-  is = rw (lets, stays a input lets, rest.is);
-  accepts = rw (none, stays a input lets, rest.accepts);
-  ends = rw (stays a input lets, rest.ends);
-}
-
 -- the state after an input that is let through
 by_standing : (again : Bool) (it : Standing) (a : Ahead) (input : Input) (answer : Answer) →
     is_through again it ≡ true →
@@ -634,79 +604,3 @@ goes_on a input k lets is =
     let answer = keeping_step a.k (endpoint_input input) in
     by_standing _ _ _ input answer lets
     ∙ ap (λ x. record a { k = x; ended = ended_after a input (answer.0, x) }) is
-
--- commands that pass and end no SA
-abbrev pub ArePassed : Ahead → List Command → Type 0
-ArePassed a [] = Unit {0}
-ArePassed a (c ∷ cs) =
-    let k = record a.k { secy = effect a.k.secy c } in
-    (lets_through a (command c) ≡ true)
-    × (ended_after a (operator_command c) ((keeping_step a.k (command c)).0, k) ≡ a.ended)
-    × ArePassed (record a { k = k }) cs
-
-pub commands_pass : (cs : List Command) {a last : Ahead} {inputs inner : Inputs} {ds : List Delivery} →
-    AreNew a.k cs → none_refused a.k.secy cs ≡ true → ArePassed a cs →
-    Through (record a { k = record a.k { secy = after_commands a.k.secy cs } }) inputs inner ds last →
-    Through a (map command cs ++ inputs) (map command cs ++ inner) ds last
-commands_pass [] _ _ _ rest = rest
-commands_pass (c ∷ cs) {a} new none pass rest =
-    let it = first_carried a.k.secy c cs none in
-    let k = record a.k { secy = effect a.k.secy c } in
-    passes_next {new = []} pass.0 refl
-    (rw (goes_on a (operator_command c) k pass.0 (carried_step a.k c new.0 it.0), pass.1))
-    (commands_pass cs new.1 it.1 pass.2 rest)
-
--- ---- a list of runs
-
-own_end : (e : End) → same_end e e ≡ true
-own_end A = refl
-own_end B = refl
-
-module _ (ahead : End → Bool) where
-  inputs_inside : (e : End) (inputs : Inputs) (before more : Events) (run : Run) (a : Ahead) →
-      last_run (runs_of e before) ≡ Some run → closing_with (ahead e) run ≡ a →
-      passing_from (is_inside ahead) before (map (comes_in e) inputs ++ more) ≡
-      map (comes_in e) (through a inputs) ++ passing_from (is_inside ahead) (before ++ map (comes_in e) inputs) more
-  inputs_inside e [] before more _ a _ _ = ap (λ hs. passing_from (is_inside ahead) hs more) (sym (append-nil before))
-  inputs_inside e (input ∷ inputs) before more run a last is = by_test (lets_through a input) (rw (last, is)) (rw (
-    inputs_inside e inputs (before ++ h ∷ []) more (with_input input run) (ahead_step a input).1
-        (rw (runs_of-input e e input before (own_end e), last_run-with_last input (runs_of e before), last))
-        (rw (closing_with-input (ahead e) input run, is)),
-    append_assoc before (h ∷ []) (map (comes_in e) inputs),
-  ))
-    where
-      h : Happening
-      h = comes_in e input
-
-      later : Events
-      later = passing_from (is_inside ahead) (before ++ h ∷ map (comes_in e) inputs) more
-
-      next : Events
-      next = passing_from (is_inside ahead) (before ++ h ∷ []) (map (comes_in e) inputs ++ more)
-
-      by_test : (b : Bool) → is_inside ahead before h ≡ b →
-          next ≡ map (comes_in e) (through (ahead_step a input).1 inputs) ++ later →
-          (if is_inside ahead before h then h ∷ next else next) ≡
-          map (comes_in e) (if b then input ∷ through (ahead_step a input).1 inputs
-          else through (ahead_step a input).1 inputs) ++ later
-      by_test true reaches rest = ap (λ c. if c then h ∷ next else next) reaches ∙ ap (λ hs. h ∷ hs) rest
-      by_test false reaches rest = rw (reaches, rest)
-
-  abbrev pub inside_of : EndRun → EndRun
-  inside_of it = (it.0, run_inside (ahead it.0) it.1)
-
-  pub inside_blocks : (before : Events) (its : List EndRun) →
-      passing_from (is_inside ahead) before (blocks its) ≡ blocks (map inside_of its)
-  inside_blocks _ [] = refl
-  inside_blocks before (it ∷ more) =
-      let first = begins it.0 it.1.config it.1.journal in
-      let new = run_with it.1.config it.1.journal [] in
-      let last : last_run (runs_of it.0 (before ++ first ∷ [])) ≡ Some new = rw (
-        (runs_of-begins it.0 it.0 it.1.config it.1.journal before
-            ∙ ap (λ b. runs_of it.0 before ++ (if b then new ∷ [] else [])) (own_end it.0)),
-        last_run-push (runs_of it.0 before) new,
-      ) in
-      rw (inputs_inside it.0 it.1.inputs (before ++ first ∷ []) (blocks more) new
-      (opening_with (ahead it.0) it.1) last refl
-      ∙ ap (λ hs. map (comes_in it.0) (through (opening_with (ahead it.0) it.1) it.1.inputs) ++ hs)
-      (inside_blocks ((before ++ first ∷ []) ++ map (comes_in it.0) it.1.inputs) more))

@@ -3,7 +3,7 @@
 -- it, with the same packet number. B delivers both frames.
 use Rattle.macsec_counterexamples.proofs.Restarts.Tables.{first_sound as sound_first}
 use Rattle.macsec_aes.specs.{Keys.key_bytes, declared.Key.TheVariants.K128}
-use Rattle.macsec_suite.specs.declared.key_row.NewKey.{NewKey}
+use Rattle.macsec_suite.specs.{KeyRows.IsKeyRow, Suites.key_length, declared.key_row.NewKey.NewKey}
 use Rattle.macsec_commands.specs.declared.command.Command.TheVariants.{TxDel}
 use Rattle.macsec_secy.proofs.KeyRenewed.{ready_by_keys as ready_by_renewing}
 use Rattle.macsec_secy.specs.Renewing.{renewal_refusal}
@@ -20,7 +20,6 @@ use Rattle.macsec_restarts.{
       Extended.{reserves, rx_key, rx_start, sent_1, tx_new},
       Extended.Receiver.Same,
       Extended.Salt.Zeros,
-      Forgets.is_row,
       Tags.{small_at, tag_is},
       TwoRunsEach.{is_free, none_is, reads},
     },
@@ -45,6 +44,17 @@ use Rattle.macsec_restarts.{
     RenewingOrder.delivered_from_renewing,
     RenewingRuns.{ahead_renewing_after, ahead_renewing_step, sent_from_renewing},
   },
+}
+
+is_row : {row : InstalledKey} → row.number < 4096 → length row.bytes ≡ key_length row.suite →
+    length row.salt ≡ 12 → row.ssci < 2 ^ 32 → 1 ≤ row.first_unused → row.first_unused ≤ 2 ^ 64 → IsKeyRow row
+is_row number bytes salt ssci least most = record {
+  number = number;
+  bytes = bytes;
+  salt = salt;
+  ssci = ssci;
+  first_unused_least = least;
+  first_unused = most;
 }
 
 -- ---- how a run goes, input by input

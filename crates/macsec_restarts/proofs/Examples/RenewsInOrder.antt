@@ -3,7 +3,7 @@ use Rattle.macsec_restarts.{
   proofs.{
     Examples.{
       Blocks.{blocks, EndRun},
-      Extended.{accepts, commands, config_of, f, free_b, genuine, iv_is, link, octets, ready, rx_key, sent_1},
+      Extended.{accepts, commands, config_of, delivery, f, free_b, genuine, iv_is, link, octets, ready, rx_key, sent_1},
       Extended.{set_up, use_of},
       Extended.Receiver.Same,
       Extended.Salt.Zeros,
@@ -18,6 +18,7 @@ use Rattle.macsec_restarts.{
     Names.{runs_at, RunWith, Sci, sci_a, sci_b, seal_of, sent_under, Some, subst, sym, true, use_opened, Uses, ℕ},
   },
   specs.{
+    AheadRuns.AreOfOneSa,
     Kept.{IsGenuineFrom, last_of},
     RenewingOrder.{ArePeersRenewing, AskedOfLast, closing_renewing, delivered_by_all, IsFairAt, IsFromPeersInOrder},
     RenewingOrder.{IsSameEndWith, KeepsDeliveredWith, KeepsSentWith},
@@ -200,3 +201,8 @@ renews = record {
     by_end A = All-cons IsSoundRun (with_none run_a) [] (λ n. (a_does.good n).sound) (All-nil IsSoundRun)
     by_end B =
         All-cons IsSoundRun (with_none (run_of inputs_b)) [] (λ n. (b_does.good n).sound) (All-nil IsSoundRun)
+
+-- ---- two frames of one SA may have other client frames
+
+pub of_one_sa : (frame : List ℕ) → AreOfOneSa (delivery Same) (record (delivery Same) { frame = frame })
+of_one_sa frame = record { bytes = refl; sci = refl; an = refl }

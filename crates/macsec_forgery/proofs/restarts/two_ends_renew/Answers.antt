@@ -1,0 +1,11 @@
+use Rattle.macsec_forgery.proofs.AllPossible.{all_possible, link_says_nothing, no_input_twice}
+use Rattle.macsec_forgery.proofs.restarts.two_ends_renew.Goals as goal
+
+pub returns-clause-possible : goal.returns-clause-possible
+returns-clause-possible c = all_possible c.no_iv_at_both_renewing.ensures
+
+pub returns-clause-inputs : goal.returns-clause-inputs
+returns-clause-inputs c = no_input_twice c.no_iv_at_both_renewing.ensures
+
+pub returns-clause-hidden : goal.returns-clause-hidden
+returns-clause-hidden c = link_says_nothing c.no_iv_at_both_renewing.ensures

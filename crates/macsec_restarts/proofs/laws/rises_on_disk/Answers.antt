@@ -1,6 +1,0 @@
--- By the law of the journal.
-use Rattle.macsec_restarts.proofs.OnDisk.{rises_on_disk}
-use Rattle.macsec_restarts.proofs.laws.rises_on_disk.Goals as goal
-
-pub returns : goal.returns
-returns c = rises_on_disk (assumption)

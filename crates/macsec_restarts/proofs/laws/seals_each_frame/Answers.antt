@@ -1,8 +1,0 @@
-use Rattle.macsec_restarts.proofs.{Listed.seals_each_frame, Sends.seals_of_input}
-use Rattle.macsec_restarts.proofs.laws.seals_each_frame.Goals as goal
-
-pub returns-clause-leaves : goal.returns-clause-leaves
-returns-clause-leaves c = seals_each_frame
-
-pub returns-clause-listed : goal.returns-clause-listed
-returns-clause-listed c = seals_of_input
