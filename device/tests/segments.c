@@ -10,8 +10,11 @@
 /* The longest frame, the streams, and the frames that can wait. */
 enum { MOST = 1600, STREAMS = 6, QUEUE = 128 };
 enum { TCP = 6, UDP = 17, ACK = 0x10, PSH = 8 };
+/* For so many frames of this many nothing is odd, so that as many are joined as may be. */
+enum { EVEN = 500, OF = 4000 };
 
 static uint64_t state; /* of random numbers */
+static bool is_even;
 static struct joined joined;
 static struct {
     size_t length;
@@ -32,7 +35,7 @@ static unsigned below(unsigned limit) {
 }
 
 static bool once_in(unsigned times) {
-    return below(times) == 0;
+    return below(times) == 0 && !is_even;
 }
 
 static void put16(uint8_t *at, uint32_t value) {
@@ -165,7 +168,9 @@ int main(int count, char **words) {
     state = count == 3 ? strtoull(words[2], NULL, 10) : 0;
     for (unsigned long i = 0; i < frames; i++) {
         uint8_t *frame = queue[end % QUEUE].octets;
-        size_t length = queue[end % QUEUE].length = make_frame(frame);
+        size_t length;
+        is_even = i % OF < EVEN;
+        length = queue[end % QUEUE].length = make_frame(frame);
         if (!segments_join(&joined, frame, length)) {
             flush();
             segments_keep(&joined, frame, length, true, true);
