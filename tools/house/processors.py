@@ -31,8 +31,19 @@ def ticks() -> tuple[int, int, int]:
     return user + nice + system + interrupts + soft, idle + waiting, stolen
 
 
-def shares(since: tuple[int, int, int]) -> str:
+def since(earlier: tuple[int, int, int]) -> tuple[int, int, int]:
+    """The same, since an earlier call of `ticks`."""
+    return tuple(now - then for now, then in zip(ticks(), earlier))
+
+
+def stolen(earlier: tuple[int, int, int]) -> float:
+    """Which part of the processors' time the host has taken since then."""
+    grown = since(earlier)
+    return grown[2] / (sum(grown) or 1)
+
+
+def shares(earlier: tuple[int, int, int]) -> str:
     """What became of the processors since then. On a shared machine the host takes some of their time."""
-    worked, waited, stolen = (now - then for now, then in zip(ticks(), since))
-    parts = f"worked {worked / (whole := worked + waited + stolen or 1):.0%}, idle {waited / whole:.0%}"
-    return f"{len(os.sched_getaffinity(0))} processors: {parts}, taken by the host {stolen / whole:.0%}"
+    worked, waited, taken = since(earlier)
+    parts = f"worked {worked / (whole := worked + waited + taken or 1):.0%}, idle {waited / whole:.0%}"
+    return f"{len(os.sched_getaffinity(0))} processors: {parts}, taken by the host {taken / whole:.0%}"

@@ -15,6 +15,7 @@ from collections.abc import Iterable
 from typing import NamedTuple
 
 from house import ROOT, ways
+from house.processors import stolen, ticks
 
 # How long a stopped command has to end before it is killed.
 GRACE = 5.0
@@ -26,13 +27,16 @@ COUNTS = re.compile(r"(\d+) passed, (\d+) failed")
 # How many lines of what a failed command printed are repeated at the end, and which they are if it printed such.
 REPEATED = 8
 FAULT = re.compile(r"WRONG|NOT |FAILED|\bError\b|error:|failed\b")
+# Where the host of a machine takes more than this part of its processors, bounds of time say nothing.
+MOST_STOLEN = 0.05
 
 
 class Job(NamedTuple):
     """A command and its name. `shown` is for one whose lines appear as it prints them, `counted` the form of a line
     that it prints for each test that passed, `lost` the form of a line after which it can only fail, and `then` a job
     that begins when this one has passed. One that `yields` leaves the processors to the others, and may outlast
-    them."""
+    them. One that is `timed` has bounds of time: if it fails while the host takes more than a twentieth of the
+    processors, it is made once more when the others have ended, and then counts."""
 
     name: str
     words: list[str]
@@ -42,6 +46,7 @@ class Job(NamedTuple):
     lost: str | None = None
     then: Job | None = None
     yields: bool = False
+    timed: bool = False
 
 
 def processes() -> dict[int, tuple[int, int]]:
@@ -76,7 +81,7 @@ class Running:
     """A job that has begun, in its own session."""
 
     def __init__(self, job: Job, logs: pathlib.Path) -> None:
-        self.job, self.began = job, time.monotonic()
+        self.job, self.began, self.ticks = job, time.monotonic(), ticks()
         self.log = job.log or logs / f"{job.name}.log"
         if job.shown:
             words = ["bash", "-c", f"set -o pipefail; {shlex.join(job.words)} 2>&1 | tee {shlex.quote(str(self.log))}"]
@@ -107,6 +112,10 @@ class Running:
     def ended(self) -> bool:
         return self.process.poll() is not None
 
+    def may_pass_again(self) -> bool:
+        """Has it failed where its bounds say nothing?"""
+        return self.job.timed and self.process.returncode != 0 and stolen(self.ticks) > MOST_STOLEN
+
     def seconds(self) -> str:
         return f"{time.monotonic() - self.began:.0f} s"
 
@@ -116,14 +125,15 @@ class Running:
 
 class Runner:
     """Runs jobs, prints a line for each, and counts what passed. With `stops` a job that fails stops the others. `left`
-    has what was left out, in whole or in part, and `told` what those that failed have printed of it. `running` are the
-    jobs that have not ended."""
+    has what was left out, in whole or in part, `told` what those that failed have printed of it, and `repeated` those
+    that are made once more. `running` are the jobs that have not ended."""
 
     def __init__(self, logs: pathlib.Path, stops: bool) -> None:
         self.logs, self.stops, self.passed, self.lost = logs, stops, 0, 0
         self.failed: list[str] = []
         self.told: dict[str, list[str]] = {}
         self.left: list[str] = []
+        self.repeated: list[str] = []
         self.running: list[Running] = []
         logs.mkdir(parents=True, exist_ok=True)
 
@@ -138,15 +148,20 @@ class Runner:
     def go(self, jobs: Iterable[Job], at_a_time: int = 64, is_last: bool = False) -> bool:
         """Runs jobs, at most so many at a time beside those that yield, and waits for them; for those that yield only
         in the last call. Returns whether all that ended have passed."""
-        waiting, good, is_done = list(jobs), True, False
+        waiting, again, good, is_done = list(jobs), [], True, False
         try:
-            while waiting or any(is_last or not it.job.yields for it in self.running):
+            while waiting or again or any(is_last or not it.job.yields for it in self.running):
+                if again and not waiting and all(it.job.yields for it in self.running):
+                    waiting.append(again.pop())
                 while waiting and sum(not it.job.yields for it in self.running) < at_a_time:
                     self.running.append(Running(waiting.pop(0), self.logs))
                 for each in [it for it in self.running if it.ended() or self.stops and it.is_lost()]:
                     self.running.remove(each)
                     if not each.ended():
                         self.stop([each])
+                    elif each.may_pass_again():
+                        again.append(self.repeat(each))
+                        continue
                     passed = self.note(each)
                     good &= passed
                     if passed and each.job.then:
@@ -176,12 +191,23 @@ class Runner:
         self.lost += max(1, int(counts[2])) if counts else 1
         lines = text.splitlines()
         self.told[job.name] = ([it for it in lines if FAULT.search(it)] or lines)[-REPEATED:]
-        if not job.shown:
-            self.say("\n".join(f"  {it}" for it in lines[-40:]))
-        self.say(f"{job.name} FAILED ({ended.seconds()}), {os.path.relpath(ended.log, ROOT)}")
+        self.say(self.failure(ended, f"FAILED ({ended.seconds()}), {os.path.relpath(ended.log, ROOT)}"))
         for way in ways.of(job.name, text, next(it for it in job.words if it != "python3")):
             self.say(f"  {way}")
         return False
+
+    def repeat(self, ended: Running) -> Job:
+        """Notes and prints that a job is made once more. Returns the job, which then counts."""
+        self.repeated.append(ended.job.name)
+        self.say(
+            self.failure(ended, f"failed ({ended.seconds()}) while the host took processors: it is made once more")
+        )
+        return ended.job._replace(timed=False)
+
+    def failure(self, ended: Running, what: str) -> str:
+        """The last lines of a job that failed, if they are not shown yet, and what becomes of it."""
+        lines = [] if ended.job.shown else [f"  {it}" for it in ended.text().splitlines()[-40:]]
+        return "\n".join([*lines, f"{ended.job.name} {what}"])
 
     def stop(self, running: list[Running]) -> None:
         """Stops jobs, and all that they have started."""
@@ -203,6 +229,8 @@ class Runner:
         """Prints what was left out, what failed and why, and how many passed. Returns the status."""
         if self.left:
             self.say(f"NOT TRIED, or not in full: {', '.join(self.left)}")
+        if self.repeated:
+            self.say(f"MADE TWICE, since the host took processors: {', '.join(self.repeated)}")
         for name in self.failed:
             self.say("\n".join(f"  {name}: {it[:200]}" for it in self.told[name]))
         if self.failed:
