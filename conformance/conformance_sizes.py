@@ -23,7 +23,8 @@ RESTARTS += [f"macsec_restarts/{it}" for it in ("RenewingLists", "RenewingOutput
 TEXTS = ["macsec_script/Printed", "macsec_script/Promised", "macsec_script_parser/Scripts", "macsec_capture/Captured"]
 TEXTS += ["macsec_pcapng/Captures", "macsec_cli_runs/Failures"]
 IN_C = [f"macsec_c/{it}" for it in ("Answers", "Found", "Texts")]
-IN_C += [f"macsec_c_calls/{it}" for it in "Configs Keys SentParts ReceivedParts Shown Reserving Texts".split()]
+IN_C += [f"macsec_c_values/{it}" for it in ("Configs", "Keys", "Reservations", "Shown")]
+IN_C += [f"macsec_c_calls/{it}" for it in ("SentAhead", "ReceivedParts", "Reserving", "Texts")]
 IN_C += [f"macsec_c_runs/{it}" for it in ("Runs", "TwoEnds", "SingleCalls")]
 
 

@@ -1016,7 +1016,7 @@ uint32_t macsec_seal_raw(const macsec_sak *key, const uint8_t sci[8], uint64_t p
  * The first that applies, and then the frame is unchanged: MACSEC_E_NO_SUCH_SUITE (there is no default),
  * MACSEC_E_NO_SUCH_KEY_OCTETS, MACSEC_E_KEY_LENGTH, MACSEC_E_PN_RANGE (`pn` is above the suite's last),
  * MACSEC_E_FRAME_SHORT (`length` is below `head` + 16), MACSEC_E_FRAME_LONG (above 2^36 - 32). Proved: else the frame
- * is as said here (crates/macsec_c_calls/specs/Sealing.antt), by AES-GCM as crates/macsec_gcm/specs defines it. */
+ * is as said here (crates/macsec_c_values/specs/Sealing.antt), by AES-GCM as crates/macsec_gcm/specs defines it. */
 static inline uint32_t macsec_seal(const macsec_sak *key, const uint8_t sci[8], uint64_t pn, bool conf, size_t head,
                                    uint8_t *frame, size_t length) {
     uint8_t none;

@@ -90,7 +90,7 @@ def numbered(pairs: list[tuple[str, str]], before: str = "") -> dict[str, int]:
 
 def statuses_of_specs() -> dict[str, int]:
     """The statuses as specs/ number them."""
-    text = "".join(text_of(f"crates/{it}/specs/Statuses.antt") for it in ("macsec_c_calls", "macsec_c_journals"))
+    text = "".join(text_of(f"crates/{it}/specs/Statuses.antt") for it in ("macsec_c_values", "macsec_c_journals"))
     found = numbered([(camel(name), number) for name, number in re.findall(r"^(\w+)_status = (\d+)$", text, re.M)])
     for kind, before in (("argument", "NoSuch"), ("new", "New"), ("frame", ""), ("line", ""), ("script", "")):
         found |= numbered(re.findall(rf"^status_of_{kind}_fault (?:\w+\.)?(\w+) = (\d+)$", text, re.M), before)
@@ -102,7 +102,7 @@ def verdicts_of_specs() -> dict[str, int]:
     """The verdicts by the names that are printed, with their numbers."""
     names = text_of("crates/macsec_rx/specs/Verdicts.antt")
     printed = dict(re.findall(r'^verdict_name (\w+) = codes "(\w+)"$', names, re.M))
-    numbers = text_of("crates/macsec_c_calls/specs/Statuses.antt")
+    numbers = text_of("crates/macsec_c_values/specs/Statuses.antt")
     found = re.findall(r"^number_of_verdict (\w+) = (\d+)$", numbers, re.M)
     return {printed.get(it, it): int(number) for it, number in found}
 
@@ -177,7 +177,7 @@ def compared_numbers() -> Compared:
     text = text_of("crates/macsec_pcap/specs/FaultNumbers.antt")
     yield "faults of captures", here, numbered(re.findall(r"^number_of_fault (\w+) = (\d+)$", text, re.M))
     yield "verdicts", numbered_names("verdicts", range(1, 13)), verdicts_of_specs()
-    statuses = text_of("crates/macsec_c_calls/src/statuses.rt")
+    statuses = text_of("crates/macsec_c_values/src/statuses.rt")
     for what, start, of in (("fates", "FATE", range(6)), ("verdicts of a journal", "VERDICT", range(13, 99))):
         here = {it["c"]: it["number"] for it in family(start.lower() + "s") if it["number"] in of}
         yield what, here, numbered(re.findall(rf"pub const ({start}_\w+): u32 = (\d+);", statuses))
@@ -188,7 +188,7 @@ def compared_numbers() -> Compared:
 def compared_words() -> Compared:
     commands = {it["name"]: it["number"] for it in family("commands") if it["number"]}
     kinds = re.findall(
-        r"^number_of_kind kind\.(\w+) = ([1-9]\d*)$", text_of("crates/macsec_c_calls/specs/Rows.antt"), re.M
+        r"^number_of_kind kind\.(\w+) = ([1-9]\d*)$", text_of("crates/macsec_c_values/specs/Rows.antt"), re.M
     )
     yield "commands", commands, {name.lower(): int(number) for name, number in kinds}
     yield "keywords of commands", set(commands), keywords()

@@ -2,15 +2,12 @@
 use Rattle.{
   std.proofs.Common.{◌≡◌, ◌∙◌, ℕ, List, Bool, true, false, Option, Some, None, refl, ap, eq-eqb, if◌then◌else◌, nat_eq},
   macsec_ahead.specs.Ahead.Ahead,
-  macsec_c_calls.{
-    proofs.Parsed.{parsed_commands as by_endpoint},
-    specs.{
-      Parsing.row_commanded,
-      Rows.command_of_row,
-      Statuses.{done_status, empty_status},
-      declared.rows.CommandRow.CommandRow,
-    },
+  macsec_c_values.specs.{
+    Rows.command_of_row,
+    Statuses.{done_status, empty_status},
+    declared.rows.CommandRow.CommandRow,
   },
+  macsec_c_calls.{proofs.Parsed.{parsed_commands as by_endpoint}, specs.Commands.row_commanded},
   macsec_c.specs.{Answers.held_after, RowLaws.CommandsParsed},
 }
 

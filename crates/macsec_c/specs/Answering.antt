@@ -1,10 +1,10 @@
 -- What the call that answers a line returns and writes.
 use Rattle.std.specs.Prelude.{◌≡◌, ℕ, List, Option, Some, None}
 use Rattle.macsec_ahead.specs.Ahead.{Ahead}
+use Rattle.macsec_c_values.specs.Reservations.{Written}
+use Rattle.macsec_c_values.specs.Statuses.{empty_status}
 use Rattle.macsec_c_calls.specs.declared.answering.Answered.{Answered}
 use Rattle.macsec_c_calls.specs.Answers.{status_of_ending}
-use Rattle.macsec_c_calls.specs.Reserving.{Written}
-use Rattle.macsec_c_calls.specs.Statuses.{empty_status}
 use Rattle.macsec_c_calls.specs.Writing.{Answers}
 
 -- the endpoint answers line n with this text by `r`, and the call reports that

@@ -13,19 +13,18 @@ use Rattle.macsec_reserve.specs.declared.reservation.Reservation.{Reservation}
 use Rattle.macsec_reserve.specs.Journal.{is_journal}
 use Rattle.macsec_reserve.specs.Keeping.{endpoint_input}
 use Rattle.macsec_ahead.specs.Ahead.{Ahead, ahead_step, alone_with, opened_with}
-use Rattle.macsec_c_calls.specs.declared.rows.CommandRow.{CommandRow}
-use Rattle.macsec_c_calls.specs.Arguments.{Named}
+use Rattle.macsec_c_values.specs.declared.rows.CommandRow.{CommandRow}
+use Rattle.macsec_c_values.specs.Arguments.{Named}
+use Rattle.macsec_c_values.specs.SentParts.{SentParts, unsent}
+use Rattle.macsec_c_values.specs.Statuses.{done_status, empty_status, not_journal_status, taken_status}
+use Rattle.macsec_c_values.specs.Statuses.{status_of_argument_fault, status_of_new_fault}
 use Rattle.macsec_c_calls.specs.Commands.{Renews, status_of_ahead}
-use Rattle.macsec_c_calls.specs.Commands.{commanded as by_endpoint}
+use Rattle.macsec_c_calls.specs.Commands.{commanded as by_endpoint, row_commanded as row_by_endpoint}
 use Rattle.macsec_c_calls.specs.Loading.{Loads}
-use Rattle.macsec_c_calls.specs.Parsing.{row_commanded as row_by_endpoint}
 use Rattle.macsec_c_calls.specs.ReceivedParts.{ReceivedParts, unreceived}
 use Rattle.macsec_c_calls.specs.ReceivedParts.{parts_of_ahead as received_of}
 use Rattle.macsec_c_calls.specs.Reserving.{reported as reported_to}
-use Rattle.macsec_c_calls.specs.SentParts.{SentParts, unsent}
-use Rattle.macsec_c_calls.specs.SentParts.{parts_of_ahead as sent_of}
-use Rattle.macsec_c_calls.specs.Statuses.{done_status, empty_status, not_journal_status, taken_status}
-use Rattle.macsec_c_calls.specs.Statuses.{status_of_argument_fault, status_of_new_fault}
+use Rattle.macsec_c_calls.specs.SentAhead.{parts_of_ahead as sent_of}
 
 -- what a handle holds after an input that is not a command
 abbrev pub after_input : Option Ahead → Input → Option Ahead

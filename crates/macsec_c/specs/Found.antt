@@ -2,10 +2,10 @@
 use Rattle.std.specs.Prelude.{ℕ, Option, Some, None}
 use Rattle.macsec_reserve.specs.Keeping.{Keeping}
 use Rattle.macsec_ahead.specs.Ahead.{Ahead}
-use Rattle.macsec_c_calls.specs.Arguments.{Named}
-use Rattle.macsec_c_calls.specs.Shown.{status_at, status_if}
-use Rattle.macsec_c_calls.specs.Shown.{found_at as found_there}
-use Rattle.macsec_c_calls.specs.Statuses.{empty_status}
+use Rattle.macsec_c_values.specs.Arguments.{Named}
+use Rattle.macsec_c_values.specs.Shown.{status_at, status_if}
+use Rattle.macsec_c_values.specs.Shown.{found_at as found_there}
+use Rattle.macsec_c_values.specs.Statuses.{empty_status}
 
 -- the keeping endpoint inside what the handle holds
 abbrev pub inside : Option Ahead → Option Keeping

@@ -5,15 +5,15 @@ use Rattle.macsec_suite.specs.KeyRows.{key_row}
 use Rattle.macsec_ahead.specs.Ahead.{Ahead}
 use Rattle.macsec_jobs.specs.declared.planned_key.PlannedKey.{PlannedKey}
 use Rattle.macsec_jobs.specs.Slots.{SlotState, is_idle}
+use Rattle.macsec_c_values.specs.Arguments.{Named}
+use Rattle.macsec_c_values.specs.Statuses.{done_status, empty_status, status_of_argument_fault, status_of_new_fault}
+use Rattle.macsec_c_values.specs.Statuses.{taken_status}
 use Rattle.macsec_c_calls.specs.declared.jobs.Finished.{Finished}
 use Rattle.macsec_c_calls.specs.declared.jobs.Planned.{Planned}
-use Rattle.macsec_c_calls.specs.Arguments.{Named}
 use Rattle.macsec_c_calls.specs.Jobs.{FinishesFrame, OpensWith, PlansToReceive, PlansToSend, SealsWith}
 use Rattle.macsec_c_calls.specs.Jobs.{parts_of_finished, unplanned}
 use Rattle.macsec_c_calls.specs.ReceivedParts.{unreceived}
 use Rattle.macsec_c_calls.specs.TakenKeys.{TakesKey}
-use Rattle.macsec_c_calls.specs.Statuses.{done_status, empty_status, status_of_argument_fault, status_of_new_fault}
-use Rattle.macsec_c_calls.specs.Statuses.{taken_status}
 use Rattle.macsec_commands.specs.declared.fault.NewFault.TheVariants.{Memory}
 
 -- ---- keys

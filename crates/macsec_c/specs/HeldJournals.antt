@@ -6,8 +6,8 @@ use Rattle.macsec_journal.specs.declared.writer.BeginFault.{BeginFault}
 use Rattle.macsec_journal.specs.Machine.{Journal, answered, shown}
 use Rattle.macsec_c_journals.specs.declared.journals.JournalCall.{JournalCall}
 use Rattle.macsec_c_journals.specs.Calls.{Begins, called, filled, status_of_begin_fault}
-use Rattle.macsec_c_calls.specs.Reserving.{Written}
-use Rattle.macsec_c_calls.specs.Statuses.{done_status, empty_status, taken_status}
+use Rattle.macsec_c_values.specs.Reservations.{Written}
+use Rattle.macsec_c_values.specs.Statuses.{done_status, empty_status, taken_status}
 
 -- a process begins with these octets in an empty handle, or the status says why it does not
 abbrev pub BeginsHeld : Option Journal → ℕ → List ℕ → ℕ → Option Journal → Type 0

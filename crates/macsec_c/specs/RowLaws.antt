@@ -1,10 +1,10 @@
 -- The statement about rows of commands that are carried out for a handle.
 use Rattle.std.specs.Prelude.{◌≡◌, ℕ, List, Option, None, nat_eq, if◌then◌else◌}
 use Rattle.macsec_ahead.specs.Ahead.{Ahead}
-use Rattle.macsec_c_calls.specs.declared.rows.CommandRow.{CommandRow}
-use Rattle.macsec_c_calls.specs.Parsing.{ParsesLine}
-use Rattle.macsec_c_calls.specs.Rows.{command_of_row}
-use Rattle.macsec_c_calls.specs.Statuses.{done_status}
+use Rattle.macsec_c_values.specs.declared.rows.CommandRow.{CommandRow}
+use Rattle.macsec_c_values.specs.Parsing.{ParsesLine}
+use Rattle.macsec_c_values.specs.Rows.{command_of_row}
+use Rattle.macsec_c_values.specs.Statuses.{done_status}
 use Rattle.macsec_c.specs.Answers.{row_commanded}
 use Rattle.macsec_c.specs.Texts.{CommandsLine}
 

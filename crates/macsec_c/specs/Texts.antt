@@ -4,9 +4,10 @@ use Rattle.macsec_commands.specs.declared.command.Command.{Command}
 use Rattle.macsec_script_parser.specs.declared.lines.LineFault.{LineFault}
 use Rattle.macsec_script_parser.specs.Readings.{Reads}
 use Rattle.macsec_ahead.specs.Ahead.{Ahead}
+use Rattle.macsec_c_values.specs.Parsing.{line_command}
+use Rattle.macsec_c_values.specs.Statuses.{done_status, empty_status, taken_status}
 use Rattle.macsec_c_calls.specs.declared.configuring.ConfigFault.{ConfigFault}
-use Rattle.macsec_c_calls.specs.Statuses.{done_status, empty_status, taken_status}
-use Rattle.macsec_c_calls.specs.Texts.{Creation, MakesConfigured, Report, configured, line_command, report_of}
+use Rattle.macsec_c_calls.specs.Texts.{Creation, MakesConfigured, Report, configured, report_of}
 use Rattle.macsec_c_calls.specs.Texts.{line_commanded as by_endpoint}
 use Rattle.macsec_c.specs.Answers.{held_after}
 

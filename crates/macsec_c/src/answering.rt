@@ -3,7 +3,8 @@
 ghost use Rattle.macsec_c.specs.Answering.{AnswersHeld};
 
 use crate::endpoint::Endpoint;
-use macsec_c_calls::{EMPTY, answer};
+use macsec_c_calls::answer;
+use macsec_c_values::EMPTY;
 use std::alloc::Global;
 
 /// Answers a line at end A as line `number` of a script: carries out its command, or shows what it asks for, and writes

@@ -2,12 +2,12 @@
 
 ghost use Rattle.std.specs.Prelude.{◌≡◌, Ok};
 ghost use Rattle.macsec_commands.specs.declared.command.Command.TheVariants as by;
-ghost use Rattle.macsec_c_calls.specs.Arguments.{an_of, form_of, key_number_of, mode_of, naming, naming_both, sci_of};
-ghost use Rattle.macsec_c_calls.specs.Keys.{new_key_of};
+ghost use Rattle.macsec_c_values.specs.Arguments.{an_of, form_of, key_number_of, mode_of, naming, naming_both, sci_of};
+ghost use Rattle.macsec_c_values.specs.Keys.{new_key_of};
 ghost use Rattle.macsec_c.specs.Answers.{commanded};
 
 use crate::endpoint::Endpoint;
-use macsec_c_calls::{
+use macsec_c_values::{
     ArgumentFault, EMPTY, Sak, an_of, form_of, key_number_of, mode_of, new_key_of, rx_sa_of,
     tx_sa_of,
 };
@@ -74,7 +74,8 @@ pub extern "C" fn macsec_retire_key(e: &mut Endpoint, key: u16) -> u32
 /// Create a transmit SA, disabled, whose first packet number is `next`. It encrypts if `conf` is true.
 #[unsafe(no_mangle)]
 pub extern "C" fn macsec_add_tx_sa(e: &mut Endpoint, an: u8, key: u16, next: u64, conf: bool) -> u32
-    ensures { (result, e.new.state) ≡ commanded e.old.state (naming_both (λ n k. by.TxSa n k next conf) (an_of an) (key_number_of key)) }
+    ensures { (result, e.new.state) ≡ commanded e.old.state
+        (naming_both (λ n k. by.TxSa n k next conf) (an_of an) (key_number_of key)) }
 {
     carry_out(e, tx_sa_of(an, key, next, conf))
 }
@@ -129,7 +130,8 @@ pub extern "C" fn macsec_add_rx_sa(
     lowest: u64,
     ssci: u32,
 ) -> u32
-    ensures { (result, e.new.state) ≡ commanded e.old.state (naming_both (λ n k. by.RxSa (sci_of sci.now) n k ssci lowest) (an_of an) (key_number_of key)) }
+    ensures { (result, e.new.state) ≡ commanded e.old.state
+        (naming_both (λ n k. by.RxSa (sci_of sci.now) n k ssci lowest) (an_of an) (key_number_of key)) }
 {
     carry_out(e, rx_sa_of(Sci(*sci), an, key, ssci, lowest))
 }

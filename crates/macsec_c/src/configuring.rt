@@ -5,7 +5,8 @@ ghost use Rattle.macsec_c.specs.Texts.{CommandsLine, Configures};
 
 use crate::endpoint::Endpoint;
 use crate::loose::Loose;
-use macsec_c_calls::{DONE, EMPTY, TAKEN, command_line, configured, configured_beside};
+use macsec_c_calls::{command_line, configured, configured_beside};
+use macsec_c_values::{DONE, EMPTY, TAKEN};
 use std::alloc::Global;
 
 /// Creates the endpoint of a configuration in a handle without one, and carries out the configuration's commands. If

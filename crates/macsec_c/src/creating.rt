@@ -1,15 +1,13 @@
 //! Creating the endpoint of a handle, and freeing it.
 
 ghost use Rattle.std.specs.Prelude.{◌≡◌, None};
-ghost use Rattle.macsec_c_calls.specs.Configs.{config_of};
+ghost use Rattle.macsec_c_values.specs.Configs.{config_of};
 ghost use Rattle.macsec_c.specs.Answers.{Makes, Opens};
 
 use crate::endpoint::Endpoint;
 use crate::loose::Loose;
-use macsec_c_calls::{
-    Config, DONE, TAKEN, config_of, endpoint_alone, endpoint_beside, status_of_new_fault,
-    status_of_open_fault,
-};
+use macsec_c_calls::{endpoint_alone, endpoint_beside};
+use macsec_c_values::{Config, DONE, TAKEN, config_of, status_of_new_fault, status_of_open_fault};
 use std::alloc::Global;
 
 /// Creates an endpoint of this configuration on the heap, in a handle without one.

@@ -1,17 +1,19 @@
 //! Frames whose work of the cipher is left to other threads: keys and slots on the heap, and the calls with them.
 
 ghost use Rattle.std.specs.Prelude.{◌≡◌, None};
-ghost use Rattle.macsec_c_calls.specs.Arguments.{key_number_of};
-ghost use Rattle.macsec_c.specs.HeldJobs.{ClearsHeld, FinishesHeld, MakesSlot, OpensHeld, PlansHeld, SealsHeld, TakesFrame, TakesHeld};
+ghost use Rattle.macsec_c_values.specs.Arguments.{key_number_of};
+ghost use Rattle.macsec_c.specs.HeldJobs.{ClearsHeld, FinishesHeld, MakesSlot, OpensHeld, PlansHeld, SealsHeld};
+ghost use Rattle.macsec_c.specs.HeldJobs.{TakesFrame, TakesHeld};
 
 use crate::endpoint::Endpoint;
 use crate::key::Key;
 use crate::loose::Loose;
 use crate::slot::Slot;
 use macsec_c_calls::{
-    DONE, EMPTY, Finished, Planned, TAKEN, finish_frame, key_number_of, new_slot, open_job,
-    plan_to_receive, plan_to_send, seal_job, take_key, unfinished, unplanned,
+    Finished, Planned, finish_frame, new_slot, open_job, plan_to_receive, plan_to_send, seal_job,
+    take_key, unfinished, unplanned,
 };
+use macsec_c_values::{DONE, EMPTY, TAKEN, key_number_of};
 use std::alloc::Global;
 
 /// Prepares the endpoint's key of this number once more on the heap, in a handle without a key.
@@ -72,8 +74,8 @@ pub extern "C" fn macsec_slot_new(alloc: Global, slot: &mut Slot) -> u32
     }
 }
 
-/// Frees the slot of a handle, if it holds one. Afterwards the handle holds none. `macsec_slot_free` of the header calls
-/// this, unless its handle is null.
+/// Frees the slot of a handle, if it holds one. Afterwards the handle holds none. `macsec_slot_free` of the header
+/// calls this, unless its handle is null.
 #[unsafe(no_mangle)]
 pub extern "C" fn macsec_slot_free_raw(alloc: Global, slot: &mut Slot)
     ensures { slot.new.state ≡ None }
@@ -132,7 +134,8 @@ pub extern "C" fn macsec_seal_job_raw(
     out: &mut [u8],
     written: &mut usize,
 ) -> u32
-    ensures sealed { SealsHeld slot.old.state key.old.state out.old written.old result out.new written.new slot.new.state }
+    ensures sealed { SealsHeld slot.old.state key.old.state out.old written.old result out.new written.new
+        slot.new.state }
     ensures key { key.new.state ≡ key.old.state }
 {
     if !slot.is_made() {
@@ -158,8 +161,8 @@ fn taken_frame(e: &mut Endpoint, slot: &mut Slot, frame: &[u8]) -> Planned
     plan_to_receive(e.held(), slot.slot(), frame)
 }
 
-/// Plans a link frame, which is in the slot afterwards. `macsec_plan_receive` of the header calls this with a frame that
-/// is not null.
+/// Plans a link frame, which is in the slot afterwards. `macsec_plan_receive` of the header calls this with a frame
+/// that is not null.
 #[unsafe(no_mangle)]
 pub extern "C" fn macsec_plan_receive_raw(
     e: &mut Endpoint,

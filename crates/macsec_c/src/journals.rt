@@ -5,23 +5,24 @@ ghost use Rattle.macsec_reserve.specs.Journal.{record_of};
 ghost use Rattle.macsec_journal.specs.Format.{file_of};
 ghost use Rattle.macsec_journal.specs.Machine.{for_endpoint};
 ghost use Rattle.macsec_c_journals.specs.Calls.{let_go, ordered};
-ghost use Rattle.macsec_c_calls.specs.Statuses.{done_status};
+ghost use Rattle.macsec_c_values.specs.Statuses.{done_status};
 ghost use Rattle.macsec_c.specs.Found.{found, status_of_found};
-ghost use Rattle.macsec_c.specs.HeldJournals.{BeginsHeld, answered_held, called_held, changed, durable_at, entry_at, filled_held, record_with};
+ghost use Rattle.macsec_c.specs.HeldJournals.{BeginsHeld, answered_held, called_held, changed, durable_at, entry_at};
+ghost use Rattle.macsec_c.specs.HeldJournals.{filled_held, record_with};
 
 use crate::journal::Journal;
 use crate::loose::Loose;
-use macsec_c_calls::{DONE, EMPTY, Record, TAKEN};
 use macsec_c_journals::{
     JournalCall, answer_call, begin_journal, let_go, order_records, show_call, show_durable,
     show_entry, status_of_begin_fault, write_for_endpoint,
 };
+use macsec_c_values::{DONE, EMPTY, Record, TAKEN};
 use macsec_journal::created;
 use macsec_reserve::Reservation;
 use std::alloc::Global;
 
-/// Begins with all octets of a file, which may have `limit` octets, in a handle without a journal. `macsec_journal_begin` of the
-/// header calls this with octets that are not null.
+/// Begins with all octets of a file, which may have `limit` octets, in a handle without a journal.
+/// `macsec_journal_begin` of the header calls this with octets that are not null.
 #[unsafe(no_mangle)]
 pub extern "C" fn macsec_journal_begin_raw(
     alloc: Global,
@@ -43,8 +44,8 @@ pub extern "C" fn macsec_journal_begin_raw(
     }
 }
 
-/// Orders that records be made durable; with `anew`, by replacing the file. `macsec_journal_order` of the header calls this with
-/// records that are not null.
+/// Orders that records be made durable; with `anew`, by replacing the file. `macsec_journal_order` of the header calls
+/// this with records that are not null.
 #[unsafe(no_mangle)]
 pub extern "C" fn macsec_journal_order_raw(j: &mut Journal, records: &[u8], anew: bool) -> u32
     ensures { (result, j.new.state) ≡ changed j.old.state (ordered records.now anew) }
@@ -55,8 +56,8 @@ pub extern "C" fn macsec_journal_order_raw(j: &mut Journal, records: &[u8], anew
     order_records(j.journal(), records, anew)
 }
 
-/// Shows the system call that is next, and writes what it writes to the start of a buffer. `macsec_journal_next` of the header
-/// calls this with a buffer that is not null.
+/// Shows the system call that is next, and writes what it writes to the start of a buffer. `macsec_journal_next` of the
+/// header calls this with a buffer that is not null.
 #[unsafe(no_mangle)]
 pub extern "C" fn macsec_journal_next_raw(
     j: &mut Journal,
@@ -123,8 +124,8 @@ pub extern "C" fn macsec_journal_let_go(j: &mut Journal, name: &[u8; 32]) -> u32
     let_go(j.journal(), name)
 }
 
-/// Writes to the start of a buffer what an endpoint is opened with. `macsec_journal_whole` of the header calls this with a buffer
-/// that is not null.
+/// Writes to the start of a buffer what an endpoint is opened with. `macsec_journal_whole` of the header calls this
+/// with a buffer that is not null.
 #[unsafe(no_mangle)]
 pub extern "C" fn macsec_journal_whole_raw(
     j: &mut Journal,
@@ -164,8 +165,8 @@ pub extern "C" fn macsec_journal_noted(name: &[u8; 32], number: u64, out: &mut R
     DONE
 }
 
-/// Frees the journal of a handle, if it holds one. Afterwards the handle holds none. `macsec_journal_free` of the header calls
-/// this, unless its handle is null.
+/// Frees the journal of a handle, if it holds one. Afterwards the handle holds none. `macsec_journal_free` of the
+/// header calls this, unless its handle is null.
 #[unsafe(no_mangle)]
 pub extern "C" fn macsec_journal_free_raw(alloc: Global, j: &mut Journal)
     ensures { j.new.state ≡ None }

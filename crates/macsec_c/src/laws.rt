@@ -2,7 +2,7 @@
 
 ghost use Rattle.std.specs.Prelude.{ℕ, List, Option};
 ghost use Rattle.macsec_ahead.specs.Ahead.{Ahead};
-ghost use Rattle.macsec_c_calls.specs.declared.rows.CommandRow.{CommandRow};
+ghost use Rattle.macsec_c_values.specs.declared.rows.CommandRow.{CommandRow};
 ghost use Rattle.macsec_c.specs.RowLaws.{CommandsParsed};
 
 /// A line that is parsed, and whose row is then carried out, is carried out as `macsec_command_line_raw` does: with the

@@ -1,5 +1,5 @@
 //! The endpoint for callers in C: a static library, whose header is `include/macsec.h`. An export refuses a handle
-//! without an endpoint, and leaves the rest to `macsec_c_calls` and `macsec_c_journals`.
+//! without an endpoint, and leaves the rest to `macsec_c_values`, `macsec_c_calls` and `macsec_c_journals`.
 //!
 //! Proved: each export creates or frees an endpoint, a key, a slot or a journal, does a job, or is one step of the
 //! machine of `macsec_ahead` or one reader of its state, for the arguments that C gave. Without a journal that is the
@@ -10,7 +10,7 @@
 //! unchanged. `macsec_configure_raw` creates the endpoint of a text's lines, as `parse_config` reads them, after the
 //! steps of all their commands, or none; `macsec_command_line_raw` is the step of a line's command
 //! (`specs/Texts.antt`). `macsec_parse_line_raw` gives the row of a line's command, which `macsec_carry_out` carries
-//! out as that call does (`specs/RowLaws.antt`, and `specs/Parsing.antt` of `macsec_c_calls`). `macsec_answer_raw`
+//! out as that call does (`specs/RowLaws.antt`, and `specs/Parsing.antt` of `macsec_c_values`). `macsec_answer_raw`
 //! gives the answer of `macsec_c_calls` to a line (`specs/Answering.antt`). A handle without an endpoint is refused
 //! first, then numbers and lengths that name nothing, with separate statuses. A returned frame is in the endpoint or is
 //! the caller's, and the endpoint's state after the borrow is known. A handle owns its endpoint: `macsec_free_raw`
@@ -25,7 +25,7 @@
 //! one step each of the machine of `macsec_journal`, or are refused and change nothing.
 //!
 //! `macsec_seal_raw` has no handle: it seals a frame for a test as `protect_in_place` would, whatever its SecTAG is
-//! (`specs/Sealing.antt` of `macsec_c_calls`).
+//! (`specs/Sealing.antt` of `macsec_c_values`).
 //!
 //! `macsec_prefer_wide` is not in the header: the library's own part in C calls it. It changes no state, and says how
 //! many blocks the cipher takes at once.

@@ -4,7 +4,7 @@ ghost use Rattle.macsec_c.specs.Answers.{LoadsHeld};
 
 use crate::endpoint::Endpoint;
 use macsec_c_calls::loading::load_rows;
-use macsec_c_calls::{CommandRow, EMPTY};
+use macsec_c_values::{CommandRow, EMPTY};
 use std::alloc::Global;
 
 /// Carries out the commands of all rows, or of none. Writes to `begins`, which has a number for each row, where the SA

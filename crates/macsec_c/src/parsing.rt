@@ -1,12 +1,13 @@
 //! The command or the configuration of a line as a struct, which the caller looks at before it is carried out.
 
 ghost use Rattle.std.specs.Prelude.{◌≡◌};
-ghost use Rattle.macsec_c_calls.specs.Parsing.{ParsesEnd, ParsesLine};
-ghost use Rattle.macsec_c_calls.specs.Rows.{command_of_row, no_row};
+ghost use Rattle.macsec_c_values.specs.Parsing.{ParsesEnd, ParsesLine};
+ghost use Rattle.macsec_c_values.specs.Rows.{command_of_row, no_row};
 ghost use Rattle.macsec_c.specs.Answers.{row_commanded};
 
 use crate::endpoint::Endpoint;
-use macsec_c_calls::{CommandRow, Config, EMPTY, carry_out_row, no_row, parse_command, parse_end};
+use macsec_c_calls::carry_out_row;
+use macsec_c_values::{CommandRow, Config, EMPTY, no_row, parse_command, parse_end};
 use std::alloc::Global;
 
 /// Parses a line into the row of its command at end A. A line that is skipped, or that has a fault, has the row of no

@@ -8,7 +8,8 @@ ghost use Rattle.macsec_c.specs.Answers.{after_input, received_parts};
 ghost use Rattle.macsec_c.specs.Lending.{RestsAs};
 
 use crate::endpoint::Endpoint;
-use macsec_c_calls::{EMPTY, Received, received_of, unreceived};
+use macsec_c_calls::{Received, received_of, unreceived};
+use macsec_c_values::EMPTY;
 
 /// Receives a link frame. The delivered frame borrows from the endpoint or is the caller's.
 fn reception<'a>(e: &'a mut Endpoint, frame: &'a [u8]) -> Received<'a>

@@ -4,16 +4,17 @@ ghost use Rattle.std.specs.Prelude.{◌≡◌, IfNone, IfSome};
 ghost use Rattle.macsec_reserve.specs.Journal.{header, record_of, reserved_in};
 ghost use Rattle.macsec_reserve.specs.Keeping.{tx_floor};
 ghost use Rattle.macsec_ahead.specs.Ahead.{floor_of};
-ghost use Rattle.macsec_c_calls.specs.Arguments.{an_of, key_number_of, sci_of};
-ghost use Rattle.macsec_c_calls.specs.Reserving.{Compacts, accepting_at, key_after, saved_at, wanted_at};
-ghost use Rattle.macsec_c_calls.specs.Statuses.{done_status};
+ghost use Rattle.macsec_c_values.specs.Arguments.{an_of, key_number_of, sci_of};
+ghost use Rattle.macsec_c_values.specs.Reservations.{Compacts, saved_at, wanted_at};
+ghost use Rattle.macsec_c_values.specs.Statuses.{done_status};
+ghost use Rattle.macsec_c_calls.specs.Reserving.{accepting_at, key_after};
 ghost use Rattle.macsec_c.specs.Answers.{reported};
 ghost use Rattle.macsec_c.specs.Found.{found_at, inside, status_of_an};
 
 use crate::endpoint::Endpoint;
-use macsec_c_calls::{
-    DONE, EMPTY, Record, note_durable, show_rx_floor, show_to_accept, show_to_save, show_tx_floor,
-    show_wanted, write_compacted,
+use macsec_c_calls::{note_durable, show_rx_floor, show_to_accept};
+use macsec_c_values::{
+    DONE, EMPTY, Record, show_to_save, show_tx_floor, show_wanted, write_compacted,
 };
 use macsec_reserve::header;
 use std::alloc::Global;
@@ -29,7 +30,8 @@ pub extern "C" fn macsec_reserve_wanted(
 ) -> u32
     ensures status { result ≡ status_of_an (inside e.old.state) (an_of an) (wanted_at amount) }
     ensures same { e.new.state ≡ e.old.state }
-    ensures shown { IfSome (found_at (inside e.old.state) (an_of an) (wanted_at amount)) (λ r. out.new.octets ≡ record_of r) }
+    ensures shown { IfSome (found_at (inside e.old.state) (an_of an) (wanted_at amount))
+        (λ r. out.new.octets ≡ record_of r) }
     ensures kept { IfNone (found_at (inside e.old.state) (an_of an) (wanted_at amount)) (out.new ≡ out.old) }
 {
     if !e.is_made() {
@@ -48,7 +50,8 @@ pub extern "C" fn macsec_reserve_to_save(
 ) -> u32
     ensures status { result ≡ status_of_an (inside e.old.state) (an_of an) (saved_at (sci_of sci.now)) }
     ensures same { e.new.state ≡ e.old.state }
-    ensures shown { IfSome (found_at (inside e.old.state) (an_of an) (saved_at (sci_of sci.now))) (λ r. out.new.octets ≡ record_of r) }
+    ensures shown { IfSome (found_at (inside e.old.state) (an_of an) (saved_at (sci_of sci.now)))
+        (λ r. out.new.octets ≡ record_of r) }
     ensures kept { IfNone (found_at (inside e.old.state) (an_of an) (saved_at (sci_of sci.now))) (out.new ≡ out.old) }
 {
     if !e.is_made() {
@@ -71,8 +74,8 @@ pub extern "C" fn macsec_reserve_tx_floor(e: &mut Endpoint, key: u16, out: &mut 
     show_tx_floor(e.held().keeper(), key, out)
 }
 
-/// Shows the record of the reservation that the receive SA with this SCI and AN needs next to accept up to `amount` packet
-/// numbers after its next one, or after `pn` if that is later, if fewer than half of them are reserved.
+/// Shows the record of the reservation that the receive SA with this SCI and AN needs next to accept up to `amount`
+/// packet numbers after its next one, or after `pn` if that is later, if fewer than half of them are reserved.
 #[unsafe(no_mangle)]
 pub extern "C" fn macsec_reserve_to_accept(
     e: &mut Endpoint,
@@ -84,8 +87,10 @@ pub extern "C" fn macsec_reserve_to_accept(
 ) -> u32
     ensures status { result ≡ status_of_an e.old.state (an_of an) (accepting_at (sci_of sci.now) amount pn) }
     ensures same { e.new.state ≡ e.old.state }
-    ensures shown { IfSome (found_at e.old.state (an_of an) (accepting_at (sci_of sci.now) amount pn)) (λ r. out.new.octets ≡ record_of r) }
-    ensures kept { IfNone (found_at e.old.state (an_of an) (accepting_at (sci_of sci.now) amount pn)) (out.new ≡ out.old) }
+    ensures shown { IfSome (found_at e.old.state (an_of an) (accepting_at (sci_of sci.now) amount pn))
+        (λ r. out.new.octets ≡ record_of r) }
+    ensures kept { IfNone (found_at e.old.state (an_of an) (accepting_at (sci_of sci.now) amount pn))
+        (out.new ≡ out.old) }
 {
     if !e.is_made() {
         return EMPTY;
@@ -93,8 +98,8 @@ pub extern "C" fn macsec_reserve_to_accept(
     show_to_accept(e.held(), sci, an, amount, pn, out)
 }
 
-/// Shows the highest packet number that an earlier run may have accepted, or this run before it deleted the SA, from the
-/// receive SA with this SCI and AN under the key of this number.
+/// Shows the highest packet number that an earlier run may have accepted, or this run before it deleted the SA, from
+/// the receive SA with this SCI and AN under the key of this number.
 #[unsafe(no_mangle)]
 pub extern "C" fn macsec_reserve_rx_floor(
     e: &mut Endpoint,
@@ -103,10 +108,13 @@ pub extern "C" fn macsec_reserve_rx_floor(
     key: u16,
     out: &mut u64,
 ) -> u32
-    ensures status { result ≡ status_of_an e.old.state (key_after (an_of an) (key_number_of key)) (floor_of (sci_of sci.now) an) }
+    ensures status { result ≡ status_of_an e.old.state (key_after (an_of an) (key_number_of key))
+        (floor_of (sci_of sci.now) an) }
     ensures same { e.new.state ≡ e.old.state }
-    ensures shown { IfSome (found_at e.old.state (key_after (an_of an) (key_number_of key)) (floor_of (sci_of sci.now) an)) (λ floor. out.new ≡ floor) }
-    ensures kept { IfNone (found_at e.old.state (key_after (an_of an) (key_number_of key)) (floor_of (sci_of sci.now) an)) (out.new ≡ out.old) }
+    ensures shown { IfSome (found_at e.old.state (key_after (an_of an) (key_number_of key))
+        (floor_of (sci_of sci.now) an)) (λ floor. out.new ≡ floor) }
+    ensures kept { IfNone (found_at e.old.state (key_after (an_of an) (key_number_of key))
+        (floor_of (sci_of sci.now) an)) (out.new ≡ out.old) }
 {
     if !e.is_made() {
         return EMPTY;

@@ -1,12 +1,13 @@
 //! Frames for tests: any SecTAG, with a valid ICV (IEEE 802.1AE, 10.5 and 14.5 to 14.8).
 
 ghost use Rattle.std.specs.Prelude.{◌≡◌};
-ghost use Rattle.macsec_c_calls.specs.Arguments.{sci_of};
-ghost use Rattle.macsec_c_calls.specs.Sealing.{sealed};
+ghost use Rattle.macsec_c_values.specs.Arguments.{sci_of};
+ghost use Rattle.macsec_c_values.specs.Sealing.{sealed};
 
-use macsec_c_calls::{Sak, seal};
+use macsec_c_values::{Sak, seal};
 
-/// Seals a frame in place, whatever its SecTAG is. `macsec_seal` of the header calls this with a frame that is not null.
+/// Seals a frame in place, whatever its SecTAG is. `macsec_seal` of the header calls this with a frame that is not
+/// null.
 ///
 /// No contract prevents a caller from using an IV twice under a key.
 #[unsafe(no_mangle)]

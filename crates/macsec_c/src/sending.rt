@@ -3,12 +3,12 @@
 ghost use Rattle.std.specs.Prelude.{◌≡◌};
 ghost use Rattle.std.specs.Borrow.{sem};
 ghost use Rattle.macsec_secy.specs.Step.{client_frame, uncontrolled_frame};
-ghost use Rattle.macsec_c_calls.specs.SentParts.{parts_of_sent};
+ghost use Rattle.macsec_c_values.specs.SentParts.{parts_of_sent};
 ghost use Rattle.macsec_c.specs.Answers.{after_input, sent_parts, status_held};
 ghost use Rattle.macsec_c.specs.Lending.{RestsAs};
 
 use crate::endpoint::Endpoint;
-use macsec_c_calls::{DONE, EMPTY, FATE_NONE, Sent, sent_of, status_of_frame_fault, unsent};
+use macsec_c_values::{DONE, EMPTY, FATE_NONE, Sent, sent_of, status_of_frame_fault, unsent};
 
 /// Sends a client frame. The frame that leaves borrows from the endpoint or is the caller's.
 fn fate_of<'a>(e: &'a mut Endpoint, frame: &'a [u8]) -> Sent<'a>
@@ -37,8 +37,8 @@ pub extern "C" fn macsec_send_raw<'a>(
     out.status
 }
 
-/// Transmits a client frame of the uncontrolled port unchanged. `macsec_send_uncontrolled` of the header calls this with
-/// a frame that is not null.
+/// Transmits a client frame of the uncontrolled port unchanged. `macsec_send_uncontrolled` of the header calls this
+/// with a frame that is not null.
 #[unsafe(no_mangle)]
 pub extern "C" fn macsec_send_uncontrolled_raw(e: &mut Endpoint, frame: &[u8]) -> u32
     ensures status { result ≡ status_held e.old.state (uncontrolled_frame frame.now) }

@@ -5,12 +5,13 @@ ghost use Rattle.macsec_suite.specs.KeyNumbers.{max_key_count};
 ghost use Rattle.macsec_tx.specs.Transmit.{tx_row};
 ghost use Rattle.macsec_rx.specs.Channels.{rx_row};
 ghost use Rattle.macsec_secy.specs.Answers.{rx_counters_of, rx_removed_of, rx_sa_counters_of};
-ghost use Rattle.macsec_c_calls.specs.Arguments.{an_of, sci_of};
-ghost use Rattle.macsec_c_calls.specs.Shown.{counters_shown, options_shown, rx_counters_shown, rx_row_shown, tx_counters_shown, tx_row_shown};
+ghost use Rattle.macsec_c_values.specs.Arguments.{an_of, sci_of};
+ghost use Rattle.macsec_c_values.specs.Shown.{counters_shown, options_shown, rx_counters_shown, rx_row_shown};
+ghost use Rattle.macsec_c_values.specs.Shown.{tx_counters_shown, tx_row_shown};
 ghost use Rattle.macsec_c.specs.Found.{found, found_at, inside, status_of_an, status_of_found};
 
 use crate::endpoint::Endpoint;
-use macsec_c_calls::{
+use macsec_c_values::{
     CountersShown, DONE, EMPTY, OptionsShown, RxCountersShown, RxRowShown, TxCountersShown,
     TxRowShown, counters_shown, options_shown, show_removed_counters, show_rx_counters, show_rx_sa,
     show_rx_sa_counters, show_rx_sc, show_tx_sa, tx_counters_shown,
@@ -83,10 +84,13 @@ pub extern "C" fn macsec_get_rx_counters(
     sci: &[u8; 8],
     out: &mut RxCountersShown,
 ) -> u32
-    ensures status { result ≡ status_of_found (inside e.old.state) (λ k. rx_counters_of k.secy.rx_counters (sci_of sci.now)) }
+    ensures status { result ≡ status_of_found (inside e.old.state)
+        (λ k. rx_counters_of k.secy.rx_counters (sci_of sci.now)) }
     ensures same { e.new.state ≡ e.old.state }
-    ensures shown { IfSome (found (inside e.old.state) (λ k. rx_counters_of k.secy.rx_counters (sci_of sci.now))) (λ c. out.new ≡ rx_counters_shown c) }
-    ensures kept { IfNone (found (inside e.old.state) (λ k. rx_counters_of k.secy.rx_counters (sci_of sci.now))) (out.new ≡ out.old) }
+    ensures shown { IfSome (found (inside e.old.state) (λ k. rx_counters_of k.secy.rx_counters (sci_of sci.now)))
+        (λ c. out.new ≡ rx_counters_shown c) }
+    ensures kept { IfNone (found (inside e.old.state) (λ k. rx_counters_of k.secy.rx_counters (sci_of sci.now)))
+        (out.new ≡ out.old) }
 {
     if !e.is_made() {
         return EMPTY;
@@ -102,10 +106,13 @@ pub extern "C" fn macsec_get_rx_sa_counters(
     an: u8,
     out: &mut RxCountersShown,
 ) -> u32
-    ensures status { result ≡ status_of_an (inside e.old.state) (an_of an) (λ k n. rx_sa_counters_of k.secy.rx_counters (sci_of sci.now) n) }
+    ensures status { result ≡ status_of_an (inside e.old.state) (an_of an)
+        (λ k n. rx_sa_counters_of k.secy.rx_counters (sci_of sci.now) n) }
     ensures same { e.new.state ≡ e.old.state }
-    ensures shown { IfSome (found_at (inside e.old.state) (an_of an) (λ k n. rx_sa_counters_of k.secy.rx_counters (sci_of sci.now) n)) (λ c. out.new ≡ rx_counters_shown c) }
-    ensures kept { IfNone (found_at (inside e.old.state) (an_of an) (λ k n. rx_sa_counters_of k.secy.rx_counters (sci_of sci.now) n)) (out.new ≡ out.old) }
+    ensures shown { IfSome (found_at (inside e.old.state) (an_of an)
+        (λ k n. rx_sa_counters_of k.secy.rx_counters (sci_of sci.now) n)) (λ c. out.new ≡ rx_counters_shown c) }
+    ensures kept { IfNone (found_at (inside e.old.state) (an_of an)
+        (λ k n. rx_sa_counters_of k.secy.rx_counters (sci_of sci.now) n)) (out.new ≡ out.old) }
 {
     if !e.is_made() {
         return EMPTY;
@@ -120,10 +127,13 @@ pub extern "C" fn macsec_get_removed_counters(
     sci: &[u8; 8],
     out: &mut RxCountersShown,
 ) -> u32
-    ensures status { result ≡ status_of_found (inside e.old.state) (λ k. rx_removed_of k.secy.rx_counters (sci_of sci.now)) }
+    ensures status { result ≡ status_of_found (inside e.old.state)
+        (λ k. rx_removed_of k.secy.rx_counters (sci_of sci.now)) }
     ensures same { e.new.state ≡ e.old.state }
-    ensures shown { IfSome (found (inside e.old.state) (λ k. rx_removed_of k.secy.rx_counters (sci_of sci.now))) (λ c. out.new ≡ rx_counters_shown c) }
-    ensures kept { IfNone (found (inside e.old.state) (λ k. rx_removed_of k.secy.rx_counters (sci_of sci.now))) (out.new ≡ out.old) }
+    ensures shown { IfSome (found (inside e.old.state) (λ k. rx_removed_of k.secy.rx_counters (sci_of sci.now)))
+        (λ c. out.new ≡ rx_counters_shown c) }
+    ensures kept { IfNone (found (inside e.old.state) (λ k. rx_removed_of k.secy.rx_counters (sci_of sci.now)))
+        (out.new ≡ out.old) }
 {
     if !e.is_made() {
         return EMPTY;
@@ -136,7 +146,8 @@ pub extern "C" fn macsec_get_removed_counters(
 pub extern "C" fn macsec_get_rx_sc(e: &mut Endpoint, place: usize, out: &mut [u8; 8]) -> u32
     ensures status { result ≡ status_of_found (inside e.old.state) (λ k. slice_get k.secy.rx.scis place) }
     ensures same { e.new.state ≡ e.old.state }
-    ensures shown { IfSome (found (inside e.old.state) (λ k. slice_get k.secy.rx.scis place)) (λ sci. sci_of out.new ≡ sci) }
+    ensures shown { IfSome (found (inside e.old.state) (λ k. slice_get k.secy.rx.scis place))
+        (λ sci. sci_of out.new ≡ sci) }
     ensures kept { IfNone (found (inside e.old.state) (λ k. slice_get k.secy.rx.scis place)) (out.new ≡ out.old) }
 {
     if !e.is_made() {
@@ -150,7 +161,8 @@ pub extern "C" fn macsec_get_rx_sc(e: &mut Endpoint, place: usize, out: &mut [u8
 pub extern "C" fn macsec_get_tx_sa(e: &mut Endpoint, an: u8, out: &mut TxRowShown) -> u32
     ensures status { result ≡ status_of_an (inside e.old.state) (an_of an) (λ k n. tx_row k.secy.tx n) }
     ensures same { e.new.state ≡ e.old.state }
-    ensures shown { IfSome (found_at (inside e.old.state) (an_of an) (λ k n. tx_row k.secy.tx n)) (λ row. out.new ≡ tx_row_shown row) }
+    ensures shown { IfSome (found_at (inside e.old.state) (an_of an) (λ k n. tx_row k.secy.tx n))
+        (λ row. out.new ≡ tx_row_shown row) }
     ensures kept { IfNone (found_at (inside e.old.state) (an_of an) (λ k n. tx_row k.secy.tx n)) (out.new ≡ out.old) }
 {
     if !e.is_made() {
@@ -167,10 +179,13 @@ pub extern "C" fn macsec_get_rx_sa(
     an: u8,
     out: &mut RxRowShown,
 ) -> u32
-    ensures status { result ≡ status_of_an (inside e.old.state) (an_of an) (λ k n. rx_row k.secy.rx.rows (sci_of sci.now) n) }
+    ensures status { result ≡ status_of_an (inside e.old.state) (an_of an)
+        (λ k n. rx_row k.secy.rx.rows (sci_of sci.now) n) }
     ensures same { e.new.state ≡ e.old.state }
-    ensures shown { IfSome (found_at (inside e.old.state) (an_of an) (λ k n. rx_row k.secy.rx.rows (sci_of sci.now) n)) (λ row. out.new ≡ rx_row_shown row) }
-    ensures kept { IfNone (found_at (inside e.old.state) (an_of an) (λ k n. rx_row k.secy.rx.rows (sci_of sci.now) n)) (out.new ≡ out.old) }
+    ensures shown { IfSome (found_at (inside e.old.state) (an_of an) (λ k n. rx_row k.secy.rx.rows (sci_of sci.now) n))
+        (λ row. out.new ≡ rx_row_shown row) }
+    ensures kept { IfNone (found_at (inside e.old.state) (an_of an) (λ k n. rx_row k.secy.rx.rows (sci_of sci.now) n))
+        (out.new ≡ out.old) }
 {
     if !e.is_made() {
         return EMPTY;

@@ -10,11 +10,11 @@ use Rattle.{
     Slots.{SlotState, frame_planned, is_idle, is_opening, is_sealing},
     declared.answers.SendPlan.SendPlan,
   },
+  macsec_c_values.specs.{SentParts.SentParts, Statuses.{job_status, space_status}},
   macsec_c_calls.specs.{
     Jobs.{FinishesIf, IsFinished, IsPlanned, IsUnfinished, PlansIf, TakesIf, TakesUnless, planned_as, planned_for},
     Jobs.{sent_by, taken_as, unplanned},
-    SentParts.{SentParts, parts_of_ahead as sent_of},
-    Statuses.{job_status, space_status},
+    SentAhead.{parts_of_ahead as sent_of},
     declared.jobs.{Finished.Finished, Planned.Planned},
   },
 }

@@ -7,13 +7,11 @@ use Rattle.{
     TheVariants.{Count, Ends, Hex, LineLong, Memory, Number, Word},
   },
   macsec_ahead.specs.Ahead.Ahead,
+  macsec_c_values.specs.{Rows.no_row, Statuses.status_of_line_fault, declared.rows.CommandRow.CommandRow},
   macsec_c_calls.specs.{
-    Parsing.{parsed_commanded, row_commanded},
-    RowLaws.CommandsParsed,
-    Rows.no_row,
-    Statuses.status_of_line_fault,
+    Commands.row_commanded,
+    RowLaws.{CommandsParsed, parsed_commanded},
     Texts.line_commanded,
-    declared.rows.CommandRow.CommandRow,
   },
 }
 

@@ -20,9 +20,9 @@ use Rattle.macsec_script_printer.specs.declared.counters.Label.TheVariants as la
 use Rattle.macsec_script_printer.specs.Counters.{counters_text}
 use Rattle.macsec_script_printer.specs.Numbers.{numbers_text}
 use Rattle.macsec_script_printer.specs.OneEnd.{command_text}
+use Rattle.macsec_c_values.specs.Statuses.{answer_long_status, done_status, status_of_line_fault}
 use Rattle.macsec_c_calls.specs.declared.answering.Ending.{Ending}
 use Rattle.macsec_c_calls.specs.declared.answering.Ending.TheVariants.{Done, Refused, Wrong, TooLong}
-use Rattle.macsec_c_calls.specs.Statuses.{answer_long_status, done_status, status_of_line_fault}
 
 pub record Answer : Type 0 where
   pub ending : Ending

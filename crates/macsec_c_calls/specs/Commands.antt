@@ -10,9 +10,9 @@ use Rattle.macsec_reserve.specs.Keeping.{KeepingOutput, dropped_no_reservation, 
 use Rattle.macsec_reserve.specs.Renewing.{forgetting_refusal}
 use Rattle.macsec_ahead.specs.Ahead.{Ahead, AheadOutput, dropped_before_this_run, dropped_not_reserved, kept}
 use Rattle.macsec_ahead.specs.Renewing.{ahead_after_renewing, command_renewing}
-use Rattle.macsec_c_calls.specs.Arguments.{Named}
-use Rattle.macsec_c_calls.specs.Statuses.{done_status, status_of_argument_fault, status_of_frame_fault}
-use Rattle.macsec_c_calls.specs.Statuses.{status_of_new_fault}
+use Rattle.macsec_c_values.specs.Arguments.{Named}
+use Rattle.macsec_c_values.specs.Statuses.{done_status, status_of_argument_fault, status_of_frame_fault}
+use Rattle.macsec_c_values.specs.Statuses.{status_of_new_fault}
 
 -- the status for an output of the machine
 abbrev pub status_of : Output → ℕ
@@ -40,6 +40,12 @@ commanded e (Err f) = (status_of_argument_fault f, e)
 commanded e (Ok c) =
     let after = command_renewing e c in
     (status_of_ahead after.0, after.1)
+
+-- the status of a row's command, and the endpoint after it; the row of no command changes nothing
+abbrev pub row_commanded : Ahead → Named (Option Command) → ℕ × Ahead
+row_commanded e (Ok None) = (done_status, e)
+row_commanded e (Ok (Some c)) = commanded e (Ok c)
+row_commanded e (Err f) = commanded e (Err f)
 
 -- ---- a key that may take the row of a retired one
 

@@ -11,18 +11,19 @@ use Rattle.macsec_ahead.specs.Ahead.{Ahead, ahead_step}
 use Rattle.macsec_jobs.specs.declared.answers.SendPlan.{SendPlan}
 use Rattle.macsec_jobs.specs.declared.answers.SendPlan.TheVariants as plan
 use Rattle.macsec_jobs.specs.declared.job_fault.JobFault.{JobFault}
+use Rattle.macsec_jobs.specs.declared.job_fault.JobFault.TheVariants as fault
 use Rattle.macsec_jobs.specs.declared.planned_key.PlannedKey.{PlannedKey}
 use Rattle.macsec_jobs.specs.Answers.{PlansWork}
 use Rattle.macsec_jobs.specs.Slots.{SlotState, frame_planned, is_idle, is_opening, is_received, is_sealing, open_fault}
 use Rattle.macsec_jobs.specs.Slots.{seal_fault}
+use Rattle.macsec_c_values.specs.SentParts.{SentParts}
+use Rattle.macsec_c_values.specs.Statuses.{done_status, job_status, other_key_status, space_status}
+use Rattle.macsec_c_values.specs.Statuses.{status_of_frame_fault}
 use Rattle.macsec_c_calls.specs.declared.jobs.Finished.{Finished}
 use Rattle.macsec_c_calls.specs.declared.jobs.Planned.{Planned}
 use Rattle.macsec_c_calls.specs.ReceivedParts.{ReceivedParts, unreceived}
 use Rattle.macsec_c_calls.specs.ReceivedParts.{parts_of_ahead as received_of}
-use Rattle.macsec_c_calls.specs.SentParts.{SentParts}
-use Rattle.macsec_c_calls.specs.SentParts.{parts_of_ahead as sent_of}
-use Rattle.macsec_c_calls.specs.Statuses.{done_status, job_status, space_status, status_of_frame_fault}
-use Rattle.macsec_c_calls.specs.Statuses.{status_of_job_fault}
+use Rattle.macsec_c_calls.specs.SentAhead.{parts_of_ahead as sent_of}
 
 -- ---- plans
 
@@ -98,6 +99,11 @@ abbrev pub PlansToReceive : Ahead → SlotState → List ℕ → Planned → Slo
 PlansToReceive e s frame result left = TakesIf (is_idle s.work) e s frame result left
 
 -- ---- jobs
+
+abbrev pub status_of_job_fault : JobFault → ℕ
+status_of_job_fault fault.NoJob = job_status
+status_of_job_fault fault.OtherKey = other_key_status
+status_of_job_fault fault.Space = space_status
 
 -- the protected frame is at the start of the buffer, what is behind it stays, and the slot has no frame; or nothing
 -- changes, and the status says why

@@ -8,12 +8,12 @@ use Rattle.macsec_commands.specs.declared.command.Command.{Command}
 use Rattle.macsec_commands.specs.declared.fault.NewFault.TheVariants.{Memory}
 use Rattle.macsec_ahead.specs.Ahead.{Ahead}
 use Rattle.macsec_ahead.specs.Loading.{after_all, beginning_at, begins_of, first_refused, key_in, loaded}
-use Rattle.macsec_c_calls.specs.declared.arguments.ArgumentFault.{ArgumentFault}
-use Rattle.macsec_c_calls.specs.declared.rows.CommandRow.{CommandRow}
-use Rattle.macsec_c_calls.specs.Arguments.{Named}
+use Rattle.macsec_c_values.specs.declared.arguments.ArgumentFault.{ArgumentFault}
+use Rattle.macsec_c_values.specs.declared.rows.CommandRow.{CommandRow}
+use Rattle.macsec_c_values.specs.Arguments.{Named}
+use Rattle.macsec_c_values.specs.Rows.{command_of_row}
+use Rattle.macsec_c_values.specs.Statuses.{done_status, space_status, status_of_argument_fault, status_of_new_fault}
 use Rattle.macsec_c_calls.specs.GivenUp.{Call, after_calls, command, renewal}
-use Rattle.macsec_c_calls.specs.Rows.{command_of_row}
-use Rattle.macsec_c_calls.specs.Statuses.{done_status, space_status, status_of_argument_fault, status_of_new_fault}
 
 -- the first row that means no command, by its place, the first of which is `i`; and why
 abbrev pub fault_at : ℕ → Named (Option Command) → Option (ℕ × ArgumentFault) → Option (ℕ × ArgumentFault)

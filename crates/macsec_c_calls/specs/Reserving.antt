@@ -1,61 +1,26 @@
--- What the calls for reservations return.
-use Rattle.std.specs.Prelude.{◌≡◌, ℕ, List, [], ◌∷◌, ◌++◌, drop, length, max, true, false, Option, Some, None, option_and_then, option_map, Ok, Err}
-use Rattle.macsec_commands.specs.declared.fault.NewFault.TheVariants.{Memory}
+-- What the calls for reservations return that need an endpoint which can reserve ahead of receiving.
+use Rattle.std.specs.Prelude.{ℕ, List, [], ◌∷◌, max, Option, option_and_then, Ok, Err}
 use Rattle.macsec_tag.specs.declared.identifiers.Sci.{Sci}
-use Rattle.macsec_tx.specs.Transmit.{tx_row}
 use Rattle.macsec_rx.specs.Channels.{rx_row}
-use Rattle.macsec_reserve.specs.declared.compaction.CompactFault.{CompactFault}
-use Rattle.macsec_reserve.specs.declared.compaction.CompactFault.TheVariants as compact
 use Rattle.macsec_reserve.specs.declared.reservation.Reservation.{Reservation}
-use Rattle.macsec_reserve.specs.Compaction.{compacted}
-use Rattle.macsec_reserve.specs.Journal.{is_journal}
-use Rattle.macsec_reserve.specs.Keeping.{Keeping, now_durable, wanted_for}
-use Rattle.macsec_reserve.specs.Replay.{saved_for}
+use Rattle.macsec_reserve.specs.Keeping.{now_durable}
 use Rattle.macsec_ahead.specs.Ahead.{Ahead, ahead_step, wanted_to_accept}
-use Rattle.macsec_c_calls.specs.Arguments.{Named}
-use Rattle.macsec_c_calls.specs.Statuses.{done_status, not_journal_status, not_record_status, status_of_new_fault}
-
--- the reservation that the transmit SA of this number needs next, if it exists and needs one
-abbrev pub wanted_at : ℕ → Keeping → ℕ → Option Reservation
-wanted_at amount k an = option_and_then (wanted_for k amount) (tx_row k.secy.tx an)
-
--- what is to be saved of the receive SA of this SCI and number, if it exists
-abbrev pub saved_at : Sci → Keeping → ℕ → Option Reservation
-saved_at sci k an = option_map (saved_for k.salt k.secy) (rx_row k.secy.rx.rows sci an)
+use Rattle.macsec_c_values.specs.Arguments.{Named}
+use Rattle.macsec_c_values.specs.Statuses.{done_status, not_record_status}
 
 -- the reservation that the receive SA of this SCI and number needs next to accept up to `amount` packet numbers, if it
 -- exists and needs one: after its own next packet number, or after the number of a dropped frame if this is higher
 abbrev pub accepting_at : Sci → ℕ → ℕ → Ahead → ℕ → Option Reservation
-accepting_at sci amount pn e an = option_and_then (λ row. wanted_to_accept e amount (max row.next pn) row) (rx_row e.k.secy.rx.rows sci an)
+accepting_at sci amount pn e an =
+    option_and_then (λ row. wanted_to_accept e amount (max row.next pn) row) (rx_row e.k.secy.rx.rows sci an)
 
 -- a key number after an AN: the fault of the AN comes first
 abbrev pub key_after : Named ℕ → Named ℕ → Named ℕ
 key_after (Ok an) key = key
 key_after (Err f) key = Err f
 
--- the status of a report that what some octets reserve is durable, and the endpoint after it: nothing changes if the octets
--- are no record
+-- the status of a report that what some octets reserve is durable, and the endpoint after it: nothing changes if the
+-- octets are no record
 abbrev pub reported : Ahead → List Reservation → ℕ × Ahead
 reported e [] = (not_record_status, e)
 reported e (r ∷ more) = (done_status, (ahead_step e (now_durable r)).1)
-
--- the octets of a buffer, and the number of those that a call has written
-abbrev pub Written : Type 0
-Written = List ℕ × ℕ
-
--- a buffer that begins with these octets and is else as before
-abbrev pub begun_with : List ℕ → List ℕ → Written
-begun_with octets before = (octets ++ drop (length octets) before, length octets)
-
--- the status of shortening a journal, and what is written: the shorter journal, or nothing. Where memory or the buffer is
--- too small for it, that is `Memory`
-abbrev pub CompactsWith : Option CompactFault → List ℕ → Written → ℕ → Written → Type 0
-CompactsWith None journal before status after =
-    (is_journal journal ≡ true) × (status ≡ done_status) × (after ≡ begun_with (compacted journal) before.0)
-CompactsWith (Some compact.NotJournal) journal before status after =
-    (is_journal journal ≡ false) × (status ≡ not_journal_status) × (after ≡ before)
-CompactsWith (Some compact.Memory) journal before status after =
-    (is_journal journal ≡ true) × (status ≡ status_of_new_fault Memory) × (after ≡ before)
-
-abbrev pub Compacts : List ℕ → Written → ℕ → Written → Type 0
-Compacts journal before status after = (fault : Option CompactFault) × CompactsWith fault journal before status after

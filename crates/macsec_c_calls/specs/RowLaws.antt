@@ -1,15 +1,16 @@
--- The statements about rows of commands.
-use Rattle.std.specs.Prelude.{◌≡◌, ℕ, List, Some, Ok}
-use Rattle.macsec_commands.specs.declared.command.Command.{Command}
+-- The statement about rows that are carried out.
+use Rattle.std.specs.Prelude.{ℕ, List, nat_eq, if◌then◌else◌}
 use Rattle.macsec_ahead.specs.Ahead.{Ahead}
-use Rattle.macsec_c_calls.specs.declared.rows.CommandRow.{CommandRow}
-use Rattle.macsec_c_calls.specs.Parsing.{ParsesLine, parsed_commanded}
-use Rattle.macsec_c_calls.specs.Rows.{IsCommand, command_of_row, row_of}
+use Rattle.macsec_c_values.specs.declared.rows.CommandRow.{CommandRow}
+use Rattle.macsec_c_values.specs.Parsing.{ParsesLine}
+use Rattle.macsec_c_values.specs.Rows.{command_of_row}
+use Rattle.macsec_c_values.specs.Statuses.{done_status}
+use Rattle.macsec_c_calls.specs.Commands.{row_commanded}
 use Rattle.macsec_c_calls.specs.Texts.{CommandsLine}
 
--- the row of a command means this command
-abbrev pub MeansCommand : Command → Type 0
-MeansCommand c = IsCommand c → command_of_row (row_of (Some c)) ≡ Ok (Some c)
+-- the status of a line that was parsed, and the endpoint after its row is carried out
+abbrev pub parsed_commanded : Ahead → ℕ → CommandRow → ℕ × Ahead
+parsed_commanded e status row = if nat_eq status done_status then row_commanded e (command_of_row row) else (status, e)
 
 -- a line that is parsed, and whose row is then carried out, is carried out as a line
 abbrev pub CommandsParsed : Ahead → List ℕ → ℕ → CommandRow → Type 0

@@ -6,13 +6,14 @@ use Rattle.macsec_suite.specs.KeyRows.{InstalledKey, no_key, prepared_key}
 use Rattle.macsec_suite.specs.RefusalNumbers.{number_of_refusal}
 use Rattle.macsec_jobs.specs.declared.planned_key.PlannedKey.{PlannedKey}
 use Rattle.macsec_jobs.specs.PlannedKeys.{key_of, take_refusal}
-use Rattle.macsec_c_calls.specs.Statuses.{done_status, status_of_new_fault}
+use Rattle.macsec_c_values.specs.Statuses.{done_status, status_of_new_fault}
 
--- the status of taking the key of a row, if there is one, and the key: the refusal, or the key as it is installed, or out of
--- memory
+-- the status of taking the key of a row, if there is one, and the key: the refusal, or the key as it is installed, or
+-- out of memory
 abbrev pub TakesUnless : Option Refusal → Option InstalledKey → ℕ → ℕ → Option PlannedKey → Type 0
 TakesUnless (Some r) found n status after = (status ≡ number_of_refusal r) × (after ≡ None)
-TakesUnless None found n status (Some key) = (status ≡ done_status) × (key.number ≡ n) × (key_of key ≡ prepared_key (unwrap_or found no_key))
+TakesUnless None found n status (Some key) =
+    (status ≡ done_status) × (key.number ≡ n) × (key_of key ≡ prepared_key (unwrap_or found no_key))
 TakesUnless None found n status None = status ≡ status_of_new_fault Memory
 
 abbrev pub TakesKey : Option InstalledKey → ℕ → ℕ → Option PlannedKey → Type 0

@@ -3,20 +3,14 @@ use Rattle.std.specs.Prelude.{◌≡◌, ℕ, Bool, true, false, List, [], ◌�
 use Rattle.macsec_suite.specs.RefusalNumbers.{number_of_refusal}
 use Rattle.macsec_commands.specs.declared.command.Command.{Command}
 use Rattle.macsec_commands.specs.declared.config.EndConfig.{EndConfig}
-use Rattle.macsec_commands.specs.declared.event.End.TheVariants.{A}
-use Rattle.macsec_commands.specs.declared.event.Event.TheVariants as event
 use Rattle.macsec_commands.specs.declared.fault.NewFault.{NewFault}
 use Rattle.macsec_commands.specs.declared.fault.NewFault.TheVariants as new
 use Rattle.macsec_commands.specs.Configs.{config_fault}
-use Rattle.macsec_script_parser.specs.declared.lines.Line.{Line}
-use Rattle.macsec_script_parser.specs.declared.lines.Line.TheVariants as line
-use Rattle.macsec_script_parser.specs.declared.lines.Action.TheVariants as action
 use Rattle.macsec_script_parser.specs.declared.lines.LineFault.{LineFault}
-use Rattle.macsec_script_parser.specs.declared.lines.LineFault.TheVariants.{Ends}
 use Rattle.macsec_script_parser.specs.declared.faults.ScriptFault.{ScriptFault}
 use Rattle.macsec_script_parser.specs.declared.faults.ScriptFault.TheVariants as script
 use Rattle.macsec_script_parser.specs.Faults.{fault_line}
-use Rattle.macsec_script_parser.specs.Kinds.{and_then, line_of}
+use Rattle.macsec_script_parser.specs.Kinds.{and_then}
 use Rattle.macsec_script_parser.specs.Readings.{Reads}
 use Rattle.macsec_script_parser.specs.Parts.{ConfigParts, NumberedCommand}
 use Rattle.macsec_script_parser.specs.Scripts.{config_of}
@@ -25,16 +19,14 @@ use Rattle.macsec_reserve.specs.declared.keeper.OpenFault.{OpenFault}
 use Rattle.macsec_reserve.specs.declared.keeper.OpenFault.TheVariants as open_fault
 use Rattle.macsec_reserve.specs.Journal.{is_journal}
 use Rattle.macsec_reserve.specs.Keeping.{KeepingOutput, dropped_no_reservation, endpoint_output, noted}
-use Rattle.macsec_ahead.specs.Ahead.{Ahead, AheadOutput, alone_with, command_forgetting, dropped_before_this_run, dropped_not_reserved, kept, opened_with}
+use Rattle.macsec_ahead.specs.Ahead.{Ahead, AheadOutput, alone_with, command_forgetting, dropped_before_this_run}
+use Rattle.macsec_ahead.specs.Ahead.{dropped_not_reserved, kept, opened_with}
+use Rattle.macsec_c_values.specs.Parsing.{line_command}
+use Rattle.macsec_c_values.specs.Statuses.{done_status, not_journal_status, status_of_line_fault, status_of_new_fault}
+use Rattle.macsec_c_values.specs.Statuses.{status_of_script_fault}
 use Rattle.macsec_c_calls.specs.declared.configuring.ConfigFault.{ConfigFault}
 use Rattle.macsec_c_calls.specs.declared.configuring.ConfigFault.TheVariants.{Text, New, NotJournal, Refused}
 use Rattle.macsec_c_calls.specs.Commands.{commanded}
-use Rattle.macsec_c_calls.specs.Statuses.{done_status, not_journal_status, status_of_line_fault, status_of_new_fault, status_of_script_fault}
-
--- the command of a line, if it is a command at end A
-abbrev pub command_of : Line → Option Command
-command_of (line.Action (action.Event (event.Command A command))) = Some command
-command_of other = None
 
 -- ---- a configuration
 
@@ -131,18 +123,6 @@ report_of f = (status_of_config_fault f, line_of_config_fault f)
 
 -- ---- a line
 
--- the command of a line, or none if the line is skipped; `Ends` if the line is not a command at end A
-abbrev pub only_command : Option Command → Result (Option Command) LineFault
-only_command None = Err Ends
-only_command (Some c) = Ok (Some c)
-
-abbrev pub command_of_parsed : Option Line → Result (Option Command) LineFault
-command_of_parsed None = Ok None
-command_of_parsed (Some line) = only_command (command_of line)
-
-abbrev pub line_command : List ℕ → Result (Option Command) LineFault
-line_command text = and_then (line_of text) command_of_parsed
-
 -- the status of a line that was read, and the endpoint after it
 abbrev pub line_commanded : Ahead → Result (Option Command) LineFault → ℕ × Ahead
 line_commanded e (Ok (Some c)) = commanded e (Ok c)
@@ -152,4 +132,5 @@ line_commanded e (Err f) = (status_of_line_fault f, e)
 -- the line is read, unless memory runs out, and then carried out
 abbrev pub CommandsLine : Ahead → List ℕ → ℕ → Ahead → Type 0
 CommandsLine e text status after =
-    (read : Result (Option Command) LineFault) × Reads (line_command text) read × ((status, after) ≡ line_commanded e read)
+    (read : Result (Option Command) LineFault) × Reads (line_command text) read
+    × ((status, after) ≡ line_commanded e read)

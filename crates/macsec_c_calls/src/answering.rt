@@ -6,12 +6,13 @@ ghost use Rattle.macsec_ahead.specs.Ahead.{Ahead};
 ghost use Rattle.macsec_script_parser.specs.Kinds.{tells};
 ghost use Rattle.macsec_secy.specs.Answers.{output_of_command};
 ghost use Rattle.macsec_c_calls.specs.declared.answering.Ending.TheVariants.{Wrong};
-ghost use Rattle.macsec_c_calls.specs.Answers.{Answer, answer_of_line, ending_of_output, shown, status_of_ending, wrong};
+ghost use Rattle.macsec_c_calls.specs.Answers.{Answer, answer_of_line, ending_of_output, shown, status_of_ending};
+ghost use Rattle.macsec_c_calls.specs.Answers.{wrong};
 ghost use Rattle.macsec_c_calls.specs.Writing.{Answers, Writes, is_answered, min_answer_len};
 
-use crate::texts::{command_text, counters_text, fault_text, numbers_text};
-use crate::{ANSWER_LONG, DONE, status_of_line_fault};
 use macsec_ahead::AheadKeeper;
+use macsec_c_values::texts::{command_text, counters_text, fault_text, numbers_text};
+use macsec_c_values::{ANSWER_LONG, DONE, status_of_line_fault};
 use macsec_commands::{Command, End, Event};
 use macsec_script_parser::{Action, Line, LineFault, ScriptFault, parse_line};
 use macsec_secy::Refusal;
@@ -104,7 +105,8 @@ fn answer_line(
 
 /// Answers a management command of line `n`.
 fn answer_command(endpoint: &mut AheadKeeper, n: u32, command: &Command, out: &mut [u8]) -> Answered
-    ensures { Writes endpoint.old (answer_of_line endpoint.old n (tells A command.now)) out.old result out.new endpoint.new }
+    ensures { Writes endpoint.old (answer_of_line endpoint.old n (tells A command.now)) out.old result out.new
+        endpoint.new }
 {
     if out.len() < MIN_ANSWER_LEN {
         return Answered {
@@ -134,7 +136,8 @@ fn ending_of(outcome: Result<(), Refusal>) -> Ending
 
 /// Answers a line by this text, unless memory ran out.
 fn answer_shown(out: &mut [u8], text: Result<Vec<u8>, ScriptFault>) -> Answered
-    ensures { (e : Ahead) (meant : List ℕ) → IfOk text (λ t. t.items ≡ meant) → Writes e (shown e meant) out.old result out.new e }
+    ensures { (e : Ahead) (meant : List ℕ) → IfOk text (λ t. t.items ≡ meant) →
+        Writes e (shown e meant) out.old result out.new e }
 {
     match text {
         Ok(text) => write_answer(out, Ending::Done, text.as_slice()),

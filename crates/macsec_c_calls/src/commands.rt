@@ -1,14 +1,12 @@
 //! The management commands (IEEE 802.1AE, 10.7).
 
 ghost use Rattle.std.specs.Prelude.{◌≡◌};
-ghost use Rattle.macsec_commands.specs.declared.command.Command.TheVariants as by;
-ghost use Rattle.macsec_c_calls.specs.Arguments.{an_of, key_number_of, naming_both};
-ghost use Rattle.macsec_c_calls.specs.Commands.{Renews, commanded};
-ghost use Rattle.macsec_c_calls.specs.Keys.{new_key_of};
+ghost use Rattle.macsec_c_values.specs.Rows.{command_of_row};
+ghost use Rattle.macsec_c_calls.specs.Commands.{Renews, commanded, row_commanded};
 
-use crate::{ArgumentFault, DONE, an_of, key_number_of, key_of, key_suite_of, status_of_new_fault};
 use macsec_ahead::AheadKeeper;
-use macsec_secy::{Command, NewFault, NewKey, Sci};
+use macsec_c_values::{ArgumentFault, CommandRow, DONE, command_of_row, status_of_new_fault};
+use macsec_secy::{Command, NewFault, NewKey};
 
 /// Carries out a command, or refuses it and changes nothing. Returns the status.
 pub fn carry_out(endpoint: &mut AheadKeeper, command: Result<Command, ArgumentFault>) -> u32
@@ -40,67 +38,13 @@ pub fn renew_key(endpoint: &mut AheadKeeper, key: Result<NewKey, ArgumentFault>)
     }
 }
 
-/// A key to install, as C gives it. The key is the first `length` octets of `bytes`.
-#[repr(C)]
-#[derive(Drop)]
-pub struct Sak {
-    pub bytes: [u8; 32],
-    pub salt: [u8; 12],
-    pub ssci: u32,
-    pub suite: u32,
-    pub number: u16,
-    pub length: u8,
-    pub offset: u8,
-}
-
-/// The key that it names, or the first argument that names nothing.
-pub fn new_key_of(key: &Sak) -> Result<NewKey, ArgumentFault>
-    ensures { result ≡ new_key_of key.now }
+/// Carries out the command of a row, or refuses it and changes nothing. Returns the status.
+pub fn carry_out_row(endpoint: &mut AheadKeeper, row: &CommandRow) -> u32
+    ensures { (result, endpoint.new) ≡ row_commanded endpoint.old (command_of_row row.now) }
 {
-    let suite = key_suite_of(key.suite)?;
-    let number = key_number_of(key.number)?;
-    let bytes = key_of(&key.bytes, key.length)?;
-    Ok(NewKey {
-        number,
-        bytes,
-        salt: key.salt,
-        ssci: key.ssci,
-        offset: key.offset,
-        suite,
-    })
-}
-
-/// The command that creates this transmit SA.
-pub fn tx_sa_of(an: u8, key: u16, next: u64, conf: bool) -> Result<Command, ArgumentFault>
-    ensures { result ≡ naming_both (λ n k. by.TxSa n k next conf) (an_of an) (key_number_of key) }
-{
-    let an = an_of(an)?;
-    let key = key_number_of(key)?;
-    Ok(Command::TxSa {
-        an,
-        key,
-        next,
-        conf,
-    })
-}
-
-/// The command that creates this receive SA.
-pub fn rx_sa_of(
-    sci: Sci,
-    an: u8,
-    key: u16,
-    ssci: u32,
-    lowest: u64,
-) -> Result<Command, ArgumentFault>
-    ensures { result ≡ naming_both (λ n k. by.RxSa sci n k ssci lowest) (an_of an) (key_number_of key) }
-{
-    let an = an_of(an)?;
-    let key = key_number_of(key)?;
-    Ok(Command::RxSa {
-        sci,
-        an,
-        key,
-        ssci,
-        lowest,
-    })
+    match command_of_row(row) {
+        Ok(None) => DONE,
+        Ok(Some(command)) => carry_out(endpoint, Ok(command)),
+        Err(fault) => carry_out(endpoint, Err(fault)),
+    }
 }

@@ -2,19 +2,18 @@
 
 ghost use Rattle.std.specs.Prelude.{◌≡◌};
 ghost use Rattle.macsec_script_parser.specs.Fields.{map_ok};
-ghost use Rattle.macsec_script_parser.specs.Readings.{Reads};
-ghost use Rattle.macsec_c_calls.specs.Texts.{CommandsLine, MakesConfigured, after_command, carried_out, command_of, configured, endpoint_of, line_command};
-ghost use Rattle.macsec_c_calls.specs.Texts.{created_alone, created_beside};
-ghost use Rattle.macsec_c_calls.specs.Texts.{line_of_config_fault, status_of_config_fault};
+ghost use Rattle.macsec_c_calls.specs.Texts.{CommandsLine, MakesConfigured, after_command, carried_out, configured};
+ghost use Rattle.macsec_c_calls.specs.Texts.{created_alone, created_beside, endpoint_of, line_of_config_fault};
+ghost use Rattle.macsec_c_calls.specs.Texts.{status_of_config_fault};
 
-use crate::{
-    DONE, NOT_JOURNAL, carry_out, endpoint_alone, endpoint_beside, status_of_line_fault,
-    status_of_new_fault, status_of_script_fault,
-};
+use crate::{carry_out, endpoint_alone, endpoint_beside};
 use macsec_ahead::AheadKeeper;
-use macsec_commands::{End, Event};
+use macsec_c_values::{
+    DONE, NOT_JOURNAL, line_command, status_of_line_fault, status_of_new_fault,
+    status_of_script_fault,
+};
 use macsec_reserve::OpenFault;
-use macsec_script_parser::{Action, Line, LineFault, ScriptFault, parse_config, parse_line};
+use macsec_script_parser::{ScriptFault, parse_config};
 use macsec_secy::{Command, EndConfig, NewFault, Refusal};
 use std::alloc::Global;
 
@@ -93,16 +92,6 @@ impl From<OpenFault> for ConfigFault {
     }
 }
 
-/// The command of a line, if it is a command at end A.
-fn command_of(line: &Line) -> Option<Command>
-    ensures { result ≡ command_of line.now }
-{
-    match line {
-        Line::Action(Action::Event(Event::Command(End::A, command))) => Some(*command),
-        _ => None,
-    }
-}
-
 /// Carries out the command of line `n`.
 fn carry_out_line(endpoint: &mut AheadKeeper, n: u32, command: &Command) -> Result<(), ConfigFault>
     ensures { map_ok (λ done. endpoint.new) result ≡ after_command n endpoint.old command.now }
@@ -132,7 +121,8 @@ fn endpoint_of(
     end: EndConfig,
     commands: &[(u32, Command)],
 ) -> Result<Box<AheadKeeper, Global>, ConfigFault>
-    ensures { MakesConfigured (endpoint_of created_alone (record { end = end; commands = commands.now })) (map_ok (λ endpoint. endpoint.value) result) }
+    ensures { MakesConfigured (endpoint_of created_alone (record { end = end; commands = commands.now }))
+        (map_ok (λ endpoint. endpoint.value) result) }
 {
     let mut endpoint = endpoint_alone(alloc, end)?;
     carry_out_lines(&mut *endpoint, commands)?;
@@ -147,7 +137,8 @@ fn endpoint_of_beside(
     journal: &[u8],
     ahead: bool,
 ) -> Result<Box<AheadKeeper, Global>, ConfigFault>
-    ensures { MakesConfigured (endpoint_of (created_beside ahead journal.now) (record { end = end; commands = commands.now }))
+    ensures { MakesConfigured
+        (endpoint_of (created_beside ahead journal.now) (record { end = end; commands = commands.now }))
         (map_ok (λ endpoint. endpoint.value) result) }
 {
     let mut endpoint = endpoint_beside(alloc, end, journal, ahead)?;
@@ -163,15 +154,16 @@ pub fn configured(alloc: Global, text: &[u8]) -> Result<Box<AheadKeeper, Global>
     endpoint_of(alloc, parsed.end.config(), parsed.commands.as_slice())
 }
 
-/// Creates the endpoint of a configuration with a journal, and carries out the configuration's commands. With `ahead` it
-/// reserves ahead of receiving.
+/// Creates the endpoint of a configuration with a journal, and carries out the configuration's commands. With `ahead`
+/// it reserves ahead of receiving.
 pub fn configured_beside(
     alloc: Global,
     text: &[u8],
     journal: &[u8],
     ahead: bool,
 ) -> Result<Box<AheadKeeper, Global>, ConfigFault>
-    ensures { MakesConfigured (configured (created_beside ahead journal.now) text.now) (map_ok (λ endpoint. endpoint.value) result) }
+    ensures { MakesConfigured (configured (created_beside ahead journal.now) text.now)
+        (map_ok (λ endpoint. endpoint.value) result) }
 {
     let parsed = parse_config(alloc, text)?;
     endpoint_of_beside(
@@ -181,19 +173,6 @@ pub fn configured_beside(
         journal,
         ahead,
     )
-}
-
-/// The command of a line at end A, or `None` if the line is skipped.
-pub(crate) fn line_command(alloc: Global, text: &[u8]) -> Result<Option<Command>, LineFault>
-    ensures { Reads (line_command text.now) result }
-{
-    let Some(line) = parse_line(alloc, text)? else {
-        return Ok(None);
-    };
-    match command_of(&line) {
-        Some(command) => Ok(Some(command)),
-        None => Err(LineFault::Ends),
-    }
 }
 
 /// Carries out the command of a line at end A, or refuses it and changes nothing. Returns the status.

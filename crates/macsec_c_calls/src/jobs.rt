@@ -4,17 +4,17 @@ ghost use Rattle.std.specs.Prelude.{◌≡◌, ℕ, List, Ok, unwrap_or};
 ghost use Rattle.macsec_jobs.specs.Answers.{delivered_length, output_of_finished};
 ghost use Rattle.macsec_jobs.specs.declared.answers.Finished.TheVariants as by;
 ghost use Rattle.macsec_c_calls.specs.Jobs.{FinishesFrame, OpensWith, PlansToReceive, PlansToSend, SealsWith};
-ghost use Rattle.macsec_c_calls.specs.Jobs.{parts_of_finished, planned_as, planned_for, taken_as, unplanned};
+ghost use Rattle.macsec_c_calls.specs.Jobs.{parts_of_finished, planned_as, planned_for, status_of_job_fault, taken_as};
+ghost use Rattle.macsec_c_calls.specs.Jobs.{unplanned};
 ghost use Rattle.macsec_c_calls.specs.ReceivedParts.{dropped_parts, parts_of_ahead, unreceived};
-ghost use Rattle.macsec_c_calls.specs.Statuses.{status_of_job_fault};
 
 use crate::receiving::place_of;
-use crate::{
+use macsec_ahead::{AheadKeeper, RxPn};
+use macsec_c_values::{
     DONE, FATE_NO_RESERVATION, FATE_NO_SA, FATE_NONE, FATE_PLAIN, FATE_PROTECTED, FATE_TOO_LONG,
     JOB, OTHER_KEY, SPACE, VERDICT_EARLIER_RUN, VERDICT_NO_RESERVATION, number_of_verdict,
     status_of_frame_fault,
 };
-use macsec_ahead::{AheadKeeper, RxPn};
 use macsec_jobs::{Finished as Outcome, JobFault, JobKey, Reception, SendPlan, Slot};
 use macsec_secy::{DropReason, FrameFault, MAX_FRAME_LEN};
 

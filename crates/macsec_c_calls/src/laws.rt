@@ -1,16 +1,16 @@
-//! Laws of answers, of rows and of renewed keys. They are about the definitions alone: the contracts of functions that
-//! do nothing.
+//! Laws of answers, of rows that are carried out and of renewed keys. They are about the definitions alone: the
+//! contracts of functions that do nothing.
 
 ghost use Rattle.std.specs.Prelude.{ℕ, List, Option};
 ghost use Rattle.macsec_commands.specs.declared.command.Command.{Command};
 ghost use Rattle.macsec_ahead.specs.Ahead.{Ahead};
 ghost use Rattle.macsec_script_parser.specs.declared.lines.Line.{Line};
-ghost use Rattle.macsec_c_calls.specs.declared.rows.CommandRow.{CommandRow};
+ghost use Rattle.macsec_c_values.specs.declared.rows.CommandRow.{CommandRow};
 ghost use Rattle.macsec_suite.specs.declared.key_row.NewKey.{NewKey};
 ghost use Rattle.macsec_c_calls.specs.GivenUp.{Call, GivesUp, RefusesOctets, StayGivenUp};
 ghost use Rattle.macsec_c_calls.specs.Laws.{AnswersAsPrinted};
 ghost use Rattle.macsec_c_calls.specs.Loading.{LoadIsCalls};
-ghost use Rattle.macsec_c_calls.specs.RowLaws.{CommandsParsed, MeansCommand};
+ghost use Rattle.macsec_c_calls.specs.RowLaws.{CommandsParsed};
 
 use macsec_reserve::laws::renewing_gives_up_octets;
 
@@ -19,12 +19,6 @@ use macsec_reserve::laws::renewing_gives_up_octets;
 /// refused because of a journal, and the line installs no key that was forgotten. Every other line is in a wrong place.
 pub fn answers_as_printed()
     ensures { (e : Ahead) (n : ℕ) (said : Line) → AnswersAsPrinted e n said }
-{}
-
-/// The row of a command means this command. Premises: its numbers are in their ranges, and its key has as many octets
-/// as its kind says. The types of the code ensure both.
-pub fn rows_mean_commands()
-    ensures { (c : Command) → MeansCommand c }
 {}
 
 /// A line that is parsed, and whose row is then carried out, is carried out as `command_line` does: with the same

@@ -3,8 +3,10 @@
 ghost use Rattle.std.specs.Prelude.{◌≡◌, ◌≤◌, ◌+◌, ◌++◌, length, vec_capacity, vec_len, IfOk, OnErr, None};
 ghost use Rattle.macsec_c_calls.specs.Loading.{Loads, answer_of_rows, commands_of, first_fault};
 
-use crate::{ArgumentFault, CommandRow, DONE, SPACE, command_of_row, status_of_new_fault};
 use macsec_ahead::AheadKeeper;
+use macsec_c_values::{
+    ArgumentFault, CommandRow, DONE, SPACE, command_of_row, status_of_new_fault,
+};
 use macsec_secy::{Command, NewFault};
 use std::alloc::{AllocError, Global};
 

@@ -4,12 +4,13 @@ ghost use Rattle.std.specs.Prelude.{◌≡◌, ℕ, List, Ok, option_map};
 ghost use Rattle.std.specs.Borrow.{Bor};
 ghost use Rattle.macsec_secy.specs.declared.answers.LimitedReceived.TheVariants.{Outside};
 ghost use Rattle.macsec_ahead.specs.Answers.{output_of_ahead};
-ghost use Rattle.macsec_c_calls.specs.ReceivedParts.{delivered_parts, dropped_parts, parts_of_ahead, parts_of_received, place_parts, unreceived};
+ghost use Rattle.macsec_c_calls.specs.ReceivedParts.{delivered_parts, dropped_parts, parts_of_ahead};
+ghost use Rattle.macsec_c_calls.specs.ReceivedParts.{parts_of_received, place_parts, unreceived};
 
-use crate::{
+use macsec_ahead::{LimitedReceived, OutsidePn, RxPn};
+use macsec_c_values::{
     DONE, VERDICT_EARLIER_RUN, VERDICT_NO_RESERVATION, number_of_verdict, status_of_frame_fault,
 };
-use macsec_ahead::{LimitedReceived, OutsidePn, RxPn};
 use macsec_secy::{FrameFault, Sci};
 
 /// The result of receiving a link frame.

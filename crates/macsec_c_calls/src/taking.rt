@@ -5,10 +5,10 @@ ghost use Rattle.macsec_commands.specs.declared.fault.NewFault.TheVariants.{Memo
 ghost use Rattle.macsec_suite.specs.KeyRows.{key_row};
 ghost use Rattle.macsec_script_parser.specs.Fields.{map_ok};
 ghost use Rattle.macsec_jobs.specs.Slots.{is_idle};
-ghost use Rattle.macsec_c_calls.specs.Statuses.{status_of_new_fault};
+ghost use Rattle.macsec_c_values.specs.Statuses.{status_of_new_fault};
 ghost use Rattle.macsec_c_calls.specs.TakenKeys.{TakesResult};
 
-use crate::status_of_new_fault;
+use macsec_c_values::status_of_new_fault;
 use macsec_jobs::{JobKey, Slot};
 use macsec_reserve::Keeper;
 use macsec_secy::{KeyNumber, NewFault};

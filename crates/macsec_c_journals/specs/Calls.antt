@@ -14,9 +14,9 @@ use Rattle.macsec_journal.specs.declared.writer.BeginFault.TheVariants.{NotJourn
 use Rattle.macsec_journal.specs.Format.{fits, has_header, is_readable, read_in}
 use Rattle.macsec_journal.specs.Machine.{Journal, appended, begun, is_full, letting_go, ordering, whole, writing_at}
 use Rattle.macsec_c_journals.specs.declared.journals.JournalCall.{JournalCall}
-use Rattle.macsec_c_calls.specs.Reserving.{Written, begun_with}
-use Rattle.macsec_c_calls.specs.Statuses.{done_status, not_journal_status, not_record_status, space_status}
-use Rattle.macsec_c_calls.specs.Statuses.{status_of_new_fault}
+use Rattle.macsec_c_values.specs.Reservations.{Written, begun_with}
+use Rattle.macsec_c_values.specs.Statuses.{done_status, not_journal_status, not_record_status, space_status}
+use Rattle.macsec_c_values.specs.Statuses.{status_of_new_fault}
 use Rattle.macsec_c_journals.specs.Statuses.{journal_busy_status, journal_damaged_status, journal_full_status}
 
 abbrev pub number_of_step : Step → ℕ

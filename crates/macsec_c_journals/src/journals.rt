@@ -1,14 +1,16 @@
 //! The journal of a process as a file: which system call is next, and what its answer means.
 
-ghost use Rattle.std.specs.Prelude.{◌≡◌, ◌<◌, ◌≤◌, ◌+◌, ◌/◌, [], ◌∷◌, ◌++◌, IfNone, IfSome, drop, length, slice_get, true, vec_capacity, vec_len};
+ghost use Rattle.std.specs.Prelude.{◌≡◌, ◌<◌, ◌≤◌, ◌+◌, ◌/◌, [], ◌∷◌, ◌++◌, IfNone, IfSome, drop, length, slice_get};
+ghost use Rattle.std.specs.Prelude.{true, vec_capacity, vec_len};
 ghost use Rattle.macsec_reserve.specs.Journal.{record_of, reservations, reserved_in};
 ghost use Rattle.macsec_journal.specs.declared.step.Step.TheVariants.{Resting};
 ghost use Rattle.macsec_journal.specs.Machine.{answered, for_endpoint, shown};
 ghost use Rattle.macsec_script_parser.specs.Fields.{map_ok};
-ghost use Rattle.macsec_c_journals.specs.Calls.{Begins, are_as_many, call_with, called, filled, is_resting, let_go, number_of_step, ordered, status_of_begin_fault, writes};
-ghost use Rattle.macsec_c_calls.specs.Shown.{status_if};
+ghost use Rattle.macsec_c_journals.specs.Calls.{Begins, are_as_many, call_with, called, filled, is_resting, let_go};
+ghost use Rattle.macsec_c_journals.specs.Calls.{number_of_step, ordered, status_of_begin_fault, writes};
+ghost use Rattle.macsec_c_values.specs.Shown.{status_if};
 
-use macsec_c_calls::{DONE, NONE, NOT_JOURNAL, NOT_RECORD, Record, SPACE, status_of_new_fault};
+use macsec_c_values::{DONE, NONE, NOT_JOURNAL, NOT_RECORD, Record, SPACE, status_of_new_fault};
 use macsec_journal::{BeginFault, Step, Writer};
 use macsec_reserve::{RECORD_LENGTH, Reservation};
 use macsec_secy::NewFault;

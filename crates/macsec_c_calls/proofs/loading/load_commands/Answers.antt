@@ -2,7 +2,8 @@
 use Rattle.std.proofs.{Common.{◌≡◌, ◌∙◌, ◌++◌, [], length, map, None, ap, sym, rules}, lemmas.List.length-map}
 use Rattle.macsec_ahead.specs.Loading.{begins_of}
 use Rattle.macsec_c_calls.proofs.Loads.{length_begins}
-use Rattle.macsec_c_calls.specs.{Rows.command_of_row, Loading.{commands_of, named_or_none}}
+use Rattle.macsec_c_values.specs.Rows.{command_of_row}
+use Rattle.macsec_c_calls.specs.Loading.{commands_of, named_or_none}
 use Rattle.macsec_c_calls.proofs.loading.load_commands.Goals as goal
 
 pub copy_from_slice-requires : goal.copy_from_slice-requires

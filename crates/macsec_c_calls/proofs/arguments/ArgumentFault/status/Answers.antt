@@ -1,6 +1,0 @@
--- By search. This proof is here so that a wrong body is refused quickly.
-use Rattle.std.proofs.Common.{rules}
-use Rattle.macsec_c_calls.proofs.arguments.ArgumentFault.status.Goals as goal
-
-pub returns : goal.returns
-returns c = search rules steps 200000

@@ -1,5 +1,0 @@
-use Rattle.macsec_c_calls.proofs.RowsMean.{row_means}
-use Rattle.macsec_c_calls.proofs.laws.rows_mean_commands.Goals as goal
-
-pub returns : goal.returns
-returns c = row_means

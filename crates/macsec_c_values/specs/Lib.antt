@@ -1,0 +1,10 @@
+pub mod Arguments
+pub mod Configs
+pub mod Keys
+pub mod Parsing
+pub mod Reservations
+pub mod Rows
+pub mod Sealing
+pub mod SentParts
+pub mod Shown
+pub mod Statuses
