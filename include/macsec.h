@@ -796,8 +796,7 @@ uint32_t macsec_get_rx_sa(const macsec_endpoint *e, const uint8_t sci[8], uint8_
  * other refusal). So no two frames of all runs over one journal have the same key and IV, whatever the moment at which
  * each run ended. With `ahead` it also accepts a packet number only if a record that is already on the disk reserves
  * it, and if no record of an earlier run does. docs/THEOREM.md says what follows for two ends that crash: with `ahead`,
- * strict validation, replay protection and a window of 0, no frame is delivered twice in all runs, if each key is
- * installed by macsec_renew_key or macsec_load, or none is.
+ * strict validation, replay protection and a window of 0, no frame is delivered twice in all runs.
  * With and without `ahead`, an endpoint with a journal remembers the lowest acceptable packet number of a receive
  * association that it deletes. Under the same key it does not create the association again below that number
  * (MACSEC_E_PN_FLOOR too). It remembers the numbers of 1,024 associations, until their key is retired. For further ones

@@ -10,8 +10,9 @@
 //! - `comes_in_order_over_calls`: it is delivered in the order of sending, each frame at most once.
 //! - `never_delivers_again_over_calls`: what a run accepted and saved is not delivered again.
 //!
-//! These ask nothing of runs:
-//! - `accepts_above_over_calls`: with `ahead`, a run accepts from an SA only higher packet numbers than earlier runs.
+//! These do not ask `IsRun`:
+//! - `accepts_above_over_calls`: with `ahead`, a run that reads what earlier runs accepted from an SA accepts only
+//!   higher packet numbers from it.
 //! - `begins_above_its_end_over_calls`: an SA that is deleted begins above its end.
 //! - `lists_each_delivery_over_calls`, `seals_each_frame_over_calls`: what is delivered and sealed is listed.
 //! - `renewals_make_runs`: of a run that installs each key as a renewal, only soundness is asked.

@@ -131,8 +131,10 @@ forgery_bound_is_reached given key =
     let try = use_of key two in
     record {
       n = 2;
+      of_blocks = refl;
       seals = seal ∷ [];
       tries = try ∷ [];
+      of_tries = refl;
       seals_key = All-cons (λ u. u.key ≡ key) seal [] refl (All-nil (λ u. u.key ≡ key));
       seals_within = All-cons (IsWithin 2) seal [] (one_within key) (All-nil (IsWithin 2));
       tries_key = All-cons (λ u. u.key ≡ key) try [] refl (All-nil (λ u. u.key ≡ key));

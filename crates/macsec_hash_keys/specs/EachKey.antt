@@ -25,12 +25,14 @@ EachKeyIsCounted = (h : ℕ) (given : List ℕ → List ℕ) (seals : List Ciphe
     → h < 2 ^ 128 → All (λ s. s.aad ≢ aad) seals
     → Contains (forging_keys given seals (with_right_tag h given seals key iv aad text ∷ [])) h
 
--- no smaller bound holds of all that can be sealed and tried: under any key, for some of it, in messages of at most n
--- blocks, as many hash keys as the bound says have a forgery
+-- no smaller bound holds of all that can be sealed and tried: under any key, for some of it, in messages of at most two
+-- blocks and by one try, as many hash keys as the bound says have a forgery
 pub record IsReached (given : List ℕ → List ℕ) (key : List ℕ) : Type 0 where
   pub n : ℕ
+  pub of_blocks : n ≡ 2
   pub seals : List CipherUse
   pub tries : List CipherUse
+  pub of_tries : length tries ≡ 1
   pub seals_key : All (λ u. u.key ≡ key) seals
   pub seals_within : All (IsWithin n) seals
   pub tries_key : All (λ u. u.key ≡ key) tries
