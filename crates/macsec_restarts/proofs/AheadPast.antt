@@ -6,10 +6,10 @@ use Rattle.macsec_restarts.proofs.{
   Names.{[], ◌+◌, ◌==◌, ◌^◌, ◌||◌, ◌∙◌, ◌∷◌, ◌≡◌, ◌≤◌, ◌⊎◌, Ahead, ahead_step, All, All-contains, arith, Bool},
   Names.{contained, delivered_at, Delivery, end_of_row, endpoint_input, EndpointLaws, eq-eqb, false, frame_fault},
   Names.{HasStrictOrder, highest, inl, inr, IsAbove, IsDeliveredFrom, IsGivenUp, IsMember, IsSome, IsSound},
-  Names.{IsStrictInput, Judgement, judgement_of, KeepingInput, lets_through, link_frame, List, newly_delivered, None},
+  Names.{Judgement, judgement_of, KeepingInput, lets_through, link_frame, List, newly_delivered, None},
   Names.{or_parts, received_step, receiving_name, refl, row_name, rx_row, rx_uses, RxRow, Sci, sending_name, Some},
   Names.{State, state_after_receiving, subst, sym, the_key, true, ℕ},
-  RowSteps.{found_row, is_given, IsGiven, IsLaterRow, of_ours, RowStep},
+  RowSteps.{found_row, is_given, IsGiven, IsLaterRow, IsStrictInput, of_ours, RowStep},
 }
 use Rattle.macsec_rx.specs.Rows.{AreRxRows}
 use Rattle.macsec_suite.specs.KeyRows.{key_row}

@@ -1,11 +1,8 @@
 -- One more happening: what it changes in the runs of an end.
-use Rattle.macsec_restarts.proofs.{
-  Names.{[], ◌&&◌, ◌++◌, ◌==◌, ◌∙◌, ◌∷◌, ◌≡◌, ◌⊎◌, A, ap, append-nil, append_assoc, B, begins, Bool, closing, comes_in},
-  Names.{delivered_at, delivered_from, delivered_in, delivered_in_all, Delivery, End, EndConfig, Events, false},
-  Names.{filter-append, Happening, if◌then◌else◌, inl, Inputs, inputs_until, inr, IsMember, Keeping, keeping_after},
-  Names.{keeping_step, KeepingInput, last_run, List, newly_delivered, newly_sent, None, opening, Option, option_map},
-  Names.{refl, Run, runs_of, same_end, same_octets, same_sci, Sci, sent_from, sent_in_all, SentIn, Some, sym, true, ℕ},
-}
+use Rattle.macsec_restarts.proofs.Names.{[], ◌++◌, ◌∙◌, ◌∷◌, ◌≡◌, ◌⊎◌, A, ap, append-nil, B, begins, Bool, comes_in}
+use Rattle.macsec_restarts.proofs.Names.{End, EndConfig, Events, false, Happening, if◌then◌else◌, inl, Inputs}
+use Rattle.macsec_restarts.proofs.Names.{inputs_until, inr, IsMember, KeepingInput, List, refl, Run, runs_of, same_end}
+use Rattle.macsec_restarts.proofs.Names.{sym, true, ℕ}
 
 -- The members of two lists, one after the other.
 
@@ -27,7 +24,7 @@ either_list (z ∷ xs) ys x (inr later) = by_side (either_list xs ys x later)
     by_side (inl a) = inl (inr a)
     by_side (inr b) = inr b
 
--- One more happening: the runs of an end, and what they sent and delivered.
+-- One more happening: the runs of an end.
 
 -- a run with one more input
 abbrev pub with_input : KeepingInput → Run → Run
@@ -193,113 +190,3 @@ is_next e before (comes_in f input) = by_end (same_end e f) refl
         (runs_of e (before ++ comes_in f input ∷ []))
     by_end true same = rw (runs_of-input e f input before same, same_is e f same) (new_input input)
     by_end false other = rw (runs_of-other_input e f input before other) (same_runs _)
-
--- ---- the last run
-
-pub last_run-with_last : (input : KeepingInput) (runs : List Run) →
-    last_run (with_last input runs) ≡ option_map (with_input input) (last_run runs)
-last_run-with_last input (_ ∷ later ∷ third ∷ more) = last_run-with_last input (later ∷ third ∷ more)
-last_run-with_last _ _ = refl
-
-pub last_run-push : (runs : List Run) (run : Run) → last_run (runs ++ run ∷ []) ≡ Some run
-last_run-push (p ∷ q ∷ more) run = last_run-push (q ∷ more) run
-last_run-push _ _ = refl
-
-pub after-push : (inputs : Inputs) (k : Keeping) (input : KeepingInput) →
-    keeping_after k (inputs ++ input ∷ []) ≡ (keeping_step (keeping_after k inputs) input).1
-after-push [] k _ = refl
-after-push (i ∷ inputs) k input = after-push inputs _ input
-
--- the end of a run with one more input
-pub closing-input : (input : KeepingInput) (run : Run) →
-    closing (with_input input run) ≡ (keeping_step (closing run) input).1
-closing-input input run = after-push run.inputs (opening run) input
-
--- ---- what they delivered and sent
-
-pub delivered_from-push : (inputs : Inputs) (k : Keeping) (input : KeepingInput) →
-    delivered_from k (inputs ++ input ∷ []) ≡ delivered_from k inputs ++ newly_delivered (keeping_after k inputs) input
-delivered_from-push [] k input = append-nil (newly_delivered k input)
-delivered_from-push (i ∷ inputs) k input = rw (
-  delivered_from-push inputs _ input,
-  ← append_assoc (newly_delivered k i) (delivered_from (keeping_step k i).1 inputs)
-      (newly_delivered (keeping_after (keeping_step k i).1 inputs) input),
-)
-
-sent_from-push : (inputs : Inputs) (k : Keeping) (input : KeepingInput) →
-    sent_from k (inputs ++ input ∷ []) ≡ sent_from k inputs ++ newly_sent (keeping_after k inputs) input
-sent_from-push [] k input = append-nil (newly_sent k input)
-sent_from-push (i ∷ inputs) k input = rw (
-  sent_from-push inputs _ input,
-  ← append_assoc (newly_sent k i) (sent_from (keeping_step k i).1 inputs)
-      (newly_sent (keeping_after (keeping_step k i).1 inputs) input),
-)
-
-pub delivered_in-input : (bytes : List ℕ) (sci : Sci) (an : ℕ) (input : KeepingInput) (run : Run) →
-    delivered_in (with_input input run) bytes sci an ≡
-    delivered_in run bytes sci an ++ delivered_at bytes sci an (newly_delivered (closing run) input)
-delivered_in-input bytes sci an input run = rw (
-  delivered_from-push run.inputs (opening run) input,
-  filter-append (λ d. same_octets d.bytes bytes && same_sci d.sci sci && d.an == an)
-      (delivered_from (opening run) run.inputs) (newly_delivered (closing run) input),
-)
-
--- what the last run adds, if there is one
-abbrev pub delivered_by_last : Option Run → KeepingInput → List Delivery
-delivered_by_last None input = []
-delivered_by_last (Some run) input = newly_delivered (closing run) input
-
-abbrev pub sent_by_last : Option Run → KeepingInput → List SentIn
-sent_by_last None input = []
-sent_by_last (Some run) input = newly_sent (closing run) input
-
-pub delivered_in_all-with_last : (input : KeepingInput) (runs : List Run) →
-    delivered_in_all (with_last input runs) ≡ delivered_in_all runs ++ delivered_by_last (last_run runs) input
-delivered_in_all-with_last _ [] = refl
-delivered_in_all-with_last input (run ∷ []) = append-nil (delivered_from (opening run) (run.inputs ++ input ∷ []))
-    ∙ delivered_from-push run.inputs (opening run) input
-    ∙ ap (λ gs. gs ++ newly_delivered (closing run) input) (sym (append-nil (delivered_from (opening run) run.inputs)))
-delivered_in_all-with_last input (run ∷ later ∷ more) = rw (
-  delivered_in_all-with_last input (later ∷ more),
-  ← append_assoc (delivered_from (opening run) run.inputs) (delivered_in_all (later ∷ more))
-      (delivered_by_last (last_run (later ∷ more)) input),
-)
-
-pub sent_in_all-with_last : (input : KeepingInput) (runs : List Run) →
-    sent_in_all (with_last input runs) ≡ sent_in_all runs ++ sent_by_last (last_run runs) input
-sent_in_all-with_last _ [] = refl
-sent_in_all-with_last input (run ∷ []) = append-nil (sent_from (opening run) (run.inputs ++ input ∷ []))
-    ∙ sent_from-push run.inputs (opening run) input
-    ∙ ap (λ gs. gs ++ newly_sent (closing run) input) (sym (append-nil (sent_from (opening run) run.inputs)))
-sent_in_all-with_last input (run ∷ later ∷ more) = rw (
-  sent_in_all-with_last input (later ∷ more),
-  ← append_assoc (sent_from (opening run) run.inputs) (sent_in_all (later ∷ more))
-      (sent_by_last (last_run (later ∷ more)) input),
-)
-
--- a run without inputs adds nothing
-pub delivered_in_all-new : (runs : List Run) (run : Run) → run.inputs ≡ [] →
-    delivered_in_all (runs ++ run ∷ []) ≡ delivered_in_all runs
-delivered_in_all-new [] _ none = rw none
-delivered_in_all-new (p ∷ ps) run none = rw (delivered_in_all-new ps run none)
-
-pub sent_in_all-new : (runs : List Run) (run : Run) → run.inputs ≡ [] →
-    sent_in_all (runs ++ run ∷ []) ≡ sent_in_all runs
-sent_in_all-new [] _ none = rw none
-sent_in_all-new (p ∷ ps) run none = rw (sent_in_all-new ps run none)
-
--- ---- what an end sent so far it has sent later
-pub record SendsMore (e : End) (before : Events) (h : Happening) : Type 0 where
-  pub added : List SentIn
-  pub more : sent_in_all (runs_of e (before ++ h ∷ [])) ≡ sent_in_all (runs_of e before) ++ added
-
-pub sends_more : (e : End) (before : Events) (h : Happening) → SendsMore e before h
-sends_more e before h =
-    let it = by_next (is_next e before h) in
-    record { added = it.0; more = it.1 }
-  where
-    by_next : {runs : List Run} {h' : Happening} {after : List Run} → IsNext e runs h' after →
-        (added : List SentIn) × (sent_in_all after ≡ sent_in_all runs ++ added)
-    by_next {runs} (same_runs _) = ([], sym (append-nil (sent_in_all runs)))
-    by_next {runs} (new_run _ _) = ([], sent_in_all-new runs _ refl ∙ sym (append-nil (sent_in_all runs)))
-    by_next {runs} (new_input input) = (sent_by_last (last_run runs) input, sent_in_all-with_last input runs)

@@ -1,37 +1,38 @@
 -- Several runs of a keeping endpoint that renews keys: its packet numbers rise, and no IV comes twice.
-use Rattle.macsec_reserve.specs.{
-  Forgetting.as_taken,
-  Keeping.{key_name, nothing_yet},
-  Renewing.{forgetting_refusal, place_of, unless_refused},
-  RenewingRuns.{OctetsHaveOneKey, renewing_after, renewing_step, RepeatsNoIvRenewing, sealed_renewing},
-  RenewingRuns.StaysSoundRenewing,
-}
-use Rattle.macsec_restarts.{
-  proofs.{
-    AheadForgets.{before_kept, forgets_field, salt_kept},
-    Forgetting.{numbers_tell, OtherSeal},
-    Names.{[], ◌++◌, ◌<◌, ◌==◌, ◌^◌, ◌||◌, ◌∙◌, ◌∷◌, ◌≡◌, ◌≤◌, ◌⊎◌, All, All-append, All-head, All-map, All-nil},
-    Names.{All-tail, All-weaker, AllPairs, ap, append-nil, arith, Bool, client_frame, Contains, endpoint_input},
-    Names.{EndpointLaws, eq-eqb, false, forgetting, forgetting_step, get_or, HasOtherIv, highest, highest-append},
-    Names.{if◌then◌else◌, inl, Inputs, inr, InstalledKey, IsFrom, IsSound, iv_of, Keeping, keeping_after},
-    Names.{keeping_step, KeepingInput, KeepingOutput, keeps_stays, KeepsDurable, Key, last_of, length, List, map},
-    Names.{map-append, max, newly_sent, no_pairs, None, now_durable, opening, operator_command, Option, pairs-append},
-    Names.{pairs-head, pairs-tail, reduced_reserves, refl, Refusal, reported_in, Reservation, reservations},
-    Names.{retired_by, Rises, row_on, Run, rx_uses, salt_of, same_octets, SameSalt, seal_of, sending_name},
-    Names.{sending_of, SentIn, Some, State, subst, suc, sym, take, taken, the_key, then_forget, true, tx_options},
-    Names.{TxRow, zero, ℕ},
-    Sends.{by_input, each_new, in_run, is_new, IsLeased, IsNew, IsSentBy, leased, most_of, seals_of_input},
-  },
-  specs.RenewingRuns.{AgreeOnUsedKeys, AgreeRenewing, IsSoundRunRenewing, IsUsedIn, KeepsUsedRenewing},
-  specs.RenewingRuns.{NoIvIfUsedIsKeptRenewing, RisesIfUsedIsKeptRenewing, sealed_in_all_renewing},
-  specs.RenewingRuns.{sent_in_all_renewing, sent_in_renewing, sent_renewing, states_renewing},
-  specs.Used.Covers,
-}
-use Rattle.macsec_reserve.proofs.Steps.{granted_reported}
-use Rattle.macsec_secy.proofs.{OtherOctets.found_unused, UsedNumbers.sent_by}
-use Rattle.macsec_secy.specs.Commands.{uses}
 use Rattle.macsec_aes.specs.Keys.{key_bytes}
-use Rattle.macsec_suite.specs.{KeyRows.key_row, Refusals.is_number_used, declared.key_row.NewKey.NewKey}
+use Rattle.macsec_reserve.proofs.Steps.{granted_reported}
+use Rattle.macsec_reserve.specs.Forgetting.{as_taken}
+use Rattle.macsec_reserve.specs.Keeping.{key_name, nothing_yet}
+use Rattle.macsec_reserve.specs.Renewing.{forgetting_refusal, place_of, unless_refused}
+use Rattle.macsec_reserve.specs.RenewingRuns.{OctetsHaveOneKey, renewing_after, renewing_step, RepeatsNoIvRenewing}
+use Rattle.macsec_reserve.specs.RenewingRuns.{sealed_renewing, StaysSoundRenewing}
+use Rattle.macsec_restarts.proofs.AheadForgets.{before_kept, forgets_field, salt_kept}
+use Rattle.macsec_restarts.proofs.Forgetting.{numbers_tell, OtherSeal}
+use Rattle.macsec_restarts.proofs.Names.{[], ◌++◌, ◌<◌, ◌==◌, ◌^◌, ◌||◌, ◌∙◌, ◌∷◌, ◌≡◌, ◌≤◌, ◌⊎◌, All, All-append}
+use Rattle.macsec_restarts.proofs.Names.{All-head, All-map, All-nil, All-tail, All-weaker, AllPairs, ap, arith, Bool}
+use Rattle.macsec_restarts.proofs.Names.{client_frame, Contains, endpoint_input, EndpointLaws, eq-eqb, false}
+use Rattle.macsec_restarts.proofs.Names.{forgetting, forgetting_step, get_or, HasOtherIv, highest, highest-append}
+use Rattle.macsec_restarts.proofs.Names.{if◌then◌else◌, inl, Inputs, inr, InstalledKey, IsFrom, IsSound, iv_of, Keeping}
+use Rattle.macsec_restarts.proofs.Names.{keeping_step, KeepingInput, KeepingOutput, keeps_stays, KeepsDurable, Key}
+use Rattle.macsec_restarts.proofs.Names.{last_of, length, List, map, map-append, max, newly_sent, no_pairs, None}
+use Rattle.macsec_restarts.proofs.Names.{now_durable, opening, operator_command, Option, pairs-append, pairs-head}
+use Rattle.macsec_restarts.proofs.Names.{pairs-tail, reduced_reserves, refl, Refusal, reported_in, Reservation}
+use Rattle.macsec_restarts.proofs.Names.{reservations, retired_by, Rises, row_on, Run, rx_uses, salt_of, same_octets}
+use Rattle.macsec_restarts.proofs.Names.{SameSalt, seal_of, sending_name, sending_of, SentIn, Some, State, subst, suc}
+use Rattle.macsec_restarts.proofs.Names.{sym, take, taken, the_key, then_forget, true, tx_options, TxRow, zero, ℕ}
+use Rattle.macsec_restarts.proofs.Sends.{by_input, each_new, is_new, IsNew, IsSentBy, leased_now, new_pairs}
+use Rattle.macsec_restarts.proofs.Sends.{seals_of_input}
+use Rattle.macsec_restarts.specs.RenewingRuns.{AgreeOnUsedKeys, AgreeRenewing, IsSoundRunRenewing, IsUsedIn}
+use Rattle.macsec_restarts.specs.RenewingRuns.{KeepsUsedRenewing, NoIvIfUsedIsKeptRenewing, RisesIfUsedIsKeptRenewing}
+use Rattle.macsec_restarts.specs.RenewingRuns.{sealed_in_all_renewing, sent_in_all_renewing, sent_in_renewing}
+use Rattle.macsec_restarts.specs.RenewingRuns.{sent_renewing, states_renewing}
+use Rattle.macsec_restarts.specs.Used.{Covers}
+use Rattle.macsec_secy.proofs.OtherOctets.{found_unused}
+use Rattle.macsec_secy.proofs.UsedNumbers.{sent_by}
+use Rattle.macsec_secy.specs.Commands.{uses}
+use Rattle.macsec_suite.specs.KeyRows.{key_row}
+use Rattle.macsec_suite.specs.Refusals.{is_number_used}
+use Rattle.macsec_suite.specs.declared.key_row.NewKey.{NewKey}
 use Rattle.macsec_tx.specs.Commands.{tx_uses}
 use Rattle.std.proofs.Common.{◌-◌, drop, set}
 
@@ -181,12 +182,8 @@ between_now : (k : Keeping) → k.keeps ≡ true → (input : KeepingInput) (inp
     All (IsBetween k (input ∷ inputs)) (newly_sent k input)
 between_now k keeps input inputs i d within =
     let x = get_or (newly_sent k input) i d in
-    let it = subst (All (IsLeased k.before k.salt (most_of k (input ∷ [])))) (append-nil (newly_sent k input))
-    (leased (input ∷ []) k keeps) i d within in
-    record {
-      above = it.above;
-      within = omega (arith, it.within, first_report input inputs (sending_name k.salt x.seal.key));
-    }
+    let it = leased_now k keeps input x (each_new k input i d within) in
+    record { above = it.above; within = omega (arith, it.within) }
 
 pub each_between : (inputs : Inputs) (k : Keeping) → k.keeps ≡ true → All (IsBetween k inputs) (sent_renewing k inputs)
 each_between [] k keeps = All-nil (IsBetween k [])
@@ -313,19 +310,6 @@ sent_now laws k (endpoint_input (client_frame frame)) sound =
     by_input laws k (endpoint_input (client_frame frame)) sound
 sent_now laws k input sound = All-nil _
 
--- a step sends one frame at most
-new_pairs : EndpointLaws → (k : Keeping) (input : KeepingInput) → IsSound k.secy →
-    IsSound (renewing_step k input).1.secy → AllPairs Rises (newly_sent k input)
-new_pairs laws k (endpoint_input (client_frame frame)) sound sound' =
-    subst (AllPairs Rises) (append-nil (newly_sent k (endpoint_input (client_frame frame))))
-    (in_run laws (endpoint_input (client_frame frame) ∷ []) k both)
-  where
-    both : (n : ℕ) → IsSound (keeping_after k (take n (endpoint_input (client_frame frame) ∷ []))).secy
-    both zero = sound
-    both (suc zero) = sound'
-    both (suc (suc n)) = sound'
-new_pairs laws k input sound sound' = no_pairs Rises
-
 pub rises_in_run : EndpointLaws → RenewingLaws → (inputs : Inputs) (k : Keeping) → StaysSoundRenewing k inputs →
     AllPairs Rises (sent_renewing k inputs)
 rises_in_run laws renews [] k sound = no_pairs Rises
@@ -333,7 +317,7 @@ rises_in_run laws renews (input ∷ inputs) k sound =
     let after = (renewing_step k input).1 in
     let sound' : StaysSoundRenewing after inputs = λ n. sound (suc n) in
     pairs-append Rises (newly_sent k input) (sent_renewing after inputs)
-    (new_pairs laws k input (sound 0) (sound' 0)) (rises_in_run laws renews inputs after sound')
+    (new_pairs k input) (rises_in_run laws renews inputs after sound')
     (All-weaker (IsSentBy after.secy) (λ x. All (Rises x) (sent_renewing after inputs))
     (λ x it. rises_after laws renews inputs after sound' x it) (newly_sent k input) (sent_now laws k input (sound 0)))
 

@@ -10,7 +10,7 @@ use Rattle.macsec_restarts.{
     Names.{and_parts, ap, append-nil, append_assoc, arith, AtEach, B, begins, Bool, bytes_eq-Decides, comes_in},
     Names.{contained, Contains, delivered_at, Delivery, delivery_name, End, EndConfig, endpoint_input, EndpointLaws},
     Names.{Events, false, filter-append, get_or, Grammar, Happening, HasStrictOrder, highest, IfSome, if◌then◌else◌},
-    Names.{inl, Inputs, inr, InstalledKey, is_subsequence, is_valid, IsGivenUp, IsSound, IsStrictInput, Keeping},
+    Names.{inl, Inputs, inr, InstalledKey, is_subsequence, is_valid, IsGivenUp, IsSound, Keeping},
     Names.{keeping_step, KeepingInput, lets_through, link_frame, List, map, member, newly_accepted, newly_delivered},
     Names.{newly_delivered_with, newly_sent, no_pairs, None, numbered_delivery, one_alone, Option, other_end},
     Names.{pairs-append, pairs-head, pairs-tail, receiving_name, reduced_reserves, refl, reservations, Rises, runs_at},
@@ -26,7 +26,7 @@ use Rattle.macsec_restarts.{
     RenewingPast.{behind_next, floor_next, IsAlive, IsBehind, some_key},
     RenewingSends.sound_after,
     RowSteps.{all_pass, all_there, at_most_one, Before, below_above, is_given, is_ours, IsBelowNext, IsGiven},
-    RowSteps.{IsPlacedAt, of_ours, placed_at, same_place},
+    RowSteps.{IsPlacedAt, IsStrictInput, of_ours, placed_at, same_place},
     RunsWith.{cut, first_moments, IsHereditary, pairs_first, push, runs_first},
   },
   specs.{
@@ -45,7 +45,7 @@ use Rattle.macsec_secy.specs.Commands.{uses}
 
 -- ---- a run
 
-after-push : (inputs : Inputs) (a : Ahead) (input : KeepingInput) →
+pub after-push : (inputs : Inputs) (a : Ahead) (input : KeepingInput) →
     ahead_renewing_after a (inputs ++ input ∷ []) ≡ (ahead_renewing_step (ahead_renewing_after a inputs) input).1
 after-push [] a input = refl
 after-push (i ∷ inputs) a input = after-push inputs (ahead_renewing_step a i).1 input
@@ -512,7 +512,7 @@ comes_in_order_if_kept_renewing laws renews giving grammar ahead events e bytes 
 
 -- Two ends that are peers at the end of a list of happenings are peers at each moment of it: what is used stays used.
 
-used_less : (input : KeepingInput) (r : RunWith) (key : InstalledKey) → IsUsedIn (states_of r) key →
+pub used_less : (input : KeepingInput) (r : RunWith) (key : InstalledKey) → IsUsedIn (states_of r) key →
     IsUsedIn (states_of (push input r)) key
 used_less input r key it =
     let at = first_taken it.moment r.run.inputs input in

@@ -1,33 +1,27 @@
 -- What a step does to a receive SA, and what it delivers from the SA.
 use Rattle.macsec_commands.specs.declared.command.Command.TheVariants.{RxLow, RxOff}
-use Rattle.macsec_reserve.specs.Replay.{DeliversAbove}
-use Rattle.macsec_restarts.proofs.{
-  Names.{[], ◌&&◌, ◌++◌, ◌+◌, ◌<◌, ◌==◌, ◌∙◌, ◌∷◌, ◌≡◌, ◌≤◌, All, All-cons, All-filter, All-nil, All-weaker, AllPairs},
-  Names.{and_parts, ap, arith, Bool, bytes_eq-Decides, client_frame, closing, Command, cond, contained, Contains},
-  Names.{delivered_at, delivered_by, Delivery, effect, endpoint_input, EndpointLaws, eqb-true, false, filter},
-  Names.{frame_fault, FrameFault, get_or, HasStrictOrder, highest, holds_of, if◌then◌else◌, inl, Input, Inputs, inr},
-  Names.{is_at, IsAbove, IsMember, IsSound, IsUnder, judgement_of, Keeping, keeping_step, KeepingInput, last_of},
-  Names.{link_frame, List, ltb-false, map, nat_lt, newly_delivered, no_pairs, None, not, now_durable, one_alone},
-  Names.{operator_command, Option, option_map, or_parts, Output, received_output, received_step, receiving_name, refl},
-  Names.{Refusal, refusal, Replay, reservations, row_name, Run, rx_row, RxDel, RxOn, RxRow, RxSa, RxScDel, salt_of},
-  Names.{same_octets, same_sci, Sci, sending_name, sending_of, sent_output, Some, State, state_after_receiving},
-  Names.{state_after_sending, step, subst, sym, the_key, true, uncontrolled_frame, unless_fault, unless_refused},
-  Names.{unwrap_or, ℕ},
-  Sends.by_keeping,
-}
-use Rattle.macsec_rx.specs.{
-  Channels.at_place,
-  Commands.{is_below_lowest, row_narrowed, row_raised, row_switched, rx_low_refusals, rx_sa_refusals},
-  Judge.{accepted_number, rows_accepting},
-}
-use Rattle.macsec_secy.{
-  proofs.{
-    AfterCommands.none_hold,
-    RxRowsStay.{accepts, at_one_place, KeepsPlace, narrows, raises, rx_row-map, switches},
-    Sums.one_sci,
-  },
-  specs.Kept.{deletes, is_deleting, RxRowStays},
-}
+use Rattle.macsec_restarts.proofs.Names.{[], ◌&&◌, ◌++◌, ◌+◌, ◌<◌, ◌==◌, ◌∙◌, ◌∷◌, ◌≡◌, ◌≤◌, All, All-cons, All-filter}
+use Rattle.macsec_restarts.proofs.Names.{All-nil, All-weaker, AllPairs, and_parts, ap, arith, Bool, bytes_eq-Decides}
+use Rattle.macsec_restarts.proofs.Names.{client_frame, Command, cond, contained, Contains, delivered_at, delivered_by}
+use Rattle.macsec_restarts.proofs.Names.{Delivery, effect, endpoint_input, EndpointLaws, eqb-true, false, filter}
+use Rattle.macsec_restarts.proofs.Names.{frame_fault, FrameFault, get_or, HasStrictOrder, holds_of, if◌then◌else◌, inl}
+use Rattle.macsec_restarts.proofs.Names.{Input, inr, is_at, IsAbove, IsMember, IsSound, judgement_of, Keeping}
+use Rattle.macsec_restarts.proofs.Names.{keeping_step, KeepingInput, last_of, link_frame, List, ltb-false, map, nat_lt}
+use Rattle.macsec_restarts.proofs.Names.{newly_delivered, no_pairs, None, not, now_durable, one_alone, operator_command}
+use Rattle.macsec_restarts.proofs.Names.{Option, option_map, or_parts, Output, received_output, received_step, refl}
+use Rattle.macsec_restarts.proofs.Names.{Refusal, refusal, Replay, rx_row, RxDel, RxOn, RxRow, RxSa, RxScDel}
+use Rattle.macsec_restarts.proofs.Names.{same_octets, same_sci, Sci, sending_of, sent_output, Some, State}
+use Rattle.macsec_restarts.proofs.Names.{state_after_receiving, state_after_sending, step, subst, sym, the_key, true}
+use Rattle.macsec_restarts.proofs.Names.{uncontrolled_frame, unless_fault, unless_refused, unwrap_or, ℕ}
+use Rattle.macsec_restarts.proofs.Sends.{by_keeping}
+use Rattle.macsec_rx.specs.Channels.{at_place}
+use Rattle.macsec_rx.specs.Commands.{is_below_lowest, row_narrowed, row_raised, row_switched, rx_low_refusals}
+use Rattle.macsec_rx.specs.Commands.{rx_sa_refusals}
+use Rattle.macsec_rx.specs.Judge.{accepted_number, rows_accepting}
+use Rattle.macsec_secy.proofs.AfterCommands.{none_hold}
+use Rattle.macsec_secy.proofs.RxRowsStay.{accepts, at_one_place, KeepsPlace, narrows, raises, rx_row-map, switches}
+use Rattle.macsec_secy.proofs.Sums.{one_sci}
+use Rattle.macsec_secy.specs.Kept.{deletes, is_deleting, RxRowStays}
 use Rattle.macsec_suite.specs.Refusals.{is_outside}
 use Rattle.std.proofs.lemmas.Bool.{eqb-false}
 
@@ -41,6 +35,10 @@ pub same_place : (sci other : Sci) (an n : ℕ) → same_sci sci other && an == 
 same_place sci other an n same =
     let parts = and_parts (same_sci sci other) (an == n) same in
     (one_sci sci other parts.0, eqb-true an n parts.1)
+
+-- the SA is under these key octets
+abbrev pub IsUnder : State → List ℕ → RxRow → Type 0
+IsUnder s bytes row = (the_key s.keys row.key).bytes ≡ bytes
 
 -- the number is below the next one of the SA under these key octets, if there is one
 abbrev pub IsBelowNext : State → List ℕ → Sci → ℕ → ℕ → Type 0
@@ -120,32 +118,6 @@ next_stays _ k (now_durable r) sci an row later there = stays_there row later _ 
 next_stays stay k (endpoint_input input) sci an row later there =
     by_keeping (λ s. rx_row s.rx.rows sci an ≡ Some later → row.next ≤ later.next) k input
     (stays_there row later _ sci an there) (by_input stay k.secy input sci an row later _ refl there)
-
-pub below_after : RowsStay → (k : Keeping) (input : KeepingInput) (bytes : List ℕ) (sci : Sci) (an n : ℕ) →
-    IsBelowNext k.secy bytes sci an n →
-    ((row : RxRow) → rx_row (keeping_step k input).1.secy.rx.rows sci an ≡ Some row →
-    IsUnder (keeping_step k input).1.secy bytes row →
-    ((earlier : RxRow) → rx_row k.secy.rx.rows sci an ≡ Some earlier → IsUnder k.secy bytes earlier → ⊥) →
-    n < row.next) → IsBelowNext (keeping_step k input).1.secy bytes sci an n
-below_after stay k input bytes sci an n below creates later there' under = by_row (rx_row k.secy.rx.rows sci an) refl
-  where
-    by_row : (o : Option RxRow) → rx_row k.secy.rx.rows sci an ≡ o → n + 1 ≤ later.next
-    by_row None none = omega
-        (arith, creates later there' under (λ earlier there under'. let no = sym there ∙ none in cc))
-    by_row (Some row) there = by_key (same_octets (the_key k.secy.keys row.key).bytes bytes) refl
-      where
-        by_key : (b : Bool) → same_octets (the_key k.secy.keys row.key).bytes bytes ≡ b → n + 1 ≤ later.next
-        by_key true same =
-            let first = below row there ((bytes_eq-Decides (the_key k.secy.keys row.key).bytes bytes).0 same) in
-            omega (arith, first, next_stays stay k input sci an row later there there')
-        by_key false other = omega (
-          arith,
-          creates later there' under (λ earlier at under'.
-              let one : row ≡ earlier = ap (λ o. unwrap_or o earlier) (sym there ∙ at) in
-              let same : same_octets (the_key k.secy.keys row.key).bytes bytes ≡ true =
-              (bytes_eq-Decides (the_key k.secy.keys row.key).bytes bytes).1 (rw (one, under')) in
-              let no = sym same ∙ other in cc),
-        )
 
 -- What a step does to the receive SA at a place: the SA stays with its key, and its lowest acceptable packet number
 -- does not fall; or it is deleted; or a command creates it.
@@ -356,10 +328,6 @@ row_step s (link_frame frame) sci an =
 -- and
 -- above what is below the SA's next number.
 
-abbrev pub Fresh : Type 0
-Fresh = (run : Run) (inputs : Inputs) (frame : List ℕ) (row : RxRow) (delivered : List ℕ) →
-    DeliversAbove run inputs frame row delivered
-
 pub all_pass : {X : Type 0} (p : X → Bool) (xs : List X) → All (λ x. p x ≡ true) (filter p xs)
 all_pass p [] = All-nil (λ x. p x ≡ true)
 all_pass p (x ∷ xs) = by_test (p x) refl (all_pass p xs)
@@ -438,6 +406,11 @@ at_most_one k (endpoint_input (link_frame frame)) = by_delivery (frame_fault fra
     by_delivery f o d = no_pairs Before
 at_most_one k _ = no_pairs Before
 
+-- if the input delivers a frame from the SA, the end has strict order
+abbrev pub IsStrictInput : Keeping → List ℕ → Sci → ℕ → KeepingInput → Type 0
+IsStrictInput k bytes sci an input =
+    (d : Delivery) → Contains (delivered_at bytes sci an (newly_delivered k input)) d → HasStrictOrder k.secy
+
 module _ (laws : EndpointLaws) (bytes : List ℕ) (sci : Sci) (an : ℕ) where
   -- above each number that is below the SA's next one, which is above it afterwards
   pub record IsPlacedAt (s after : State) (g : Delivery) : Type 0 where
@@ -466,34 +439,3 @@ module _ (laws : EndpointLaws) (bytes : List ℕ) (sci : Sci) (an : ℕ) where
         );
         above = rw (received_step k frame) ours;
       }
-
-module _ (laws : EndpointLaws) (fresh : Fresh) (bytes : List ℕ) (sci : Sci) (an : ℕ) where
-  abbrev pub name_in : List ℕ → List ℕ
-  name_in journal = receiving_name (sending_name (salt_of journal) bytes) sci an
-
-  pub record IsPlaced (run : Run) (after : State) (g : Delivery) : Type 0 where
-    pub later : (n : ℕ) → IsBelowNext (closing run).secy bytes sci an n → n < g.number
-    pub saved : highest (reservations run.journal) (name_in run.journal) < g.number
-    pub above : IsAbove after.rx.rows sci an (g.number + 1)
-
-  placed : (run : Run) → IsSound (closing run).secy → HasStrictOrder (closing run).secy →
-      (input : KeepingInput) (g : Delivery) →
-      IsGiven (closing run).secy input g → g.bytes ≡ bytes → g.sci ≡ sci → g.an ≡ an →
-      IsPlaced run (keeping_step (closing run) input).1.secy g
-  placed run sound order input g (is_given frame row delivered fits of_row delivers) is_bytes is_sci is_an =
-      let it = placed_at laws bytes sci an (closing run) sound order input g
-      (is_given frame row delivered fits of_row delivers) is_bytes is_sci is_an in
-      let name : row_name (salt_of run.journal) (closing run).secy row ≡ name_in run.journal =
-      rw (is_bytes, is_sci, is_an) in
-      record {
-        later = it.later;
-        saved = rw name at (fresh run run.inputs frame row delivered order.replay of_row delivers);
-        above = it.above;
-      }
-
-  pub all_placed : (run : Run) → IsSound (closing run).secy → (input : KeepingInput) →
-      ((g : Delivery) → Contains (delivered_at bytes sci an (newly_delivered (closing run) input)) g →
-      HasStrictOrder (closing run).secy) → All (IsPlaced run (keeping_step (closing run) input).1.secy)
-      (delivered_at bytes sci an (newly_delivered (closing run) input))
-  all_placed run sound input order =
-      of_ours bytes sci an _ (closing run) input (λ g there. placed run sound (order g there) input g)

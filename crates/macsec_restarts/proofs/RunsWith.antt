@@ -26,8 +26,8 @@ runs_with-last : (ahead : ℕ → Bool) (input : KeepingInput) (runs : List Run)
 runs_with-last ahead input (_ ∷ later ∷ more) = rw (runs_with-last (λ n. ahead (suc n)) input (later ∷ more))
 runs_with-last _ _ _ = refl
 
-runs_with-more : (ahead : ℕ → Bool) (runs : List Run) (run : Run) → runs_with ahead (runs ++ run ∷ []) ≡ runs_with ahead
-    runs ++ record { ahead = ahead (length runs); run = run } ∷ []
+pub runs_with-more : (ahead : ℕ → Bool) (runs : List Run) (run : Run) → runs_with ahead (runs ++ run ∷ []) ≡
+    runs_with ahead runs ++ record { ahead = ahead (length runs); run = run } ∷ []
 runs_with-more _ [] _ = refl
 runs_with-more ahead (p ∷ runs) run = rw (runs_with-more (λ n. ahead (suc n)) runs run)
 

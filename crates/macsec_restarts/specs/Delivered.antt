@@ -1,5 +1,5 @@
 -- What an end delivers from receive SAs, over its runs: each client frame with its SA and packet number (PN).
-use Rattle.std.specs.Prelude.{◌≡◌, ◌==◌, ◌&&◌, ℕ, List, [], ◌∷◌, ◌++◌, filter, Option, Some, None}
+use Rattle.std.specs.Prelude.{◌≡◌, ◌==◌, ◌&&◌, ℕ, List, [], ◌∷◌, filter, Option, Some, None}
 use Rattle.macsec_gcm.specs.Octets.{same_octets}
 use Rattle.macsec_tag.specs.declared.identifiers.Sci.{Sci}
 use Rattle.macsec_suite.specs.KeyRows.{the_key}
@@ -11,8 +11,8 @@ use Rattle.macsec_secy.specs.declared.fault.FrameFault.{FrameFault}
 use Rattle.macsec_secy.specs.Reception.{judgement_of}
 use Rattle.macsec_secy.specs.State.{State}
 use Rattle.macsec_secy.specs.Step.{frame_fault, link_frame, received}
-use Rattle.macsec_reserve.specs.Histories.{Run, opening}
-use Rattle.macsec_reserve.specs.Keeping.{Keeping, KeepingInput, KeepingOutput, endpoint_input, endpoint_output, keeping_step}
+use Rattle.macsec_reserve.specs.Keeping.{Keeping, KeepingInput, KeepingOutput, endpoint_input, endpoint_output}
+use Rattle.macsec_reserve.specs.Keeping.{keeping_step}
 
 -- ---- the list of what was delivered
 
@@ -27,7 +27,8 @@ pub record Delivery : Type 0 where
 
 abbrev pub delivered_by : State → Judgement → Option FrameFault → Option RxRow → Option (List ℕ) → List Delivery
 delivered_by s j None (Some row) (Some delivered) =
-    record { bytes = (the_key s.keys row.key).bytes; sci = row.sci; an = row.an; number = j.number; frame = delivered } ∷ []
+    record { bytes = (the_key s.keys row.key).bytes; sci = row.sci; an = row.an; number = j.number; frame = delivered }
+    ∷ []
 delivered_by s j fault row delivered = []
 
 -- what an input adds to the list
@@ -35,14 +36,6 @@ abbrev pub newly_delivered : Keeping → KeepingInput → List Delivery
 newly_delivered k (endpoint_input (link_frame frame)) =
     let j = judgement_of k.secy frame in delivered_by k.secy j (frame_fault frame) j.row j.delivered
 newly_delivered k other = []
-
-abbrev pub delivered_from : Keeping → List KeepingInput → List Delivery
-delivered_from k [] = []
-delivered_from k (input ∷ inputs) = newly_delivered k input ++ delivered_from (keeping_step k input).1 inputs
-
-abbrev pub delivered_in_all : List Run → List Delivery
-delivered_in_all [] = []
-delivered_in_all (run ∷ runs) = delivered_from (opening run) run.inputs ++ delivered_in_all runs
 
 -- the deliveries from SAs of this SCI and AN, under a key with these octets
 abbrev pub delivered_at : List ℕ → Sci → ℕ → List Delivery → List Delivery
@@ -71,6 +64,7 @@ abbrev pub IsFromSa : KeepingOutput → Type 0
 IsFromSa (endpoint_output (received verdict None shown (Some delivered))) = ⊥
 IsFromSa other = Unit {0}
 
--- in the mode Strict only SAs deliver at the controlled port, so the list has all that is delivered (IEEE 802.1AE, 10.6)
+-- in the mode Strict only SAs deliver at the controlled port, so the list has all that is delivered (IEEE 802.1AE,
+-- 10.6)
 abbrev pub DeliversFromSas : Keeping → KeepingInput → Type 0
 DeliversFromSas k input = k.secy.options.mode ≡ Strict → IsFromSa (keeping_step k input).0

@@ -1,5 +1,5 @@
 -- What happens at two ends that restart, in one order of time, and the runs of each end.
-use Rattle.std.specs.Prelude.{ℕ, List, [], ◌∷◌, ◌++◌, Bool, true, false, Option, Some, None, if◌then◌else◌}
+use Rattle.std.specs.Prelude.{ℕ, List, [], ◌∷◌, ◌++◌, Bool, true, false, if◌then◌else◌}
 use Rattle.macsec_commands.specs.declared.config.EndConfig.{EndConfig}
 use Rattle.macsec_commands.specs.declared.event.End.{End}
 use Rattle.macsec_commands.specs.declared.event.End.TheVariants.{A, B}
@@ -31,11 +31,6 @@ runs_of e (begins f config journal ∷ more) =
     if same_end e f then record { journal = journal; config = config; inputs = inputs_until e more } ∷ runs_of e more
     else runs_of e more
 runs_of e (comes_in f input ∷ more) = runs_of e more
-
-abbrev pub last_run : List Run → Option Run
-last_run [] = None
-last_run (run ∷ []) = Some run
-last_run (run ∷ later ∷ more) = last_run (later ∷ more)
 
 -- P holds of each happening and of all that happened before it
 abbrev pub AtEach : (List Happening → Happening → Type 0) → List Happening → List Happening → Type 0

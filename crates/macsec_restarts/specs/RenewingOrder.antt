@@ -76,7 +76,8 @@ pub record IsSameEndWith (r later : RunWith) : Type 0 where
       is_xpn x.suite ≡ true → x.ssci ≡ y.ssci
 
 -- keys with the same octets agree in all runs of both ends, and all runs of an end have its SCI and own SSCIs. Only
--- keys that SAs use matter
+-- keys that SAs use matter. The ends' SCIs and own SSCIs need not differ: an endpoint has no receive SC of its own SCI
+-- and, under an XPN suite, no receive SA of its own SSCI
 pub record ArePeersRenewing (ra rb : List RunWith) : Type 0 where
   pub agree_a : AllPairs AgreeOnKeysWith ra
   pub agree_b : AllPairs AgreeOnKeysWith rb

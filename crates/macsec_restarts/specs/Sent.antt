@@ -1,6 +1,5 @@
 -- What an end sends protected, over its runs: each client frame with its packet number (PN) and its use of the cipher.
-use Rattle.std.specs.Prelude.{◌≡◌, ◌<◌, ℕ, List, [], ◌∷◌, ◌++◌, map, filter, Option, Some, None, if◌then◌else◌}
-use Rattle.std.specs.List.{AllPairs}
+use Rattle.std.specs.Prelude.{◌≡◌, ◌<◌, ℕ, List, [], ◌∷◌, map, filter, Option, Some, None, if◌then◌else◌}
 use Rattle.macsec_gcm.specs.Octets.{same_octets}
 use Rattle.macsec_tag.specs.Frame.{in_a_row}
 use Rattle.macsec_suite.specs.CipherUses.{CipherUse}
@@ -11,8 +10,9 @@ use Rattle.macsec_secy.specs.declared.fault.FrameFault.{FrameFault}
 use Rattle.macsec_secy.specs.Accepts.{parts_of}
 use Rattle.macsec_secy.specs.State.{State, tx_options}
 use Rattle.macsec_secy.specs.Step.{client_frame, frame_fault, leaves, sending_of}
-use Rattle.macsec_reserve.specs.Histories.{IsHistory, Run, newly_sealed, opening}
-use Rattle.macsec_reserve.specs.Keeping.{Keeping, KeepingInput, KeepingOutput, endpoint_input, endpoint_output, keeping_step, may_go}
+use Rattle.macsec_reserve.specs.Histories.{newly_sealed}
+use Rattle.macsec_reserve.specs.Keeping.{Keeping, KeepingInput, KeepingOutput, endpoint_input, endpoint_output}
+use Rattle.macsec_reserve.specs.Keeping.{keeping_step, may_go}
 
 -- ---- the list of what was sent
 
@@ -32,22 +32,14 @@ newly_sent k (endpoint_input (client_frame frame)) =
     if may_go k (client_frame frame) then sent_by k.secy frame (frame_fault frame) (sending_of k.secy frame).by else []
 newly_sent k other = []
 
-abbrev pub sent_from : Keeping → List KeepingInput → List SentIn
-sent_from k [] = []
-sent_from k (input ∷ inputs) = newly_sent k input ++ sent_from (keeping_step k input).1 inputs
-
-abbrev pub sent_in_all : List Run → List SentIn
-sent_in_all [] = []
-sent_in_all (run ∷ runs) = sent_from (opening run) run.inputs ++ sent_in_all runs
-
 -- what was sent under a key with these octets
 abbrev pub sent_under : List ℕ → List SentIn → List SentIn
 sent_under bytes sends = filter (λ x. same_octets x.seal.key bytes) sends
 
 -- ---- it is what leaves, and what is sealed
 
--- a protected frame is made of a client frame by the SA that protects it: its octets are the parts of the one use of the
--- cipher that the input seals
+-- a protected frame is made of a client frame by the SA that protects it: its octets are the parts of the one use of
+-- the cipher that the input seals
 pub record IsOfOneUse (k : Keeping) (input : KeepingInput) (octets : List ℕ) (key : ℕ) : Type 0 where
   pub client : List ℕ
   pub came : input ≡ endpoint_input (client_frame client)
@@ -74,7 +66,3 @@ ListsEachUse k input = map (λ (x : SentIn). x.seal) (newly_sent k input) ≡ ne
 -- of two client frames protected under the same key octets, the later one has the higher PN
 abbrev pub Rises : SentIn → SentIn → Type 0
 Rises x y = x.seal.key ≡ y.seal.key → x.number < y.number
-
--- over all runs of an end
-abbrev pub NumbersRise : List Run → Type 0
-NumbersRise runs = IsHistory runs → AllPairs Rises (sent_in_all runs)

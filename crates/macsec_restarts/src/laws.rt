@@ -20,7 +20,6 @@ ghost use Rattle.macsec_restarts.specs.Happenings.{Happening};
 ghost use Rattle.macsec_restarts.specs.OnDisk.{RisesOnDiskRenewing};
 ghost use Rattle.macsec_restarts.specs.OnDiskOrder.{ComesInOrderOnDisk, HasTheRuns, JournalHistory, KeepsUsedInAll};
 ghost use Rattle.macsec_restarts.specs.OnDiskOrder.{NoIvAtBothOnDisk, NoIvOnDisk, TwoJournals};
-ghost use Rattle.macsec_restarts.specs.Order.{ComesInOrderOnce};
 ghost use Rattle.macsec_restarts.specs.Kept.{RunWith};
 ghost use Rattle.macsec_restarts.specs.RenewingOrder.{ComesFromOtherRenewing, ComesInOrderIfKeptRenewing};
 ghost use Rattle.macsec_restarts.specs.RenewingOrder.{ComesInOrderIfReadRenewing, IsWeakerToDeliverWith};
@@ -40,30 +39,11 @@ ghost use Rattle.macsec_restarts.specs.Sent.{ListsEachUse};
 
 use macsec_journal::laws::keeps_history;
 use macsec_reserve::laws::{
-    delivers_above, refuses_forgotten_keys, renewing_gives_up_octets, renews_keys_safely,
-    saves_accepted,
+    refuses_forgotten_keys, renewing_gives_up_octets, renews_keys_safely, saves_accepted,
 };
 use macsec_secy::laws::{accepts_sent, delivers_in_time, keys_stay, protects_frames, rx_rows_stay};
 use macsec_suite::laws::equal_ivs;
 use macsec_tag::laws::reads_by_grammar;
-
-/// Order, and each frame at most once: at each moment, what was delivered over all runs under the octets of a key, from
-/// one SCI and association number, is with its packet numbers a subsequence of what the other end sent under them.
-/// Premises: all premises of origin; whenever a run of the receiver begins, its journal has saved all packet numbers
-/// that were delivered so far; whenever it delivers from the SA, it validates strictly and drops late frames at a
-/// window of 0; and no run creates the SA again at or below what it delivered.
-pub fn comes_in_order_once()
-    ensures { (events : List Happening) → ComesInOrderOnce events }
-{
-    // Laws that the proof cites; the calls do nothing.
-    reads_by_grammar();
-    equal_ivs();
-    keys_stay();
-    rx_rows_stay();
-    protects_frames();
-    delivers_in_time();
-    delivers_above();
-}
 
 /// The frame that one endpoint's SA makes of a client frame is accepted by another endpoint, at any moments of any runs
 /// of the two. Premises: both are sound, and the receive SA matches, is enabled, and finds the packet number not late

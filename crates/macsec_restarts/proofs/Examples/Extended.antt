@@ -1,41 +1,53 @@
--- Runs with extended packet numbers that meet all premises of order and once but one, and in which B delivers a client
+-- Runs with extended packet numbers that meet all premises of order but one, and in which B delivers a client
 -- frame that A never sent with that packet number: B has another own SSCI in its second run, or another salt, and
 -- receives the frame that it sent in its first one; the key has another salt at B, under which the frame has the IV of
 -- another packet number; or the salt has no octets at both ends, which are not sound, so that all packet numbers have
 -- one IV.
 use Rattle.macsec_counterexamples.proofs.Restarts.Tables.{begins_well}
-use Rattle.macsec_restarts.proofs.{
-  Examples.{
-    Blocks.{after_own, AgreeAtBothBut, AgreeOnKeyBut, AreOwn, ArePeersBut, AreSteps, blocks, commands_do},
-    Blocks.{commands_steps, Does, does_end, does_next, EndRun, first_link, gives_by, HasOneSalt, HasOneSuite},
-    Blocks.{HasStrictOrderBut, heard_by, is_strict, IsMetBy, KeepsSalt, KeepsSsci, KeepsSuite, LawWithout},
-    Blocks.{link_step_by, no_step, NoPremise, Premise, StaysSoundAlways, step_next},
-    Histories.{meets_all, MeetsAll, nothing_saved, one_run_each, refuted, seals_are},
-    NotSent.{names_differ, not_of_none, two_runs_of_b},
-    Tags.{small_at, tag_is},
-    TwoRunsEach.{is_durable, is_free, none_is, reads, reserved_2, reserved_is},
-  },
-  Names.{[], ◌*◌, ◌++◌, ◌+◌, ◌<◌, ◌^◌, ◌∷◌, ◌≡◌, ◌≢◌, A, aad_sent, add_round_key, added_word, aes},
-  Names.{affine_transformation, after_commands, after_rounds, All-append, all_fit, ap, are_small, AreNew, AreOctets},
-  Names.{arith, at_row, B, begins_sound, Bool, byte_product, bytes, cipher_use, CipherUse, client, client_frame},
-  Names.{closing, Command, command, commands_sound, commands_stay, Contains, delivered_at, delivered_in_all, Delivery},
-  Names.{EndConfig, endpoint_input, false, frame_fault, frame_step, frame_with, genuine_at, highest, highest_of_one},
-  Names.{IfSome, Inputs, installed_key, InstalledKey, inverse, is_new, is_within, is_xpn, IsSound, IsSubsequence},
-  Names.{items, iv_of, journal, Judgement, judgement_of, Keeping, keeping_step, KeepingInput, kept, Key, key_expansion},
-  Names.{key_words, link_frame, List, map, may_go, may_send, mix_columns, name_of, new_key, newly_delivered},
-  Names.{newly_sent, no_salt, no_tx_counters, None, none_refused, now_durable, only, open_of, opening, opens},
-  Names.{parts_with, Passed, polynomial_product, pre_counter_block, raised_alone, refl, remainder, replicate},
-  Names.{Reservation, rot_word, round_key, row_at, Run, rx_from, RxOn, RxRow, RxSa, RxSc, s_box, salt, SavedIn, Sci},
-  Names.{sci_a, sci_b, Sealed, sealed, sealed_in_all, sending_name, sent_sound, SentIn, shift_rows, slice_get, small},
-  Names.{Some, sound_end, sound_next, start, State, state_after_receiving, StaysSound, sub_bytes, sub_word, subst},
-  Names.{sum_below, sum_of_words, sum_with_stream, sym, tables_fit, tag_of, tag_sent, take, true, tx_from, tx_options},
-  Names.{TxOn, TxOptions, TxRow, TxSa, use_opened, use_sent, Uses, with_tag, Xpn128, zero, ℕ},
-}
+use Rattle.macsec_restarts.proofs.Examples.Blocks.{blocks, EndRun, sealed_in}
+use Rattle.macsec_restarts.proofs.Examples.Histories.{breaks, delivered_by_two, Facts, facts_of, is_sound, IsRunOf}
+use Rattle.macsec_restarts.proofs.Examples.Histories.{keeps_delivered, KindsAgree, Meets, meets_all, meets_by}
+use Rattle.macsec_restarts.proofs.Examples.Histories.{meets_of_b, MeetsAll, never, of_run, one, pair, two_runs_of_b}
+use Rattle.macsec_restarts.proofs.Examples.Histories.{without_option}
+use Rattle.macsec_restarts.proofs.Examples.NotSent.{names_differ, not_of_none}
+use Rattle.macsec_restarts.proofs.Examples.Tags.{small_at, tag_is}
+use Rattle.macsec_restarts.proofs.Examples.Told.{begun, gives_by, good, heard_by, is_strict, IsGood, IsLow, key_of}
+use Rattle.macsec_restarts.proofs.Examples.Told.{Kind, link_gives, link_goes, link_step_by, on, set_up_told, SetsUp}
+use Rattle.macsec_restarts.proofs.Examples.Told.{Told, told_end, told_gives, told_next}
+use Rattle.macsec_restarts.proofs.Examples.TwoRunsEach.{is_free, low_none, low_one, none_is, reads, reserved_2}
+use Rattle.macsec_restarts.proofs.Examples.TwoRunsEach.{reserved_is, t}
+use Rattle.macsec_restarts.proofs.Examples.Without.{HasOneSalt, HasOneSuite, HasStrictOrderBut, KeepsDeliveredBut}
+use Rattle.macsec_restarts.proofs.Examples.Without.{KeepsSalt, KeepsSentBut, KeepsSsci, KeepsSuite, LawWithout}
+use Rattle.macsec_restarts.proofs.Examples.Without.{NoPremise, Premise, StaysSoundAlways}
+use Rattle.macsec_restarts.proofs.Names.{[], ◌*◌, ◌++◌, ◌+◌, ◌<◌, ◌^◌, ◌∙◌, ◌∷◌, ◌≡◌, ◌≢◌, A, aad_sent, add_round_key}
+use Rattle.macsec_restarts.proofs.Names.{added_word, aes, affine_transformation, after_commands, after_rounds, Ahead}
+use Rattle.macsec_restarts.proofs.Names.{All-append, All-nil, ap, are_small, AreNew, AreOctets, arith, at_row, B}
+use Rattle.macsec_restarts.proofs.Names.{begins_sound, Bool, byte_product, bytes, cipher_use, CipherUse, client}
+use Rattle.macsec_restarts.proofs.Names.{client_frame, Command, command, commands_sound, Contains, delivered_by}
+use Rattle.macsec_restarts.proofs.Names.{Delivery, EndConfig, endpoint_input, false, frame_fault, frame_step}
+use Rattle.macsec_restarts.proofs.Names.{frame_with, genuine_at, highest, highest_of_one, IfSome, Inputs, installed_key}
+use Rattle.macsec_restarts.proofs.Names.{InstalledKey, inverse, is_new, is_within, IsSound, IsSubsequence, items, iv_of}
+use Rattle.macsec_restarts.proofs.Names.{journal, Judgement, judgement_of, Keeping, keeping_step, KeepingInput, kept}
+use Rattle.macsec_restarts.proofs.Names.{Key, key_expansion, key_words, length, link_frame, List, map, may_go, may_send}
+use Rattle.macsec_restarts.proofs.Names.{mix_columns, name_of, new_key, newly_sent, no_pairs, no_salt, no_tx_counters}
+use Rattle.macsec_restarts.proofs.Names.{None, now_durable, one_alone, open_of, opens, parts_with, Passed}
+use Rattle.macsec_restarts.proofs.Names.{polynomial_product, pre_counter_block, raised_alone, refl, remainder}
+use Rattle.macsec_restarts.proofs.Names.{replicate, Reservation, rot_word, round_key, row_at, Run, rx_from, RxOn, RxRow}
+use Rattle.macsec_restarts.proofs.Names.{RxSa, RxSc, s_box, salt, Sci, sci_a, sci_b, Sealed, sealed, sending_name}
+use Rattle.macsec_restarts.proofs.Names.{sent_sound, SentIn, shift_rows, slice_get, small, Some, start, State}
+use Rattle.macsec_restarts.proofs.Names.{state_after_receiving, sub_bytes, sub_word, sum_below, sum_of_words}
+use Rattle.macsec_restarts.proofs.Names.{sum_with_stream, sym, tables_fit, tag_of, tag_sent, take, true, tx_from}
+use Rattle.macsec_restarts.proofs.Names.{tx_options, TxOn, TxOptions, TxRow, TxSa, use_opened, use_sent, Uses, with_tag}
+use Rattle.macsec_restarts.proofs.Names.{Xpn128, zero, ℕ}
+use Rattle.macsec_restarts.specs.RenewingOrder.{KeepsDeliveredWith, KeepsSentWith}
 use Rattle.macsec_commands.specs.declared.form.TagForm.TheVariants as form
 
 -- a configuration in which no sent frame carries the SCI
 abbrev pub config_of : Sci → EndConfig
 config_of sci = record { suite = Xpn128; sci = sci; max_frame = 1518; form = form.Auto }
+
+abbrev pub kind_of : List ℕ → ℕ → Kind
+kind_of key_salt ssci = record { suite = Xpn128; salt = key_salt; ssci = ssci }
 
 abbrev pub key_at : List ℕ → ℕ → ℕ → InstalledKey
 key_at key_salt ssci unused = installed_key Xpn128 key_salt ssci unused
@@ -98,11 +110,11 @@ frame_in = endpoint_input (client_frame (client 1))
 abbrev pub report_in : KeepingInput
 report_in = now_durable reserved_2
 
-abbrev pub tx_set_up : Salt → List Command
-tx_set_up s = Key (new_key (of_salt s) 1) ∷ TxSa 0 0 1 false ∷ TxOn 0 ∷ []
+abbrev tx_sa : List Command
+tx_sa = TxSa 0 0 1 false ∷ TxOn 0 ∷ []
 
 abbrev pub sends : Salt → Inputs
-sends s = map command (tx_set_up s) ++ report_in ∷ frame_in ∷ []
+sends s = map command (Key (new_key (of_salt s) 1) ∷ tx_sa) ++ report_in ∷ frame_in ∷ []
 
 abbrev tx_state : Salt → Sci → ℕ → List TxRow → ℕ → State
 tx_state s sci unused rows count = record (start (config_of sci)) {
@@ -140,12 +152,8 @@ module _ (sci : Sci) where
       (client 1) ≡ use_of s
   seals s = rw (sealed bytes (iv s) aad)
 
-  pub tx_new : (s : Salt) → AreNew k_begun (tx_set_up s)
+  pub tx_new : (s : Salt) → AreNew k_begun (Key (new_key (of_salt s) 1) ∷ tx_sa)
   tx_new s = (refl, (is_new (reads []) tx_name 1 name_free, (refl, tt)))
-
-  tx_none : (s : Salt) → none_refused (start (config_of sci)) (tx_set_up s) ≡ true
-  tx_none Zeros = refl
-  tx_none Empty = refl
 
   pub reserves : (s : Salt) → (keeping_step (k_on s) report_in).1 ≡ k_reserved s
   reserves s = rw (raised_alone tx_name 2)
@@ -156,26 +164,35 @@ module _ (sci : Sci) where
   pub lists : (s : Salt) → newly_sent (k_reserved s) frame_in ≡ sent_1 s ∷ []
   lists s = rw (goes s, seals s)
 
-  sender_does : (s : Salt) → Does k_begun (sends s) (sent_1 s ∷ []) [] (k_sent s)
-  sender_does s = commands_do (tx_set_up s) (tx_new s) (tx_none s)
-      (does_next refl refl (reserves s) (does_next (lists s) refl
-      (frame_step (k_reserved s) (client 1) (goes s)) does_end))
-
   module _ (well : begins_well (config_of sci) ≡ true) where
     pub first_sound : IsSound (start (config_of sci))
     first_sound = begins_sound _ well
 
     pub on_sound : IsSound (tx_state Zeros sci 1 (row_at 1 true ∷ []) 0)
-    on_sound = commands_sound (tx_set_up Zeros) refl refl first_sound
+    on_sound = commands_sound (Key (new_key (of_salt Zeros) 1) ∷ tx_sa) refl refl first_sound
 
     pub last_sound_a : IsSound (tx_state Zeros sci 2 (row_at 2 true ∷ []) 1)
     last_sound_a = sent_sound (client 1) refl refl on_sound
 
-    sender_sound : StaysSound k_begun (sends Zeros)
-    sender_sound = commands_stay (tx_set_up Zeros) k_begun _ (tx_new Zeros) refl refl first_sound
-        (sound_next (k_on Zeros) report_in _ on_sound (reserves Zeros)
-        (sound_next _ frame_in [] on_sound (frame_step (k_reserved Zeros) (client 1) (goes Zeros))
-        (sound_end (k_sent Zeros) last_sound_a)))
+    tx_sets_up : (s : Salt) → SetsUp (kind_of (of_salt s) 1) (config_of sci) (new_key (of_salt s) 1) tx_sa
+    tx_sets_up Zeros = record { fits = refl; none = refl; fit = λ long. refl; keep = refl; keys = refl }
+    tx_sets_up Empty = record { fits = refl; none = refl; fit = λ long. cc; keep = refl; keys = refl }
+
+    -- it is sound under a key with a salt
+    on_good : (s : Salt) → IsGood (kind_of (of_salt s) 1) (tx_state s sci 1 (row_at 1 true ∷ []) 0)
+    on_good Zeros = good (kind_of (of_salt Zeros) 1) 1 refl (λ long. on_sound)
+    on_good Empty = good (kind_of (of_salt Empty) 1) 1 refl (λ long. cc)
+
+    last_good : (s : Salt) → IsGood (kind_of (of_salt s) 1) (tx_state s sci 2 (row_at 2 true ∷ []) 1)
+    last_good Zeros = good (kind_of (of_salt Zeros) 1) 2 refl (λ long. last_sound_a)
+    last_good Empty = good (kind_of (of_salt Empty) 1) 2 refl (λ long. cc)
+
+    sender_told : {left_out : Premise} {uses : Uses} (s : Salt) → Told (kind_of (of_salt s) 1) left_out uses
+        (begun k_begun) (sends s) (sent_1 s ∷ []) [] (on (k_sent s))
+    sender_told s = set_up_told (config_of sci) (new_key (of_salt s) 1) tx_sa (salt false) (reads []) (tx_sets_up s)
+        first_sound low_none (tx_new s) (told_next (on_good s) refl refl (ap on (reserves s))
+        (told_next (on_good s) (lists s) refl (ap on (frame_step (k_reserved s) (client 1) (goes s)))
+        (told_end (on (k_sent s)) (last_good s))))
 
 abbrev run_s : Salt → Sci → Run
 run_s s sci = record { journal = journal false []; config = config_of sci; inputs = sends s }
@@ -219,12 +236,17 @@ abbrev peer_ssci : Receiver → ℕ
 peer_ssci Turned = 2
 peer_ssci r = 1
 
+abbrev pub rx_kind : Receiver → Kind
+rx_kind r = kind_of (salt_of_key r) (own_ssci r)
+
 abbrev pub rx_key : Receiver → InstalledKey
-rx_key r = key_at (salt_of_key r) (own_ssci r) 1
+rx_key r = key_of (rx_kind r) 1
+
+abbrev pub rx_sa : Receiver → List Command
+rx_sa r = RxSc sci_a ∷ RxSa sci_a 0 0 (peer_ssci r) (lowest_of r) ∷ RxOn sci_a 0 ∷ []
 
 abbrev pub set_up : Receiver → List Command
-set_up r = Key (new_key (salt_of_key r) (own_ssci r)) ∷ RxSc sci_a ∷ RxSa sci_a 0 0 (peer_ssci r) (lowest_of r)
-    ∷ RxOn sci_a 0 ∷ []
+set_up r = Key (new_key (salt_of_key r) (own_ssci r)) ∷ rx_sa r
 
 abbrev pub ready : Receiver → State
 ready r = after_commands (start (config_of sci_b)) (set_up r)
@@ -268,6 +290,14 @@ heard r = state_after_receiving (ready r) (f r) (accepts r)
 abbrev pub delivery : Receiver → Delivery
 delivery r = record { bytes = bytes; sci = sci_a; an = 0; number = number_of r; frame = client 1 }
 
+abbrev has_salt : Receiver → Bool
+has_salt Unsalted = false
+has_salt r = true
+
+salted : (r : Receiver) → length (salt_of_key r) ≡ 12 → has_salt r ≡ true
+salted Unsalted long = cc
+salted r long = refl
+
 module _ (before : List Reservation) (free : highest (reads before) (name_of (salt false)) < 1) where
   abbrev pub at : State → Keeping
   at s = kept (salt false) (reads before) [] s
@@ -276,21 +306,6 @@ module _ (before : List Reservation) (free : highest (reads before) (name_of (sa
   are_new Same = (refl, (refl, (is_new (reads before) (name_of (salt false)) 1 free, (refl, tt))))
   are_new Turned = (refl, (refl, (is_new (reads before) (name_of (salt false)) 1 free, (refl, tt))))
   are_new _ = (refl, (refl, (is_new (reads before) (name_of (salt false)) (2 ^ 32) (omega (arith, free)), (refl, tt))))
-
-  pub none : (r : Receiver) → none_refused (start (config_of sci_b)) (set_up r) ≡ true
-  none Same = refl
-  none _ = refl
-
-  pub hears : (r : Receiver) → (keeping_step (at (ready r)) (link r)).1 ≡ at (heard r)
-  hears r = link_step_by (at (ready r)) (f r) _ (whole r) (judged r)
-
-  pub gives : (r : Receiver) → newly_delivered (at (ready r)) (link r) ≡ delivery r ∷ []
-  gives Same = gives_by (at (ready Same)) (f Same) _ refl (judged Same)
-  gives it = gives_by (at (ready it)) (f it) _ refl (judged it)
-
-  receiver_does : (r : Receiver) → Does (at (start (config_of sci_b))) (commands r ++ link r ∷ []) [] (delivery r ∷ [])
-      (at (heard r))
-  receiver_does r = commands_do (set_up r) (are_new r) (none r) (does_next refl (gives r) (hears r) does_end)
 
   pub genuine : (r : Receiver) (uses : Uses) → Contains uses (use_of (sender_salt r)) →
       IfSome (use_opened (ready r) (f r)) (Contains uses)
@@ -302,52 +317,70 @@ module _ (before : List Reservation) (free : highest (reads before) (name_of (sa
   strict Same = is_strict refl refl refl
   strict _ = is_strict refl refl refl
 
-  receiver_steps : (left_out : Premise) (r : Receiver) (b : Run) → opening b ≡ at (start (config_of sci_b)) →
-      (uses : Uses) → Contains uses (use_of (sender_salt r)) →
-      AreSteps left_out bytes sci_a 0 (opening b) [] uses (commands r ++ link r ∷ [])
-  receiver_steps left_out r b opened uses there =
-      rw opened (commands_steps left_out bytes sci_a 0 (set_up r) (are_new r) (none r)
-      (step_next (first_link (λ d. genuine r uses there) (octets (sender_salt r)) (strict r)) (hears r)
-      (gives r) no_step))
+  gives : (r : Receiver) → delivered_by (ready r) (accepts r) None (accepts r).row (accepts r).delivered ≡
+      delivery r ∷ []
+  gives Same = refl
+  gives _ = refl
 
   -- ---- it is sound, with a salt of 12 octets
-
-  abbrev has_salt : Receiver → Bool
-  has_salt Unsalted = false
-  has_salt r = true
 
   pub rx_start : IsSound (start (config_of sci_b))
   rx_start = begins_sound _ refl
 
-  all_are_fit : (r : Receiver) → has_salt r ≡ true → all_fit (start (config_of sci_b)) (set_up r) ≡ true
-  all_are_fit Unsalted is = cc
-  all_are_fit _ _ = refl
+  sets_up : (r : Receiver) → SetsUp (rx_kind r) (config_of sci_b) (new_key (salt_of_key r) (own_ssci r)) (rx_sa r)
+  sets_up Unsalted = record { fits = refl; none = refl; fit = λ long. cc; keep = refl; keys = refl }
+  sets_up _ = record { fits = refl; none = refl; fit = λ long. refl; keep = refl; keys = refl }
 
-  pub ready_sound : (r : Receiver) → has_salt r ≡ true → IsSound (ready r)
-  ready_sound r is = commands_sound (set_up r) (none r) (all_are_fit r is) rx_start
+  pub ready_sound : (r : Receiver) → length (salt_of_key r) ≡ 12 → IsSound (ready r)
+  ready_sound r long = commands_sound (set_up r) (sets_up r).none ((sets_up r).fit long) rx_start
 
   heard_fits : (r : Receiver) → has_salt r ≡ true → tables_fit (heard r) ≡ true
   heard_fits Unsalted is = cc
   heard_fits r _ = refl
 
-  pub heard_is_sound : (r : Receiver) → has_salt r ≡ true → IsSound (heard r)
-  heard_is_sound r is = heard_by (f r) (whole r) (judged r) (heard_fits r is) (ready_sound r is)
+  pub heard_is_sound : (r : Receiver) → length (salt_of_key r) ≡ 12 → IsSound (heard r)
+  heard_is_sound r long =
+      heard_by (f r) (whole r) (judged r) (heard_fits r (salted r long)) (ready_sound r long)
 
-  receiver_sound : (r : Receiver) → has_salt r ≡ true →
-      StaysSound (at (start (config_of sci_b))) (commands r ++ link r ∷ [])
-  receiver_sound r is =
-      commands_stay (set_up r) (at (start (config_of sci_b))) _ (are_new r) (none r) (all_are_fit r is) rx_start
-      (sound_next (at (ready r)) (link r) [] (ready_sound r is) (hears r)
-      (sound_end (at (heard r)) (heard_is_sound r is)))
+  keys_ready : (r : Receiver) → (ready r).keys ≡ rx_key r ∷ []
+  keys_ready Same = refl
+  keys_ready _ = refl
 
--- what holds of the keys of two runs
-pub of_last : (R : InstalledKey → InstalledKey → Type 0) (p q : Run) (x y : InstalledKey) →
-    (closing p).secy.keys ≡ x ∷ [] → (closing q).secy.keys ≡ y ∷ [] → R x y →
-    (x' y' : InstalledKey) → Contains (closing p).secy.keys x' → Contains (closing q).secy.keys y' → R x' y'
-of_last R p q x y keys keys' holds x' y' there there' =
-    let first = only x x' (rw keys at there) in
-    let second = only y y' (rw keys' at there') in
-    rw (← first) (rw second at holds)
+  keys_heard : (r : Receiver) → (heard r).keys ≡ rx_key r ∷ []
+  keys_heard Same = refl
+  keys_heard _ = refl
+
+  pub ready_good : (r : Receiver) → IsGood (rx_kind r) (ready r)
+  ready_good r = good (rx_kind r) 1 (keys_ready r) (ready_sound r)
+
+  pub heard_good : (r : Receiver) → IsGood (rx_kind r) (heard r)
+  heard_good r = good (rx_kind r) 1 (keys_heard r) (heard_is_sound r)
+
+  -- the frame is delivered
+  pub frame_told : {left_out : Premise} {uses : Uses} (r : Receiver) {inputs : Inputs} {ds : List Delivery}
+      {last : Ahead} → Contains uses (use_of (sender_salt r)) →
+      Told (rx_kind r) left_out uses (on (at (heard r))) inputs [] ds last →
+      Told (rx_kind r) left_out uses (on (at (ready r))) (link r ∷ inputs) [] (delivery r ∷ ds) last
+  frame_told {uses} r there rest = told_gives {now = []} (ready_good r) refl
+      (link_gives (at (ready r)) (f r) (gives_by (at (ready r)) (f r) (accepts r) (whole r) (judged r) ∙ gives r))
+      (λ some. record {
+        order = strict r;
+        octets = octets (sender_salt r);
+        genuine = λ d. genuine r uses there;
+      }) (link_goes (at (ready r)) (f r) (link_step_by (at (ready r)) (f r) (accepts r) (whole r) (judged r))) rest
+
+  pub commands_first : {left_out : Premise} {uses : Uses} (r : Receiver) {inputs : Inputs} {ds : List Delivery}
+      {last : Ahead} → IsLow (reads before) → Told (rx_kind r) left_out uses (on (at (ready r))) inputs [] ds last →
+      Told (rx_kind r) left_out uses (begun (at (start (config_of sci_b)))) (commands r ++ inputs) [] ds last
+  commands_first r low rest =
+      set_up_told (config_of sci_b) (new_key (salt_of_key r) (own_ssci r)) (rx_sa r) (salt false) (reads before)
+      (sets_up r) rx_start low (are_new r) rest
+
+  receiver_told : {left_out : Premise} {uses : Uses} (r : Receiver) → IsLow (reads before) →
+      Contains uses (use_of (sender_salt r)) →
+      Told (rx_kind r) left_out uses (begun (at (start (config_of sci_b)))) (commands r ++ link r ∷ []) []
+      (delivery r ∷ []) (on (at (heard r)))
+  receiver_told r low there = commands_first r low (frame_told r there (told_end (on (at (heard r))) (heard_good r)))
 
 -- ---- B has another own SSCI or another salt in its second run, and delivers what it sent in the first one
 
@@ -365,64 +398,54 @@ free_r : highest (reads (reserved_2 ∷ [])) (name_of (salt false)) < 1
 free_r = is_free (reserved_2 ∷ []) (name_of (salt false)) 1 reserved_is
     (omega (arith, highest_of_one reserved_2 (name_of (salt false)) false names_differ))
 
-does_s : Does (opening first_run) (sends Zeros) (sent_1 Zeros ∷ []) [] (k_sent sci_b Zeros)
-does_s = sender_does sci_b Zeros
+abbrev own_kind : Kind
+own_kind = kind_of no_salt 1
 
-does_r : (r : Receiver) → Does (opening (run_r r)) (commands r ++ link r ∷ []) [] (delivery r ∷ [])
-    (at (reserved_2 ∷ []) free_r (heard r))
-does_r r = receiver_does (reserved_2 ∷ []) free_r r
+does_s : (left_out : Premise) → Facts own_kind sci_b left_out [] (without_option first_run) (sent_1 Zeros ∷ []) []
+does_s left_out = facts_of refl (sender_told sci_b refl Zeros)
 
-sealed_s : Contains (sealed_in_all [] ++ sealed_in_all (first_run ∷ [])) (use_of Zeros)
-sealed_s = rw (seals_are (first_run ∷ []) (sent_1 Zeros ∷ []) (rw does_s.sends)) (0, omega arith, refl)
-
-none_yet : delivered_in_all (first_run ∷ []) ≡ []
-none_yet = rw does_s.delivers
+does_r : (left_out : Premise) (r : Receiver) (uses : Uses) → Contains uses (use_of (sender_salt r)) →
+    Facts (rx_kind r) sci_b left_out uses (without_option (run_r r)) [] (delivery r ∷ [])
+does_r left_out r uses there = facts_of refl
+    (receiver_told (reserved_2 ∷ []) free_r r (low_one reserved_2 reserved_is (omega arith)) there)
 
 abbrev reflected : Receiver → List EndRun
 reflected r = (B, first_run) ∷ (B, run_r r) ∷ []
 
-module _ (left_out : Premise) (r : Receiver) (salted : has_salt (reserved_2 ∷ []) free_r r ≡ true)
-    (keys : (closing (run_r r)).secy.keys ≡ rx_key r ∷ []) (seals : sender_salt r ≡ Zeros)
-    (agree : AgreeOnKeyBut KeepsSuite KeepsSalt left_out (key_at no_salt 1 2) (rx_key r))
+module _ (left_out : Premise) (r : Receiver) (long : length (salt_of_key r) ≡ 12) (seals_so : sender_salt r ≡ Zeros)
+    (agree : KindsAgree KeepsSuite KeepsSalt left_out own_kind (rx_kind r))
     (ssci : KeepsSsci ≢ left_out → 1 ≡ own_ssci r) where
-  keys_s : (closing first_run).secy.keys ≡ key_at no_salt 1 2 ∷ []
-  keys_s = rw does_s.ends
+  first : Facts own_kind sci_b left_out [] (without_option first_run) (sent_1 Zeros ∷ []) []
+  first = does_s left_out
 
-  reflected_peers : ArePeersBut left_out (blocks (reflected r))
-  reflected_peers = two_runs_of_b left_out first_run (run_r r) (sender_sound sci_b refl)
-      (receiver_sound (reserved_2 ∷ []) free_r r salted)
-      (of_last (λ x y. x.bytes ≡ y.bytes → AgreeOnKeyBut KeepsSuite KeepsSalt left_out x y) first_run (run_r r)
-      (key_at no_salt 1 2) (rx_key r) keys_s keys (λ same. agree)) refl (is_durable reserved_2 reserved_is) (record {
-        sci = λ d. refl;
-        ssci = λ d. of_last (λ x y. x.bytes ≡ y.bytes → is_xpn x.suite ≡ true → x.ssci ≡ y.ssci) first_run (run_r r)
-            (key_at no_salt 1 2) (rx_key r) keys_s keys (λ same xpn. ssci d);
-      })
+  sealed_s : Contains (sealed_in never ((B, first_run) ∷ [])) (use_of Zeros)
+  sealed_s = rw first.told.sends (0, omega arith, refl)
 
-  reflects : LawWithout left_out (blocks (reflected r)) → ⊥
-  reflects = refuted left_out (reflected r) [] (delivery r ∷ []) (
-    (
-      (λ d. nothing_saved first_run.journal),
-      after_own left_out bytes sci_a 0 (sends Zeros) [] (opening first_run) (sealed_in_all [] ++ sealed_in_all [])
-          (tt, (tt, (tt, (tt, (tt, tt))))) no_step,
-    ),
-    (
-      (
-        (λ d. subst (λ xs. SavedIn (run_r r).journal bytes sci_a 0
-            (delivered_at bytes sci_a 0 xs)) (sym none_yet) (nothing_saved (run_r r).journal)),
-        receiver_steps (reserved_2 ∷ []) free_r left_out r (run_r r) refl
-            (sealed_in_all [] ++ sealed_in_all (first_run ∷ [])) (rw seals sealed_s),
-      ),
-      tt,
-    ),
-  ) reflected_peers refl (rw (does_s.delivers, (does_r r).delivers)) (not_of_none (number_of r ∷ client 1))
+  second : Facts (rx_kind r) sci_b left_out (sealed_in never ((B, first_run) ∷ [])) (without_option (run_r r)) []
+      (delivery r ∷ [])
+  second = does_r left_out r (sealed_in never ((B, first_run) ∷ [])) (rw seals_so sealed_s)
 
-pub same_ssci_needed : LawWithout KeepsSsci (blocks (reflected Same)) → ⊥
-same_ssci_needed = reflects _ Same refl (rw ((does_r Same).ends)) refl
-    (record { suite = λ d. refl; salt = λ d xpn. refl }) (λ d. absurd (d refl))
+  it_meets : Meets left_out never (reflected r) [] (delivery r ∷ [])
+  it_meets = meets_of_b first_run (run_r r) (is_sound (without_option first_run) refl (of_run first))
+      (is_sound (without_option (run_r r)) long (of_run second))
+      (two_runs_of_b left_out own_kind (rx_kind r) (without_option first_run) (without_option (run_r r)) agree
+      (λ d xpn. ssci d) (λ d. refl) (of_run first) (of_run second)) (first.told.fair, (second.told.fair, tt))
+      (delivered_by_two (without_option first_run) (without_option (run_r r)) first.told.delivers
+      second.told.delivers)
 
-pub kept_salt_needed : LawWithout KeepsSalt (blocks (reflected Turned)) → ⊥
-kept_salt_needed = reflects _ Turned refl (rw ((does_r Turned).ends)) refl
-    (record { suite = λ d. refl; salt = λ d. absurd (d refl) }) (λ d. refl)
+  reflects : LawWithout left_out never (blocks (reflected r)) → ⊥
+  reflects = breaks never (reflected r) left_out it_meets (no_pairs (KeepsSentBut left_out bytes))
+      (pair (KeepsDeliveredBut left_out bytes sci_a 0) (without_option first_run) (without_option (run_r r))
+      (λ d. keeps_delivered (without_option first_run) (without_option (run_r r)) first.told.delivers (All-nil _)))
+      (not_of_none (number_of r ∷ client 1))
+
+pub same_ssci_needed : LawWithout KeepsSsci never (blocks (reflected Same)) → ⊥
+same_ssci_needed =
+    reflects KeepsSsci Same refl refl (record { suite = λ d. refl; salt = λ d xpn. refl }) (λ d. absurd (d refl))
+
+pub kept_salt_needed : LawWithout KeepsSalt never (blocks (reflected Turned)) → ⊥
+kept_salt_needed =
+    reflects KeepsSalt Turned refl refl (record { suite = λ d. refl; salt = λ d. absurd (d refl) }) (λ d. refl)
 
 -- ---- the key has another salt at B, or none at both: B delivers A's frame with another packet number
 
@@ -435,30 +458,11 @@ run_a r = run_s (sender_salt r) sci_a
 pub free_b : highest (reads []) (name_of (salt false)) < 1
 free_b = is_free [] _ 1 none_is (omega arith)
 
-pub does_a : (r : Receiver) → Does (opening (run_a r)) (sends (sender_salt r)) (sent_1 (sender_salt r) ∷ []) []
-    (k_sent sci_a (sender_salt r))
-does_a r = sender_does sci_a _
-
-does_b : (r : Receiver) → Does (opening (run_b r)) (commands r ++ link r ∷ []) [] (delivery r ∷ [])
-    (at [] free_b (heard r))
-does_b r = receiver_does [] free_b r
-
-sealed_a : (r : Receiver) → Contains (sealed_in_all (run_a r ∷ []) ++ sealed_in_all []) (use_of (sender_salt r))
-sealed_a r = rw (seals_are (run_a r ∷ []) (sent_1 (sender_salt r) ∷ []) (rw ((does_a r).sends))) (0, omega arith, refl)
-
 abbrev shifted : Receiver → List EndRun
 shifted r = (A, run_a r) ∷ (B, run_b r) ∷ []
 
-ends_agree : (left_out : Premise) (r : Receiver) →
-    AgreeOnKeyBut HasOneSuite HasOneSalt left_out (key_at (of_salt (sender_salt r)) 1 2) (rx_key r) →
-    AgreeAtBothBut left_out (run_a r) (run_b r)
-ends_agree left_out r agree =
-    of_last (λ x y. x.bytes ≡ y.bytes → AgreeOnKeyBut HasOneSuite HasOneSalt left_out x y) (run_a r) (run_b r)
-    (key_at (of_salt (sender_salt r)) 1 2) (rx_key r) (rw ((does_a r).ends)) (keys_at_end r) (λ same. agree)
-  where
-    keys_at_end : (r' : Receiver) → (closing (run_b r')).secy.keys ≡ rx_key r' ∷ []
-    keys_at_end Same = ap (λ k. k.secy.keys) (does_b Same).ends
-    keys_at_end it = rw ((does_b it).ends)
+abbrev tx_kind : Receiver → Kind
+tx_kind r = kind_of (of_salt (sender_salt r)) 1
 
 -- what is delivered has another packet number than what was sent
 not_of_other : (m n : ℕ) (x y : List ℕ) → (m ≡ n → ⊥) → IsSubsequence ((m ∷ x) ∷ []) ((n ∷ y) ∷ []) → ⊥
@@ -468,42 +472,44 @@ not_of_other m n x y differ it = by_places it.0 it.2
     by_places (zero ∷ _) same = let one : n ≡ m = cc in differ (sym one)
     by_places _ same = cc
 
-receives_it : (left_out : Premise) (r : Receiver) → IsMetBy left_out bytes sci_a 0 ((A, run_a r) ∷ []) B (run_b r)
-receives_it left_out r = (
-  (λ d. nothing_saved (run_b r).journal),
-  receiver_steps [] free_b left_out r (run_b r) refl (sealed_in_all (run_a r ∷ []) ++ sealed_in_all []) (sealed_a r),
-)
+module _ (left_out : Premise) (r : Receiver) where
+  does_a : Facts (tx_kind r) sci_a left_out [] (without_option (run_a r)) (sent_1 (sender_salt r) ∷ []) []
+  does_a = facts_of refl (sender_told sci_a refl (sender_salt r))
 
-own_a : AreOwn (sends Zeros)
-own_a = (tt, (tt, (tt, (tt, (tt, tt)))))
+  sealed_a : Contains (sealed_in never ((A, run_a r) ∷ [])) (use_of (sender_salt r))
+  sealed_a = rw does_a.told.sends (0, omega arith, refl)
 
-own_unsalted : AreOwn (sends Empty)
-own_unsalted = (tt, (tt, (tt, (tt, (tt, tt)))))
+  does_b : Facts (rx_kind r) sci_b left_out (sealed_in never ((A, run_a r) ∷ [])) (without_option (run_b r)) []
+      (delivery r ∷ [])
+  does_b = facts_of refl (receiver_told [] free_b r low_none sealed_a)
 
-pub same_salt_needed : LawWithout HasOneSalt (blocks (shifted Salted)) → ⊥
-same_salt_needed = refuted HasOneSalt (shifted Salted) (sent_1 Zeros ∷ []) (delivery Salted ∷ [])
-    (own_a, (receives_it HasOneSalt Salted, tt))
-    (one_run_each HasOneSalt (run_a Salted) (run_b Salted) (λ d. sender_sound sci_a refl)
-    (λ d. receiver_sound [] free_b Salted refl)
-    (ends_agree HasOneSalt Salted (record { suite = λ d. refl; salt = λ d. absurd (d refl) })))
-    (rw ((does_a Salted).sends)) (rw ((does_b Salted).delivers))
+  shifts : KindsAgree HasOneSuite HasOneSalt left_out (tx_kind r) (rx_kind r) →
+      (StaysSoundAlways ≢ left_out → (length (tx_kind r).salt ≡ 12) × (length (rx_kind r).salt ≡ 12)) →
+      Meets left_out never (shifted r) (sent_1 (sender_salt r) ∷ []) (delivery r ∷ [])
+  shifts agree long = meets_by (tx_kind r) (rx_kind r) agree long
+      (one (IsRunOf (tx_kind r) sci_a) (without_option (run_a r)) (of_run does_a))
+      (one (IsRunOf (rx_kind r) sci_b) (without_option (run_b r)) (of_run does_b)) (tt, (does_b.told.fair, tt))
+      (rw does_a.told.sends) (rw does_b.told.delivers)
+
+pub same_salt_needed : LawWithout HasOneSalt never (blocks (shifted Salted)) → ⊥
+same_salt_needed = breaks never (shifted Salted) HasOneSalt
+    (shifts HasOneSalt Salted (record { suite = λ d. refl; salt = λ d. absurd (d refl) }) (λ d. (refl, refl)))
+    (one_alone (KeepsSentBut HasOneSalt bytes) (without_option (run_a Salted)))
+    (one_alone (KeepsDeliveredBut HasOneSalt bytes sci_a 0) (without_option (run_b Salted)))
     (not_of_other (2 ^ 32 + 1) 1 (client 1) (client 1) (λ same. omega (arith, same)))
 
 -- no call installs a key whose salt has no octets: its endpoint is not sound
-pub soundness_needed : LawWithout StaysSoundAlways (blocks (shifted Unsalted)) → ⊥
-soundness_needed = refuted StaysSoundAlways (shifted Unsalted) (sent_1 Empty ∷ []) (delivery Unsalted ∷ [])
-    (own_unsalted, (receives_it StaysSoundAlways Unsalted, tt))
-    (one_run_each StaysSoundAlways (run_a Unsalted) (run_b Unsalted) (λ d. absurd (d refl)) (λ d. absurd (d refl))
-    (ends_agree StaysSoundAlways Unsalted (record { suite = λ d. refl; salt = λ d xpn. refl })))
-    (rw ((does_a Unsalted).sends)) (rw ((does_b Unsalted).delivers))
+pub soundness_needed : LawWithout StaysSoundAlways never (blocks (shifted Unsalted)) → ⊥
+soundness_needed = breaks never (shifted Unsalted) StaysSoundAlways
+    (shifts StaysSoundAlways Unsalted (record { suite = λ d. refl; salt = λ d xpn. refl }) (λ d. absurd (d refl)))
+    (one_alone (KeepsSentBut StaysSoundAlways bytes) (without_option (run_a Unsalted)))
+    (one_alone (KeepsDeliveredBut StaysSoundAlways bytes sci_a 0) (without_option (run_b Unsalted)))
     (not_of_other (2 ^ 32 + 1) 1 (client 1) (client 1) (λ same. omega (arith, same)))
 
 -- ---- the key has the same salt at both ends, and another own SSCI: all premises are met, and B delivers what A sent
 
-pub extended_meets : MeetsAll (shifted Same) ((1 ∷ client 1) ∷ []) ((1 ∷ client 1) ∷ [])
-extended_meets = meets_all (shifted Same) (sent_1 Zeros ∷ []) (delivery Same ∷ [])
-    (own_a, (receives_it NoPremise Same, tt))
-    (one_run_each NoPremise (run_a Same) (run_b Same) (λ d. sender_sound sci_a refl)
-    (λ d. receiver_sound [] free_b Same refl)
-    (ends_agree NoPremise Same (record { suite = λ d. refl; salt = λ d xpn. refl }))) (rw ((does_a Same).sends))
-    (rw ((does_b Same).delivers))
+pub extended_meets : MeetsAll never (shifted Same) bytes ((1 ∷ client 1) ∷ []) ((1 ∷ client 1) ∷ [])
+extended_meets = meets_all never (shifted Same) bytes
+    (shifts NoPremise Same (record { suite = λ d. refl; salt = λ d xpn. refl }) (λ d. (refl, refl)))
+    (one_alone (KeepsSentWith bytes) (without_option (run_a Same)))
+    (one_alone (KeepsDeliveredWith bytes sci_a 0) (without_option (run_b Same)))

@@ -1,35 +1,41 @@
--- Runs that meet all premises of order and once but one: the octets of a key have two suites, GCM-AES-128 and
+-- Runs that meet all premises of order but one: the octets of a key have two suites, GCM-AES-128 and
 -- GCM-AES-XPN-128, at the two ends, or at B in two runs. Under GCM-AES-128 a frame is sent with packet number 1, by A
 -- or by B itself. B receives it under the other suite, with the salt under which the IV of packet number 2^32 + 1 is
 -- that of the frame. So B delivers it with a packet number that A never used.
 use Rattle.macsec_counterexamples.proofs.Link.WorkedEnds.{xpn_b}
-use Rattle.macsec_restarts.proofs.{
-  Examples.{
-    Blocks.{after_own, AgreeAtBothBut, AgreeInRunsBut, AgreeOnKeyBut, AreOwn, AreSteps, blocks, commands_steps},
-    Blocks.{commands_told, first_link, gives_by, HasOneSuite, HasStrictOrderBut, heard_by, is_strict, KeepsSalt},
-    Blocks.{KeepsSuite, LawWithout, link_step_by, no_step, Premise, step_next, Told, told_end, told_next},
-    Histories.{nothing_saved, one_run_each, refuted, seals_are},
-    NotSent.{not_of_none, two_runs_of_b},
-    Tags.{octets_1, small_at, tag_is},
-    TwoRunsEach.{at_most, Facts, facts_a, is_durable, is_free, none_is, opens_1, reads, reserved_2, reserved_is, run_a},
-    TwoRunsEach.{t, use_1},
-  },
-  Names.{[], ◌*◌, ◌++◌, ◌+◌, ◌<◌, ◌^◌, ◌∙◌, ◌∷◌, ◌≡◌, A, aad, aad_sent, add_round_key, added_word, aes},
-  Names.{affine_transformation, after_commands, after_rounds, All-append, all_fit, ap, append-nil, are_small, AreNew},
-  Names.{AreOctets, arith, at_row, B, begins_sound, byte_product, bytes, cipher_use, CipherUse, client, client_frame},
-  Names.{closing, Command, command, commands_sound, Contains, delivered_in_all, Delivery, End, EndConfig},
-  Names.{endpoint_input, false, frame_fault, frame_step, frame_with, genuine_at, highest, IfSome, Inputs},
-  Names.{installed_key, InstalledKey, inverse, is_new, is_within, is_xpn, IsSound, IsSubsequence, items, iv, iv_of},
-  Names.{journal, Judgement, judgement_of, Keeping, keeping_step, KeepingInput, KeepsDurable, kept, Key, key_expansion},
-  Names.{key_row, key_words, link_frame, List, map, may_go, may_send, mix_columns, name_of, new_key, newly_delivered},
-  Names.{newly_sent, no_salt, no_tx_counters, None, none_refused, only, open_of, opening, opens, parts_with, Passed},
-  Names.{polynomial_product, pre_counter_block, raised_alone, refl, remainder, replicate, Reservation, rot_word},
-  Names.{round_key, row_at, Run, rx_from, RxOn, RxSa, RxSc, s_box, salt, SameSalt, sci_a, sci_b, Sealed, sealed},
-  Names.{sealed_in_all, sending_name, sent_in_all, sent_sound, SentIn, shift_rows, slice_get, small, Some, start},
-  Names.{State, state_after_receiving, sub_bytes, sub_word, suc, sum_below, sum_of_words, sum_with_stream, sym},
-  Names.{tables_fit, tag_of, tag_sent, take, true, tx_from, tx_options, TxOn, TxOptions, TxRow, TxSa, use_opened},
-  Names.{use_sent, Uses, with_tag, Xpn128, zero, ℕ},
-}
+use Rattle.macsec_restarts.proofs.Examples.Blocks.{blocks, sealed_in}
+use Rattle.macsec_restarts.proofs.Examples.Histories.{breaks, delivered_by_two, Facts, facts_of, is_sound, IsRunOf}
+use Rattle.macsec_restarts.proofs.Examples.Histories.{keeps_delivered, Meets, meets_by, meets_of_b, never, of_run, one}
+use Rattle.macsec_restarts.proofs.Examples.Histories.{pair, two_runs_of_b, without_option}
+use Rattle.macsec_restarts.proofs.Examples.NotSent.{not_of_none}
+use Rattle.macsec_restarts.proofs.Examples.Tags.{octets_1, small_at, tag_is}
+use Rattle.macsec_restarts.proofs.Examples.Told.{begun, gives_by, good, heard_by, is_strict, IsGood, IsLow, key_of}
+use Rattle.macsec_restarts.proofs.Examples.Told.{Kind, link_gives, link_goes, link_step_by, on, set_up_told, SetsUp}
+use Rattle.macsec_restarts.proofs.Examples.Told.{short, Told, told_end, told_gives, told_next}
+use Rattle.macsec_restarts.proofs.Examples.TwoRunsEach.{at_most, facts_a, is_free, low_none, low_one, none_is, opens_1}
+use Rattle.macsec_restarts.proofs.Examples.TwoRunsEach.{reads, reserved_2, reserved_is, run_a, t, use_1}
+use Rattle.macsec_restarts.proofs.Examples.Without.{HasOneSuite, HasStrictOrderBut, KeepsDeliveredBut, KeepsSentBut}
+use Rattle.macsec_restarts.proofs.Examples.Without.{KeepsSuite, LawWithout, Premise}
+use Rattle.macsec_restarts.proofs.Names.{[], ◌*◌, ◌++◌, ◌+◌, ◌<◌, ◌^◌, ◌∙◌, ◌∷◌, ◌≡◌, A, aad, aad_sent, add_round_key}
+use Rattle.macsec_restarts.proofs.Names.{added_word, aes, affine_transformation, after_commands, after_rounds}
+use Rattle.macsec_restarts.proofs.Names.{All-append, All-nil, ap, are_small, AreNew, AreOctets, arith, at_row, B}
+use Rattle.macsec_restarts.proofs.Names.{begins_sound, byte_product, bytes, cipher_use, CipherUse, client, client_frame}
+use Rattle.macsec_restarts.proofs.Names.{Command, command, commands_sound, Contains, delivered_by, Delivery, End}
+use Rattle.macsec_restarts.proofs.Names.{EndConfig, endpoint_input, false, frame_fault, frame_step, frame_with}
+use Rattle.macsec_restarts.proofs.Names.{genuine_at, highest, IfSome, Inputs, inverse, is_new, is_within, IsSound}
+use Rattle.macsec_restarts.proofs.Names.{IsSubsequence, items, iv, iv_of, journal, Judgement, judgement_of, Keeping}
+use Rattle.macsec_restarts.proofs.Names.{keeping_step, KeepingInput, kept, Key, key_expansion, key_row, key_words}
+use Rattle.macsec_restarts.proofs.Names.{length, link_frame, List, map, may_go, may_send, mix_columns, name_of, new_key}
+use Rattle.macsec_restarts.proofs.Names.{newly_sent, no_pairs, no_salt, no_tx_counters, None, one_alone, open_of, opens}
+use Rattle.macsec_restarts.proofs.Names.{parts_with, Passed, polynomial_product, pre_counter_block, raised_alone, refl}
+use Rattle.macsec_restarts.proofs.Names.{remainder, replicate, Reservation, rot_word, round_key, row_at, Run, rx_from}
+use Rattle.macsec_restarts.proofs.Names.{RxOn, RxSa, RxSc, s_box, salt, sci_a, sci_b, Sealed, sealed, sending_name}
+use Rattle.macsec_restarts.proofs.Names.{sent_sound, SentIn, shift_rows, slice_get, small, Some, start, State}
+use Rattle.macsec_restarts.proofs.Names.{state_after_receiving, sub_bytes, sub_word, suc, sum_below, sum_of_words}
+use Rattle.macsec_restarts.proofs.Names.{sum_with_stream, sym, tables_fit, tag_of, tag_sent, take, true, tx_from}
+use Rattle.macsec_restarts.proofs.Names.{tx_options, TxOn, TxOptions, TxRow, TxSa, use_opened, use_sent, Uses, with_tag}
+use Rattle.macsec_restarts.proofs.Names.{Xpn128, zero, ℕ}
+use Rattle.macsec_suite.specs.declared.key_row.NewKey.{NewKey}
 use Rattle.macsec_suite.specs.declared.suite.Suite.TheVariants.{Gcm128}
 use Rattle.macsec_commands.specs.declared.form.TagForm.TheVariants as form
 use Rattle.macsec_restarts.proofs.Examples.Extended as extended
@@ -83,11 +89,11 @@ own_octets = All-append (λ x. x < 256) own_front (items 16 own_icv) (small own_
 
 -- ---- the run of B that sends it
 
-abbrev own_set_up : List Command
-own_set_up = Key (new_key no_salt 2) ∷ TxSa 0 0 1 false ∷ TxOn 0 ∷ []
+abbrev own_sa : List Command
+own_sa = TxSa 0 0 1 false ∷ TxOn 0 ∷ []
 
 abbrev own_sends : Inputs
-own_sends = map command own_set_up ++ extended.report_in ∷ extended.frame_in ∷ []
+own_sends = map command (Key receiver.key ∷ own_sa) ++ extended.report_in ∷ extended.frame_in ∷ []
 
 abbrev first_run : Run
 first_run = record { journal = journal false []; config = config_own; inputs = own_sends }
@@ -106,7 +112,10 @@ own_start_sound : IsSound (start config_own)
 own_start_sound = begins_sound _ refl
 
 own_on_sound : IsSound (own_state 1 (row_at 1 true ∷ []) 0)
-own_on_sound = commands_sound own_set_up refl refl own_start_sound
+own_on_sound = commands_sound (Key receiver.key ∷ own_sa) refl refl own_start_sound
+
+own_sets_up : SetsUp (short 2) config_own receiver.key own_sa
+own_sets_up = record { fits = refl; none = refl; fit = λ long. refl; keep = refl; keys = refl }
 
 -- its steps
 
@@ -132,12 +141,15 @@ own_seals = rw (sealed bytes own_iv own_aad)
 own_lists : newly_sent own_reserved extended.frame_in ≡ sent_own ∷ []
 own_lists = rw (own_goes, own_seals)
 
-told_own : Told (opening first_run) own_sends (sent_own ∷ []) [] own_last
-told_own =
-    commands_told own_set_up (refl, (is_new (reads []) extended.tx_name 1 extended.name_free, (refl, tt))) refl refl
-    own_start_sound (told_next own_on_sound refl refl own_reserves
-    (told_next own_on_sound own_lists refl (frame_step own_reserved (client 1) own_goes)
-    (told_end own_last (sent_sound (client 1) refl refl own_on_sound))))
+own_does : Facts (short 2) sci_b KeepsSuite [] (without_option first_run) (sent_own ∷ []) []
+own_does = facts_of refl (set_up_told config_own receiver.key own_sa (salt false) (reads []) own_sets_up own_start_sound
+    low_none (refl, (is_new (reads []) extended.tx_name 1 extended.name_free, (refl, tt)))
+    (told_next (receiver_good 1 refl own_on_sound) refl refl (ap on own_reserves)
+    (told_next (receiver_good 1 refl own_on_sound) own_lists refl (ap on (frame_step own_reserved (client 1) own_goes))
+    (told_end (on own_last) (receiver_good 2 refl (sent_sound (client 1) refl refl own_on_sound))))))
+  where
+    receiver_good : {s : State} (unused : ℕ) → s.keys ≡ key_row 2 unused ∷ [] → IsSound s → IsGood (short 2) s
+    receiver_good unused keys sound = good (short 2) unused keys (λ long. sound)
 
 -- ---- B's key under GCM-AES-XPN-128, and its IV: that of A's frame, or of B's own
 
@@ -145,8 +157,8 @@ abbrev key_salt : End → List ℕ
 key_salt A = 2 ∷ 0 ∷ 0 ∷ 1 ∷ 0 ∷ 1 ∷ replicate 6 0
 key_salt B = 2 ∷ 0 ∷ 0 ∷ 1 ∷ 0 ∷ 2 ∷ replicate 6 0
 
-abbrev key_b : End → InstalledKey
-key_b e = installed_key Xpn128 (key_salt e) 2 1
+abbrev kind_b : End → Kind
+kind_b e = extended.kind_of (key_salt e) 2
 
 abbrev lowest : ℕ
 lowest = 2 ^ 32
@@ -190,14 +202,17 @@ opens_b B = rw (iv_is B, opens_own)
 
 -- ---- the run of B that receives it
 
-abbrev set_up : End → List Command
-set_up e = Key (new_key (key_salt e) 2) ∷ RxSc sci_a ∷ RxSa sci_a 0 0 1 lowest ∷ RxOn sci_a 0 ∷ []
+abbrev key : End → NewKey
+key e = new_key (key_salt e) 2
+
+abbrev sa : List Command
+sa = RxSc sci_a ∷ RxSa sci_a 0 0 1 lowest ∷ RxOn sci_a 0 ∷ []
 
 abbrev ready : End → State
-ready e = after_commands (start xpn_b) (set_up e)
+ready e = after_commands (start xpn_b) (Key (key e) ∷ sa)
 
 abbrev commands : End → Inputs
-commands e = map command (set_up e)
+commands e = map command (Key (key e) ∷ sa)
 
 abbrev link : End → KeepingInput
 link e = endpoint_input (link_frame (f e))
@@ -219,23 +234,51 @@ delivery = record { bytes = bytes; sci = sci_a; an = 0; number = number; frame =
 
 record Works (e : End) : Type 0 where
   whole : frame_fault (f e) ≡ None
-  none : none_refused (start xpn_b) (set_up e) ≡ true
-  fit : all_fit (start xpn_b) (set_up e) ≡ true
+  sets_up : SetsUp (kind_b e) xpn_b (key e) sa
+  keys : (ready e).keys ≡ key_of (kind_b e) 1 ∷ []
+  keys_then : (heard e).keys ≡ key_of (kind_b e) 1 ∷ []
+  long : length (kind_b e).salt ≡ 12
   heard_fits : tables_fit (heard e) ≡ true
+  delivers : delivered_by (ready e) accepts None accepts.row accepts.delivered ≡ delivery ∷ []
   strict : {left_out : Premise} → HasStrictOrderBut left_out (ready e)
 
 works : (e : End) → Works e
-works A = record { whole = refl; none = refl; fit = refl; heard_fits = refl; strict = is_strict refl refl refl }
-works B = record { whole = refl; none = refl; fit = refl; heard_fits = refl; strict = is_strict refl refl refl }
+works A = record {
+  whole = refl;
+  sets_up = record { fits = refl; none = refl; fit = λ long. refl; keep = refl; keys = refl };
+  keys = refl;
+  keys_then = refl;
+  long = refl;
+  heard_fits = refl;
+  delivers = refl;
+  strict = is_strict refl refl refl;
+}
+works B = record {
+  whole = refl;
+  sets_up = record { fits = refl; none = refl; fit = λ long. refl; keep = refl; keys = refl };
+  keys = refl;
+  keys_then = refl;
+  long = refl;
+  heard_fits = refl;
+  delivers = refl;
+  strict = is_strict refl refl refl;
+}
 
 start_sound : IsSound (start xpn_b)
 start_sound = begins_sound xpn_b refl
 
 ready_sound : (e : End) → IsSound (ready e)
-ready_sound e = commands_sound (set_up e) (works e).none (works e).fit start_sound
+ready_sound e =
+    commands_sound (Key (key e) ∷ sa) (works e).sets_up.none ((works e).sets_up.fit (works e).long) start_sound
 
 heard_is_sound : (e : End) → IsSound (heard e)
 heard_is_sound e = heard_by (f e) (works e).whole (judged e) (works e).heard_fits (ready_sound e)
+
+ready_good : (e : End) → IsGood (kind_b e) (ready e)
+ready_good e = good (kind_b e) 1 (works e).keys (λ long. ready_sound e)
+
+heard_good : (e : End) → IsGood (kind_b e) (heard e)
+heard_good e = good (kind_b e) 1 (works e).keys_then (λ long. heard_is_sound e)
 
 -- its steps; where B itself sent the frame, its journal has what was reported to the first run
 
@@ -254,38 +297,38 @@ free B =
     (at_most (sending_name (salt false) bytes) (name_of (salt false)) 2 3 (omega arith)) in
     omega (arith, least)
 
-are_new : (e : End) → AreNew (at e (start xpn_b)) (set_up e)
+are_new : (e : End) → AreNew (at e (start xpn_b)) (Key (key e) ∷ sa)
 are_new e = (refl, (refl, (is_new (reads (before e)) (name_of (salt false)) lowest (free e), (refl, tt))))
 
-hears : (e : End) → (keeping_step (at e (ready e)) (link e)).1 ≡ at e (heard e)
-hears e = link_step_by _ (f e) _ (works e).whole (judged e)
+low : (e : End) → IsLow (reads (before e))
+low A = low_none
+low B = low_one reserved_2 reserved_is (omega arith)
 
-gives : (e : End) → newly_delivered (at e (ready e)) (link e) ≡ delivery ∷ []
-gives A = gives_by (at A (ready A)) (f A) _ refl (judged A)
-gives B = gives_by (at B (ready B)) (f B) _ refl (judged B)
-
-told_link_of : (e : End) → Told (at e (start xpn_b)) (commands e ++ link e ∷ []) [] (delivery ∷ []) (at e (heard e))
-told_link_of e = commands_told (set_up e) (are_new e) (works e).none (works e).fit start_sound
-    (told_next (ready_sound e) refl (gives e) (hears e) (told_end _ (heard_is_sound e)))
-
-abbrev run_b : End → Run
-run_b e = record { journal = journal false (before e); config = xpn_b; inputs = commands e ++ link e ∷ [] }
-
-told_b : (e : End) → Told (opening (run_b e)) (commands e ++ link e ∷ []) [] (delivery ∷ []) (at e (heard e))
-told_b A = told_link_of A
-told_b B = told_link_of B
-
--- it meets the premises
-
+-- its frame is among these uses of the cipher
 genuine : (e : End) (uses : Uses) → Contains uses (sent_use e) → IfSome (use_opened (ready e) (f e)) (Contains uses)
 genuine A uses there = genuine_at (ready A) (f A) accepts uses (judged A) (rw (iv_is A) there)
 genuine B uses there = genuine_at (ready B) (f B) accepts uses (judged B) (rw (iv_is B) there)
 
-steps_b : (left_out : Premise) (e : End) → opening (run_b e) ≡ at e (start xpn_b) → (uses : Uses) →
-    Contains uses (sent_use e) → AreSteps left_out bytes sci_a 0 (opening (run_b e)) [] uses (commands e ++ link e ∷ [])
-steps_b left_out e opened uses there =
-    rw opened (commands_steps left_out bytes sci_a 0 (set_up e) (are_new e) (works e).none
-    (step_next (first_link (λ d. genuine e uses there) (octets e) (works e).strict) (hears e) (gives e) no_step))
+told_b : {left_out : Premise} {uses : Uses} (e : End) → Contains uses (sent_use e) →
+    Told (kind_b e) left_out uses (begun (at e (start xpn_b))) (commands e ++ link e ∷ []) [] (delivery ∷ [])
+    (on (at e (heard e)))
+told_b {uses} e there =
+    set_up_told xpn_b (key e) sa (salt false) (reads (before e)) (works e).sets_up start_sound (low e) (are_new e)
+    (told_gives {now = []} (ready_good e) refl (link_gives (at e (ready e)) (f e)
+    (gives_by (at e (ready e)) (f e) accepts (works e).whole (judged e) ∙ (works e).delivers)) (λ some. record {
+      order = (works e).strict;
+      octets = octets e;
+      genuine = λ d. genuine e uses there;
+    }) (link_goes (at e (ready e)) (f e) (link_step_by (at e (ready e)) (f e) accepts (works e).whole (judged e)))
+    (told_end (on (at e (heard e))) (heard_good e)))
+
+abbrev run_b : End → Run
+run_b e = record { journal = journal false (before e); config = xpn_b; inputs = commands e ++ link e ∷ [] }
+
+does_b : (left_out : Premise) (e : End) (uses : Uses) → Contains uses (sent_use e) →
+    Facts (kind_b e) sci_b left_out uses (without_option (run_b e)) [] (delivery ∷ [])
+does_b left_out A uses there = facts_of refl (told_b A there)
+does_b left_out B uses there = facts_of refl (told_b B there)
 
 -- ---- one run of each end
 
@@ -299,81 +342,58 @@ not_of_two m n k x y z first second it = by_places it.0 it.2
     by_places (suc zero ∷ _) same = let one : k ≡ m = cc in second (sym one)
     by_places _ same = cc
 
-module _ (a b : Run) (sends : Facts 1 sci_a a (sender.sent false) []) (last : Keeping)
-    (told : Told (opening b) b.inputs [] (delivery ∷ []) last) (keys : last.secy.keys ≡ key_b A ∷ []) where
-  keys_at_b : (y : InstalledKey) → Contains (closing b).secy.keys y → key_b A ≡ y
-  keys_at_b y there = only _ y (rw (ap (λ k. k.secy.keys) told.ends ∙ keys) at there)
+module _ (a b : Run) (sends : Facts (short 1) sci_a HasOneSuite [] (without_option a) (sender.sent false) [])
+    (receives : (uses : Uses) → Contains uses use_1 →
+    Facts (kind_b A) sci_b HasOneSuite uses (without_option b) [] (delivery ∷ [])) where
+  sealed_a : Contains (sealed_in never ((A, a) ∷ [])) use_1
+  sealed_a = rw sends.told.sends (0, omega arith, refl)
+
+  delivers : Facts (kind_b A) sci_b HasOneSuite (sealed_in never ((A, a) ∷ [])) (without_option b) [] (delivery ∷ [])
+  delivers = receives (sealed_in never ((A, a) ∷ [])) sealed_a
 
   -- A's key has 32-bit packet numbers, so nothing is asked of the salts
-  agree_at_both : AgreeAtBothBut HasOneSuite a b
-  agree_at_both = λ x y here there same.
-      let k = sends.of.keys x here in
-      rw (← keys_at_b y there) (rw k.1 (record { suite = λ d. absurd (d refl); salt = λ d xpn. cc }))
+  one_meets : Meets HasOneSuite never ((A, a) ∷ (B, b) ∷ []) (sender.sent false) (delivery ∷ [])
+  one_meets = meets_by (short 1) (kind_b A) (record { suite = λ d. absurd (d refl); salt = λ d xpn. cc })
+      (λ d. (refl, refl)) (one (IsRunOf (short 1) sci_a) (without_option a) (of_run sends))
+      (one (IsRunOf (kind_b A) sci_b) (without_option b) (of_run delivers)) (tt, (delivers.told.fair, tt))
+      (rw sends.told.sends) (rw delivers.told.delivers)
 
-  sent_is : sent_in_all (a ∷ []) ≡ sender.sent false
-  sent_is = rw sends.told.sends
-
-  sealed_a : Contains (sealed_in_all (a ∷ []) ++ []) use_1
-  sealed_a = rw (seals_are _ _ sent_is) (0, omega arith, refl)
-
-  widened : AreOwn a.inputs → ((uses : Uses) → Contains uses use_1 →
-      AreSteps HasOneSuite bytes sci_a 0 (opening b) [] uses b.inputs) →
-      LawWithout HasOneSuite (blocks ((A, a) ∷ (B, b) ∷ [])) → ⊥
-  widened own steps = refuted HasOneSuite ((A, a) ∷ (B, b) ∷ []) (sender.sent false) (delivery ∷ [])
-      (own, (((λ d. nothing_saved b.journal), steps (sealed_in_all (a ∷ []) ++ []) sealed_a), tt))
-      (one_run_each HasOneSuite a b (λ d. sends.of.sound) (λ d. told.sound) agree_at_both) sent_is (rw told.delivers)
+  widened : LawWithout HasOneSuite never (blocks ((A, a) ∷ (B, b) ∷ [])) → ⊥
+  widened = breaks never ((A, a) ∷ (B, b) ∷ []) HasOneSuite one_meets
+      (one_alone (KeepsSentBut HasOneSuite bytes) (without_option a))
+      (one_alone (KeepsDeliveredBut HasOneSuite bytes sci_a 0) (without_option b))
       (not_of_two (2 ^ 32 + 1) 1 2 (client 1) (client 1) (client 1) (λ same. omega (arith, same))
       (λ same. omega (arith, same)))
 
-pub one_suite_needed : LawWithout HasOneSuite (blocks ((A, run_a false) ∷ (B, run_b A) ∷ [])) → ⊥
-one_suite_needed = widened (run_a false) (run_b A) (facts_a false) (at A (heard A)) (told_b A) refl
-    (tt, (tt, (tt, (tt, (tt, (tt, tt)))))) (steps_b HasOneSuite A refl)
+pub one_suite_needed : LawWithout HasOneSuite never (blocks ((A, run_a false) ∷ (B, run_b A) ∷ [])) → ⊥
+one_suite_needed = widened (run_a false) (run_b A) (facts_a false) (does_b HasOneSuite A)
 
 -- ---- two runs of B
 
-module _ (s r : Run) (first last : Keeping) (sends : Told (opening s) s.inputs (sent_own ∷ []) [] first)
-    (receives : Told (opening r) r.inputs [] (delivery ∷ []) last)
-    (keys_first : first.secy.keys ≡ key_row 2 2 ∷ []) (keys_last : last.secy.keys ≡ key_b B ∷ []) where
-  keys_s : (closing s).secy.keys ≡ key_row 2 2 ∷ []
-  keys_s = rw (sends.ends, keys_first)
+module _ (s r : Run) (sends : Facts (short 2) sci_b KeepsSuite [] (without_option s) (sent_own ∷ []) [])
+    (receives : (uses : Uses) → Contains uses own_use →
+    Facts (kind_b B) sci_b KeepsSuite uses (without_option r) [] (delivery ∷ [])) where
+  sealed_s : Contains (sealed_in never ((B, s) ∷ [])) own_use
+  sealed_s = rw sends.told.sends (0, omega arith, refl)
 
-  keys_r : (closing r).secy.keys ≡ key_b B ∷ []
-  keys_r = rw (receives.ends, keys_last)
+  then_delivers : Facts (kind_b B) sci_b KeepsSuite (sealed_in never ((B, s) ∷ [])) (without_option r) []
+      (delivery ∷ [])
+  then_delivers = receives (sealed_in never ((B, s) ∷ [])) sealed_s
 
   -- the first key has 32-bit packet numbers, so nothing is asked of the salts
-  agree_in_runs : AgreeInRunsBut KeepsSuite s r
-  agree_in_runs =
-      extended.of_last (λ x y. x.bytes ≡ y.bytes → AgreeOnKeyBut KeepsSuite KeepsSalt KeepsSuite x y) s r (key_row 2 2)
-      (key_b B) keys_s keys_r (λ same. record { suite = λ d. absurd (d refl); salt = λ d xpn. cc })
+  two_meet : Meets KeepsSuite never ((B, s) ∷ (B, r) ∷ []) [] (delivery ∷ [])
+  two_meet = meets_of_b s r (is_sound (without_option s) refl (of_run sends))
+      (is_sound (without_option r) refl (of_run then_delivers))
+      (two_runs_of_b KeepsSuite (short 2) (kind_b B) (without_option s) (without_option r)
+      (record { suite = λ d. absurd (d refl); salt = λ d xpn. cc }) (λ d xpn. refl) (λ d. refl) (of_run sends)
+      (of_run then_delivers)) (sends.told.fair, (then_delivers.told.fair, tt))
+      (delivered_by_two (without_option s) (without_option r) sends.told.delivers then_delivers.told.delivers)
 
-  sealed_s : Contains (sealed_in_all [] ++ sealed_in_all (s ∷ [])) own_use
-  sealed_s = rw (seals_are (s ∷ []) (sent_own ∷ []) (rw sends.sends)) (0, omega arith, refl)
+  reflected : LawWithout KeepsSuite never (blocks ((B, s) ∷ (B, r) ∷ [])) → ⊥
+  reflected = breaks never ((B, s) ∷ (B, r) ∷ []) KeepsSuite two_meet (no_pairs (KeepsSentBut KeepsSuite bytes))
+      (pair (KeepsDeliveredBut KeepsSuite bytes sci_a 0) (without_option s) (without_option r)
+      (λ d. keeps_delivered (without_option s) (without_option r) sends.told.delivers (All-nil _)))
+      (not_of_none (number ∷ client 1))
 
-  none_yet : delivered_in_all (s ∷ []) ≡ []
-  none_yet = rw sends.delivers
-
-  reflected : AreOwn s.inputs → s.config.sci ≡ r.config.sci → SameSalt s r → KeepsDurable s r →
-      ((uses : Uses) → Contains uses own_use → AreSteps KeepsSuite bytes sci_a 0 (opening r) [] uses r.inputs) →
-      LawWithout KeepsSuite (blocks ((B, s) ∷ (B, r) ∷ [])) → ⊥
-  reflected own one_sci salts durable steps = refuted KeepsSuite ((B, s) ∷ (B, r) ∷ []) [] (delivery ∷ []) (
-    (
-      (λ d. nothing_saved s.journal),
-      rw (append-nil s.inputs) at (after_own KeepsSuite bytes sci_a 0 s.inputs [] (opening s)
-          (sealed_in_all [] ++ sealed_in_all []) own no_step),
-    ),
-    (
-      (
-        (λ d. rw none_yet (nothing_saved r.journal)),
-        steps (sealed_in_all [] ++ sealed_in_all (s ∷ [])) sealed_s,
-      ),
-      tt,
-    ),
-  ) (two_runs_of_b KeepsSuite s r sends.sound receives.sound agree_in_runs salts durable (record {
-    sci = λ d. one_sci;
-    ssci = λ d. extended.of_last (λ x y. x.bytes ≡ y.bytes → is_xpn x.suite ≡ true → x.ssci ≡ y.ssci) s r
-        (key_row 2 2) (key_b B) keys_s keys_r (λ same xpn. refl);
-  })) refl (rw (sends.delivers, receives.delivers)) (not_of_none (number ∷ client 1))
-
-pub kept_suite_needed : LawWithout KeepsSuite (blocks ((B, first_run) ∷ (B, run_b B) ∷ [])) → ⊥
-kept_suite_needed = reflected _ _ own_last (at B (heard B)) told_own (told_b B) refl refl
-    (tt, (tt, (tt, (tt, (tt, tt))))) refl refl (is_durable _ reserved_is) (steps_b _ B refl)
+pub kept_suite_needed : LawWithout KeepsSuite never (blocks ((B, first_run) ∷ (B, run_b B) ∷ [])) → ⊥
+kept_suite_needed = reflected first_run (run_b B) own_does (does_b KeepsSuite B)

@@ -1,50 +1,49 @@
 -- A run of each end, with extended packet numbers, in which a key is renewed. A sends a frame under the first key,
 -- deletes the SA and retires the key. Another key takes its number and its row, and A sends the same client frame under
 -- it, with the same packet number. B delivers both frames.
-use Rattle.macsec_counterexamples.proofs.Restarts.Tables.{first_sound as sound_first}
-use Rattle.macsec_aes.specs.{Keys.key_bytes, declared.Key.TheVariants.K128}
-use Rattle.macsec_suite.specs.{KeyRows.IsKeyRow, Suites.key_length, declared.key_row.NewKey.NewKey}
+use Rattle.macsec_aes.specs.declared.Key.TheVariants.{K128}
+use Rattle.macsec_ahead.specs.Ahead.{command_forgetting}
 use Rattle.macsec_commands.specs.declared.command.Command.TheVariants.{TxDel}
+use Rattle.macsec_reserve.specs.Forgetting.{as_taken}
+use Rattle.macsec_restarts.proofs.Examples.Extended.{aad, accepts, at, commands, commands_first, config_of, delivery}
+use Rattle.macsec_restarts.proofs.Examples.Extended.{first_sound, frame_in, frame_of, frame_told, free_b, front, goes}
+use Rattle.macsec_restarts.proofs.Examples.Extended.{heard, heard_good, heard_is_sound, iv, iv_is, k_begun, k_on}
+use Rattle.macsec_restarts.proofs.Examples.Extended.{k_reserved, k_sent, key_at, kind_of, last_sound_a, link, lists}
+use Rattle.macsec_restarts.proofs.Examples.Extended.{on_sound, options, report_in, reserves, rx_key, Same, sent_1}
+use Rattle.macsec_restarts.proofs.Examples.Extended.{tx_new, use_of, Zeros}
+use Rattle.macsec_restarts.proofs.Examples.Tags.{small_at, tag_is}
+use Rattle.macsec_restarts.proofs.Examples.Told.{begun, commands_told, good_with, heard_by, is_strict, IsGood, IsKeyOf}
+use Rattle.macsec_restarts.proofs.Examples.Told.{key_goes, Kind, not_given_up, on, on_with, set_up_told, SetsUp, Told}
+use Rattle.macsec_restarts.proofs.Examples.Told.{told_end, told_link, told_next}
+use Rattle.macsec_restarts.proofs.Examples.TwoRunsEach.{is_free, low_none, none_is, reads}
+use Rattle.macsec_restarts.proofs.Examples.Without.{Premise}
+use Rattle.macsec_restarts.proofs.Names.{[], ◌*◌, ◌++◌, ◌<◌, ◌^◌, ◌∷◌, ◌≡◌, ◌≤◌, add_round_key, added_word, aes}
+use Rattle.macsec_restarts.proofs.Names.{affine_transformation, after_commands, after_rounds, Ahead, All-append}
+use Rattle.macsec_restarts.proofs.Names.{are_small, AreKeyRows, AreOctets, arith, begins_again, byte_product, bytes}
+use Rattle.macsec_restarts.proofs.Names.{can_replace, carried_step, cipher_use, CipherUse, client, client_frame}
+use Rattle.macsec_restarts.proofs.Names.{Command, command, commands_sound, compress, Contains, Delivery, digest_bytes}
+use Rattle.macsec_restarts.proofs.Names.{effect, ended_after, endpoint_input, Ends, false, fingerprint, first_words}
+use Rattle.macsec_restarts.proofs.Names.{forgetting, forgetting_step, frame_step, genuine_at, hash_after, highest}
+use Rattle.macsec_restarts.proofs.Names.{highest-append, highest_of_one, IfSome, Inputs, InstalledKey, inverse, is_new}
+use Rattle.macsec_restarts.proofs.Names.{is_within, IsSound, items, iv_of, judgement_of, Keeping, keeping_step}
+use Rattle.macsec_restarts.proofs.Names.{KeepingInput, kept, Key, key_expansion, key_words, keys_replacing, length}
+use Rattle.macsec_restarts.proofs.Names.{link_frame, List, map, max_frame_len, may_go, may_send, mix_columns, new_key}
+use Rattle.macsec_restarts.proofs.Names.{newly_sent, no_ends, no_salt, no_tx_counters, None, now_durable, open_of}
+use Rattle.macsec_restarts.proofs.Names.{opens, operator_command, parts_with, polynomial_product, pre_counter_block}
+use Rattle.macsec_restarts.proofs.Names.{raised_alone, ready_by_keys, receiving_name, refl, remainder, replacing}
+use Rattle.macsec_restarts.proofs.Names.{replicate, Reservation, Retire, rot_word, round_key, rounds, row_at, RxDel}
+use Rattle.macsec_restarts.proofs.Names.{RxOn, RxSa, s_box, salt, same_octets, schedule, sci_a, sci_b, sealed}
+use Rattle.macsec_restarts.proofs.Names.{sending_name, sent_sound, SentIn, sha256, shift_rows, small, Some, start}
+use Rattle.macsec_restarts.proofs.Names.{State, state_after_receiving, sub_bytes, sub_word, sum_below, sum_of_words}
+use Rattle.macsec_restarts.proofs.Names.{sum_with_stream, sym, tag_of, tag_sent, true, tx_from, TxOn, TxRow, TxSa}
+use Rattle.macsec_restarts.proofs.Names.{use_opened, use_sent, Uses, with_tag, Xpn128, ℕ}
+use Rattle.macsec_restarts.specs.RenewingRuns.{ahead_renewing_step}
 use Rattle.macsec_secy.proofs.KeyRenewed.{ready_by_keys as ready_by_renewing}
 use Rattle.macsec_secy.specs.Renewing.{renewal_refusal}
-use Rattle.macsec_reserve.specs.{Forgetting.as_taken, Renewing.{is_given_up, keeping_renewed}}
-use Rattle.macsec_ahead.specs.Ahead.{command_forgetting}
+use Rattle.macsec_suite.specs.KeyRows.{IsKeyRow}
+use Rattle.macsec_suite.specs.Suites.{key_length}
+use Rattle.macsec_suite.specs.declared.key_row.NewKey.{NewKey}
 use Rattle.std.proofs.Common.{◌-◌, Ok}
-use Rattle.macsec_restarts.{
-  proofs.{
-    Examples.{
-      Blocks.{gives_by, goes_on, heard_by, link_step_by},
-      Extended.{aad, accepts, are_new, at, commands, config_of, delivery, f, first_sound, frame_in, frame_of, free_b},
-      Extended.{front, gives, goes, heard, heard_is_sound, hears, iv, iv_is, judged, k_begun, k_on, k_reserved, k_sent},
-      Extended.{key_at, last_sound_a, link, lists, on_sound, options, ready, ready_sound, report_in},
-      Extended.{reserves, rx_key, rx_start, sent_1, tx_new},
-      Extended.Receiver.Same,
-      Extended.Salt.Zeros,
-      Tags.{small_at, tag_is},
-      TwoRunsEach.{is_free, none_is, reads},
-    },
-    Names.{[], ◌*◌, ◌++◌, ◌<◌, ◌^◌, ◌∷◌, ◌≡◌, ◌≤◌, add_round_key, added_word, aes, affine_transformation},
-    Names.{after_commands, after_rounds, Ahead, All, All-append, All-cons, All-nil, all_fit, ap, are_small, AreKeyRows},
-    Names.{AreNew, AreOctets, arith, begins_again, Bool, byte_product, bytes, can_replace, carried_step, cipher_use},
-    Names.{CipherUse, client, client_frame, Command, command, commands_sound, compress, Delivery, digest_bytes, effect},
-    Names.{ended_after, endpoint_input, Ends, false, fingerprint, first_carried, first_words, forgetting},
-    Names.{forgetting_step, frame_step, hash_after, highest, highest-append, highest_of_one, if◌then◌else◌, Inputs},
-    Names.{InstalledKey, inverse, is_new, is_within, IsSound, items, iv_of, judgement_of, Keeping, keeping_step},
-    Names.{KeepingInput, kept, Key, key_expansion, key_words, keys_replacing, length, lets_through, link_frame, List},
-    Names.{lt-leb, map, max_frame_len, may_go, may_send, mix_columns, new_key, newly_delivered, newly_delivered_with},
-    Names.{newly_sent, no_ends, no_salt, no_tx_counters, None, none_refused, now_durable, open_of, opens},
-    Names.{operator_command, parts_with, polynomial_product, pre_counter_block, raised_alone, ready_by_keys},
-    Names.{receiving_name, refl, remainder, replacing, replicate, Reservation, Retire, rot_word, round_key, rounds},
-    Names.{row_at, RxDel, RxOn, RxSa, RxSc, s_box, salt, same_octets, schedule, sci_a, sci_b, sealed, sending_name},
-    Names.{sent_sound, SentIn, sha256, shift_rows, small, Some, start, State, state_after_receiving, sub_bytes},
-    Names.{sub_word, subst, suc, sum_below, sum_of_words, sum_with_stream, sym, tag_of, tag_sent, take, true, tx_from},
-    Names.{TxOn, TxRow, TxSa, use_sent, with_tag, without_key, Xpn128, zero, ℕ},
-  },
-  specs.{
-    RenewingOrder.delivered_from_renewing,
-    RenewingRuns.{ahead_renewing_after, ahead_renewing_step, sent_from_renewing},
-  },
-}
 
 is_row : {row : InstalledKey} → row.number < 4096 → length row.bytes ≡ key_length row.suite →
     length row.salt ≡ 12 → row.ssci < 2 ^ 32 → 1 ≤ row.first_unused → row.first_unused ≤ 2 ^ 64 → IsKeyRow row
@@ -57,112 +56,14 @@ is_row number bytes salt ssci least most = record {
   first_unused = most;
 }
 
--- ---- how a run goes, input by input
-
--- all keys of an end have one suite, salt and own SSCI
-pub record IsKeyOf (own : ℕ) (key : InstalledKey) : Type 0 where
-  pub suite : key.suite ≡ Xpn128
-  pub salt : key.salt ≡ no_salt
-  pub ssci : key.ssci ≡ own
-
-pub record IsGood (own : ℕ) (s : State) : Type 0 where
-  pub sound : IsSound s
-  pub keys : All (IsKeyOf own) s.keys
-
-no_key : (own : ℕ) → All (IsKeyOf own) []
-no_key own = All-nil (IsKeyOf own)
-
-one_key : {own : ℕ} (key : InstalledKey) → IsKeyOf own key → All (IsKeyOf own) (key ∷ [])
-one_key {own} key is = All-cons (IsKeyOf own) key [] is (no_key own)
-
-pub record Does (own : ℕ) (a : Ahead) (inputs : Inputs) (xs : List SentIn) (ds : List Delivery)
-    (last : Ahead) : Type 0 where
-  pub sends : sent_from_renewing a inputs ≡ xs
-  pub delivers : delivered_from_renewing a inputs ≡ ds
-  pub ends : ahead_renewing_after a inputs ≡ last
-  pub good : (n : ℕ) → IsGood own (ahead_renewing_after a (take n inputs)).k.secy
-
-does_end : {own : ℕ} (a : Ahead) → IsGood own a.k.secy → Does own a [] [] [] a
-does_end {own} a good = record { sends = refl; delivers = refl; ends = refl; good = at_each }
-  where
-    at_each : (n : ℕ) → IsGood own (ahead_renewing_after a (take n [])).k.secy
-    at_each zero = good
-    at_each (suc n) = good
-
-does_next : {own : ℕ} {a after last : Ahead} {input : KeepingInput} {inputs : Inputs} {now sends : List SentIn}
-    {new ds : List Delivery} → IsGood own a.k.secy → newly_sent a.k input ≡ now →
-    newly_delivered_with a input ≡ new → (ahead_renewing_step a input).1 ≡ after →
-    Does own after inputs sends ds last → Does own a (input ∷ inputs) (now ++ sends) (new ++ ds) last
-does_next {own} {a} {input} {inputs} {now} {new} good is_now is_new is_after rest = record {
-  sends = rw (is_now, is_after, rest.sends);
-  delivers = rw (is_new, is_after, rest.delivers);
-  ends = rw (is_after, rest.ends);
-  good = at_each;
-}
-  where
-    at_each : (n : ℕ) → IsGood own (ahead_renewing_after a (take n (input ∷ inputs))).k.secy
-    at_each zero = good
-    at_each (suc n) = subst (λ x. IsGood own (ahead_renewing_after x (take n inputs)).k.secy) (sym is_after)
-        (rest.good n)
-
--- without the option; before the first key and after it
-abbrev pub begun : Bool → Ends → Keeping → Ahead
-begun renews ended k = record { k = k; ahead = false; taken = []; ended = ended; renews = renews }
-
-abbrev pub on : Ends → Keeping → Ahead
-on ended k = begun true ended k
-
-newly_none : (a : Ahead) (c : Command) → newly_delivered_with a (command c) ≡ []
-newly_none a c = by_test (lets_through a (command c))
-  where
-    by_test : (b : Bool) → (if b then newly_delivered a.k (command c) else []) ≡ []
-    by_test true = refl
-    by_test false = refl
-
--- a command other than a new key, which forgets nothing
-command_goes : (ended : Ends) (k : Keeping) {ended' : Ends} {k' : Keeping} (c : Command) →
-    ahead_renewing_step (on ended k) (command c) ≡ command_forgetting (on ended k) c →
-    begins_again (on ended k) (operator_command c) ≡ false →
-    forgetting_step k (command c) ≡ keeping_step k (command c) → (keeping_step k (command c)).1 ≡ k' →
-    ended_after (on ended k) (operator_command c) ((keeping_step k (command c)).0, k') ≡ ended' →
-    (ahead_renewing_step (on ended k) (command c)).1 ≡ on ended' k'
-command_goes _ _ c other again same is ends = rw (other, again, same, is, ends)
-
-record IsPlain (own : ℕ) (k : Keeping) (c : Command) : Type 0 where
-  other : ahead_renewing_step (on no_ends k) (command c) ≡ command_forgetting (on no_ends k) c
-  again : begins_again (on no_ends k) (operator_command c) ≡ false
-  same : forgetting_step k (command c) ≡ keeping_step k (command c)
-  ends : ended_after (on no_ends k) (operator_command c)
-      ((keeping_step k (command c)).0, record k { secy = effect k.secy c }) ≡ no_ends
-  keys : (effect k.secy c).keys ≡ k.secy.keys
-
-abbrev ArePlain : ℕ → Keeping → List Command → Type 0
-ArePlain own k [] = Unit {0}
-ArePlain own k (c ∷ cs) = IsPlain own k c × ArePlain own (record k { secy = effect k.secy c }) cs
-
-commands_do : {own : ℕ} (cs : List Command) {k : Keeping} {last : Ahead} {inputs : Inputs} {xs : List SentIn}
-    {ds : List Delivery} → AreNew k cs → none_refused k.secy cs ≡ true → all_fit k.secy cs ≡ true →
-    ArePlain own k cs → IsGood own k.secy →
-    Does own (on no_ends (record k { secy = after_commands k.secy cs })) inputs xs ds last →
-    Does own (on no_ends k) (map command cs ++ inputs) xs ds last
-commands_do [] _ none _ _ _ rest = rest
-commands_do {own} (c ∷ cs) {k} new none fit plain good rest =
-    let it = first_carried k.secy c cs none in
-    let now = sound_first k.secy c cs it.0 fit good.sound in
-    let p = plain.0 in
-    let next : IsGood own (effect k.secy c) =
-    record { sound = now.0; keys = subst (All (IsKeyOf own)) (sym p.keys) good.keys } in
-    does_next good refl (newly_none (on no_ends k) c)
-    (command_goes no_ends k c p.other p.again p.same (carried_step k c new.0 it.0) p.ends)
-    (commands_do cs new.1 it.1 now.1 plain.1 next rest)
-
--- a key is installed
-key_goes : (renews : Bool) (ended : Ends) (k : Keeping) (key : NewKey) → is_given_up k (key_bytes key.bytes) ≡ false →
-    as_taken k key ≡ key → renewal_refusal k.secy key ≡ None →
-    (ahead_renewing_step (begun renews ended k) (command (Key key))).1 ≡
-    on (without_key key.number ended) (keeping_renewed key k)
-key_goes _ ended k key given taken fits =
-    rw (given, taken, fits) (ap (λ x. on (without_key key.number ended) (keeping_renewed x k)) taken)
+-- a command that deletes an SA
+deletes_by : (k : Keeping) (c : Command) (ended : Ends) {k' : Keeping} →
+    ahead_renewing_step (on k) (command c) ≡ command_forgetting (on k) c →
+    begins_again (on k) (operator_command c) ≡ false → forgetting_step k (command c) ≡ keeping_step k (command c) →
+    (keeping_step k (command c)).1 ≡ k' →
+    ended_after (on k) (operator_command c) ((keeping_step k (command c)).0, k') ≡ ended →
+    (ahead_renewing_step (on k) (command c)).1 ≡ on_with ended k'
+deletes_by k c ended other again same is ends = rw (other, again, same, is, ends)
 
 -- ---- the keys
 
@@ -200,9 +101,17 @@ forgotten_are own unused fits least most =
 second_are : (own : ℕ) → own < 2 ^ 32 → AreKeyRows (second_at own 1 ∷ [])
 second_are own fits = (is_row (omega arith) refl refl (omega (arith, fits)) (omega arith) (omega arith), refl, tt)
 
-good_one : {own : ℕ} {s : State} (key : InstalledKey) → s.keys ≡ key ∷ [] → IsKeyOf own key → IsSound s → IsGood own s
-good_one {own} key keys is sound =
-    record { sound = sound; keys = subst (All (IsKeyOf own)) (sym keys) (one_key key is) }
+-- all keys of an end have one suite, salt and own SSCI
+abbrev pub own_kind : ℕ → Kind
+own_kind own = kind_of no_salt own
+
+good_one : {own : ℕ} {s : State} (key : InstalledKey) → s.keys ≡ key ∷ [] → IsKeyOf (own_kind own) key → IsSound s →
+    IsGood (own_kind own) s
+good_one key keys is sound = good_with key keys is (λ long. sound)
+
+is_key : {own : ℕ} {key : InstalledKey} → key.suite ≡ Xpn128 → key.salt ≡ no_salt → key.ssci ≡ own →
+    IsKeyOf (own_kind own) key
+is_key suite salt' ssci = record { suite = suite; salt = salt'; ssci = ssci }
 
 -- ---- names
 
@@ -225,18 +134,6 @@ k_2 reserved s = kept (salt false) before_2 (entry_2 reserved ∷ []) s
 
 low : (name : List ℕ) → highest (reads []) name < 1
 low name = is_free [] name 1 none_is (omega arith)
-
-not_given : (granted : List Reservation) (s : State) (octets : List ℕ) →
-    is_given_up (kept (salt false) (reads []) granted s) octets ≡ false
-not_given _ _ octets =
-    let name = sending_name (salt false) octets in
-    let other = sending_name (salt false) (fingerprint (salt false) octets) in
-    let least = low name in
-    let least' = low other in
-    rw (
-      lt-leb (2 ^ 64 - 1) (highest (reads []) name) (omega (arith, least)),
-      lt-leb (2 ^ 64 - 1) (highest (reads []) other) (omega (arith, least')),
-    )
 
 abbrev name_r : List ℕ
 name_r = receiving_name name_2 sci_a 0
@@ -294,9 +191,6 @@ abbrev pub inputs_a : Inputs
 inputs_a = command (Key (new_key no_salt 1)) ∷ (map command sa_a ++ (report_in ∷ frame_in ∷ command (TxDel 0)
     ∷ command (Retire 0) ∷ command (Key (second 1)) ∷ (map command sa_a ++ (report_2 ∷ frame_in ∷ []))))
 
-abbrev keyed_a : State
-keyed_a = effect (start (config_of sci_a)) (Key (new_key no_salt 1))
-
 abbrev deleted_a : State
 deleted_a = effect (k_sent sci_a Zeros).secy (TxDel 0)
 
@@ -322,8 +216,8 @@ on_a = state_2 1 (row_at 1 true ∷ []) 1
 abbrev pub last_state_a : State
 last_state_a = state_2 2 (row_at 2 true ∷ []) 2
 
-keyed_a_sound : IsSound keyed_a
-keyed_a_sound = commands_sound (Key (new_key no_salt 1) ∷ []) refl refl (first_sound sci_a refl)
+sets_up_a : SetsUp (own_kind 1) (config_of sci_a) (new_key no_salt 1) sa_a
+sets_up_a = record { fits = refl; none = refl; fit = λ long. refl; keep = refl; keys = refl }
 
 deleted_a_sound : IsSound deleted_a
 deleted_a_sound = commands_sound (TxDel 0 ∷ []) refl refl (last_sound_a sci_a refl)
@@ -363,38 +257,34 @@ last_a_sound = sent_sound (client 1) refl refl on_a_sound
 
 -- its steps
 
-first_key_a : (ahead_renewing_step (begun false no_ends (k_begun sci_a)) (command (Key (new_key no_salt 1)))).1 ≡
-    on no_ends (record (k_begun sci_a) { secy = keyed_a })
-first_key_a =
-    key_goes false no_ends (k_begun sci_a) (new_key no_salt 1) (not_given [] (start (config_of sci_a)) bytes) refl refl
-
-reserves_a : (ahead_renewing_step (on no_ends (k_on sci_a Zeros)) report_in).1 ≡ on no_ends (k_reserved sci_a Zeros)
+reserves_a : (ahead_renewing_step (on (k_on sci_a Zeros)) report_in).1 ≡ on (k_reserved sci_a Zeros)
 reserves_a = rw (reserves sci_a Zeros)
 
-sends_a : (ahead_renewing_step (on no_ends (k_reserved sci_a Zeros)) frame_in).1 ≡ on no_ends (k_sent sci_a Zeros)
+sends_a : (ahead_renewing_step (on (k_reserved sci_a Zeros)) frame_in).1 ≡ on (k_sent sci_a Zeros)
 sends_a = rw (frame_step (k_reserved sci_a Zeros) (client 1) (goes sci_a Zeros))
 
-deletes_a : (ahead_renewing_step (on no_ends (k_sent sci_a Zeros)) (command (TxDel 0))).1 ≡
-    on no_ends (record (k_sent sci_a Zeros) { secy = deleted_a })
-deletes_a = command_goes no_ends (k_sent sci_a Zeros) (TxDel 0) refl refl refl
+deletes_a : (ahead_renewing_step (on (k_sent sci_a Zeros)) (command (TxDel 0))).1 ≡
+    on (record (k_sent sci_a Zeros) { secy = deleted_a })
+deletes_a = deletes_by (k_sent sci_a Zeros) (TxDel 0) no_ends refl refl refl
     (carried_step (k_sent sci_a Zeros) (TxDel 0) refl refl) refl
 
-retires_a : (ahead_renewing_step (on no_ends (record (k_sent sci_a Zeros) { secy = deleted_a }))
-    (command (Retire 0))).1 ≡ on no_ends k_forgot_a
+retires_a : (ahead_renewing_step (on (record (k_sent sci_a Zeros) { secy = deleted_a }))
+    (command (Retire 0))).1 ≡ on k_forgot_a
 retires_a = rw (can 1 2)
 
-renews_a : (ahead_renewing_step (on no_ends k_forgot_a) (command (Key (second 1)))).1 ≡ on no_ends (k_2 0 renewed_a)
+renews_a : (ahead_renewing_step (on k_forgot_a) (command (Key (second 1)))).1 ≡ on (k_2 0 renewed_a)
 renews_a =
-    key_goes true no_ends k_forgot_a (second 1) (not_given k_forgot_a.granted forgotten_a octets_2) taken_a fits_a
+    key_goes true false k_forgot_a (second 1)
+    (not_given_up (salt false) (reads []) k_forgot_a.granted forgotten_a octets_2 low_none) taken_a fits_a
 
-reserves_2 : (ahead_renewing_step (on no_ends (k_2 0 on_a)) report_2).1 ≡ on no_ends (k_2 2 on_a)
+reserves_2 : (ahead_renewing_step (on (k_2 0 on_a)) report_2).1 ≡ on (k_2 2 on_a)
 reserves_2 = rw (raised_alone name_2 2)
 
 goes_2 : may_go (k_2 2 on_a) (client_frame (client 1)) ≡ true
 goes_2 = may_send (k_2 2 on_a) (client 1) 1 refl
     (is_within before_2 name_2 1 2 (free_2 name_2 not_gone) (omega arith))
 
-sends_2 : (ahead_renewing_step (on no_ends (k_2 2 on_a)) frame_in).1 ≡ on no_ends (k_2 2 last_state_a)
+sends_2 : (ahead_renewing_step (on (k_2 2 on_a)) frame_in).1 ≡ on (k_2 2 last_state_a)
 sends_2 = rw (frame_step (k_2 2 on_a) (client 1) goes_2)
 
 seals_2 : use_sent options (second_at 1 1) (row_at 1 true) (client 1) ≡ use_2
@@ -403,47 +293,28 @@ seals_2 = rw (sealed octets_2 (iv Zeros) aad)
 lists_2 : newly_sent (k_2 2 on_a) frame_in ≡ sent_2 ∷ []
 lists_2 = rw (goes_2, seals_2)
 
-is_key : {own : ℕ} {key : InstalledKey} → key.suite ≡ Xpn128 → key.salt ≡ no_salt → key.ssci ≡ own → IsKeyOf own key
-is_key suite salt' ssci = record { suite = suite; salt = salt'; ssci = ssci }
-
-is_plain : {own : ℕ} {k : Keeping} {c : Command} →
-    ahead_renewing_step (on no_ends k) (command c) ≡ command_forgetting (on no_ends k) c →
-    begins_again (on no_ends k) (operator_command c) ≡ false →
-    forgetting_step k (command c) ≡ keeping_step k (command c) → ended_after (on no_ends k) (operator_command c)
-    ((keeping_step k (command c)).0, record k { secy = effect k.secy c }) ≡ no_ends →
-    (effect k.secy c).keys ≡ k.secy.keys → IsPlain own k c
-is_plain other again same ends keys =
-    record { other = other; again = again; same = same; ends = ends; keys = keys }
-
-plain_a : ArePlain 1 (record (k_begun sci_a) { secy = keyed_a }) sa_a
-plain_a = (is_plain refl refl refl refl refl, (is_plain refl refl refl refl refl, tt))
-
-plain_2 : ArePlain 1 (k_2 0 renewed_a) sa_a
-plain_2 = (is_plain refl refl refl refl refl, (is_plain refl refl refl refl refl, tt))
-
 abbrev first_of_a : ℕ → InstalledKey
 first_of_a unused = key_at no_salt 1 unused
 
 abbrev pub last_a : Ahead
-last_a = on no_ends (k_2 2 last_state_a)
+last_a = on (k_2 2 last_state_a)
 
-pub a_does : Does 1 (begun false no_ends (k_begun sci_a)) inputs_a (sent_1 Zeros ∷ sent_2 ∷ []) [] last_a
+pub a_does : {left_out : Premise} {uses : Uses} → Told (own_kind 1) left_out uses (begun (k_begun sci_a)) inputs_a
+    (sent_1 Zeros ∷ sent_2 ∷ []) [] last_a
 a_does =
-    let begins' : IsGood 1 (start (config_of sci_a)) = record { sound = first_sound sci_a refl; keys = no_key 1 } in
-    let is : IsKeyOf 1 (first_of_a 1) = is_key refl refl refl in
-    let is_2 : IsKeyOf 1 (second_at 1 1) = is_key refl refl refl in
-    let on_1 = good_one (first_of_a 1) refl is (on_sound sci_a refl) in
+    let is_2 : IsKeyOf (own_kind 1) (second_at 1 1) = is_key refl refl refl in
+    let on_1 = good_one (first_of_a 1) refl (is_key refl refl refl) (on_sound sci_a refl) in
     let on_2 = good_one (second_at 1 1) refl is_2 on_a_sound in
-    does_next begins' refl (newly_none (begun false no_ends (k_begun sci_a)) (Key (new_key no_salt 1))) first_key_a
-    (commands_do sa_a (tx_new sci_a Zeros).1 refl refl plain_a (good_one (first_of_a 1) refl is keyed_a_sound)
-    (does_next on_1 refl refl reserves_a (does_next on_1 (lists sci_a Zeros) refl sends_a
-    (does_next (good_one (first_of_a 2) refl (is_key refl refl refl) (last_sound_a sci_a refl)) refl refl deletes_a
-    (does_next (good_one (first_of_a 2) refl (is_key refl refl refl) deleted_a_sound) refl refl retires_a
-    (does_next (good_one (record (was 1 2) { bytes = print }) refl (is_key refl refl refl) forgotten_a_sound) refl
-    refl renews_a (commands_do sa_a (is_new before_2 name_2 1 (free_2 name_2 not_gone), (refl, tt)) refl refl plain_2
-    (good_one (second_at 1 1) refl is_2 renewed_a_sound) (does_next on_2 refl refl reserves_2
-    (does_next on_2 lists_2 refl sends_2
-    (does_end last_a (good_one (second_at 1 2) refl (is_key refl refl refl) last_a_sound)))))))))))
+    set_up_told (config_of sci_a) (new_key no_salt 1) sa_a (salt false) (reads []) sets_up_a (first_sound sci_a refl)
+    low_none (tx_new sci_a Zeros)
+    (told_next on_1 refl refl reserves_a (told_next on_1 (lists sci_a Zeros) refl sends_a
+    (told_next (good_one (first_of_a 2) refl (is_key refl refl refl) (last_sound_a sci_a refl)) refl refl deletes_a
+    (told_next (good_one (first_of_a 2) refl (is_key refl refl refl) deleted_a_sound) refl refl retires_a
+    (told_next (good_one (record (was 1 2) { bytes = print }) refl (is_key refl refl refl) forgotten_a_sound) refl
+    refl renews_a (commands_told sa_a (is_new before_2 name_2 1 (free_2 name_2 not_gone), (refl, tt)) refl
+    (λ long. refl) refl (good_one (second_at 1 1) refl is_2 renewed_a_sound) (told_next on_2 refl refl reserves_2
+    (told_next on_2 lists_2 refl sends_2
+    (told_end last_a (good_one (second_at 1 2) refl (is_key refl refl refl) last_a_sound))))))))))
 
 -- ---- B's run
 
@@ -453,9 +324,6 @@ b_at s = at [] free_b s
 abbrev pub start_b : State
 start_b = start (config_of sci_b)
 
-abbrev channel_b : List Command
-channel_b = RxSc sci_a ∷ RxSa sci_a 0 0 1 1 ∷ RxOn sci_a 0 ∷ []
-
 abbrev pub sa_b : List Command
 sa_b = RxSa sci_a 0 0 1 1 ∷ RxOn sci_a 0 ∷ []
 
@@ -464,9 +332,6 @@ then_commands = RxDel sci_a 0 ∷ Retire 0 ∷ Key (second 2) ∷ sa_b
 
 abbrev pub then_b : Inputs
 then_b = map command then_commands
-
-abbrev keyed_b : State
-keyed_b = effect start_b (Key (new_key no_salt 2))
 
 abbrev pub deleted_b : State
 deleted_b = effect (heard Same) (RxDel sci_a 0)
@@ -485,9 +350,6 @@ ready_2 = after_commands renewed_b sa_b
 
 abbrev pub heard_2 : State
 heard_2 = state_after_receiving ready_2 f_2 (accepts Same)
-
-keyed_b_sound : IsSound keyed_b
-keyed_b_sound = commands_sound (Key (new_key no_salt 2) ∷ []) refl refl (rx_start [] free_b)
 
 deleted_b_sound : IsSound deleted_b
 deleted_b_sound = commands_sound (RxDel sci_a 0 ∷ []) refl refl (heard_is_sound [] free_b Same refl)
@@ -538,94 +400,52 @@ delivery_2 = record (delivery Same) { bytes = octets_2 }
 
 -- its steps
 
-first_key_b : (ahead_renewing_step (begun false no_ends (b_at start_b)) (command (Key (new_key no_salt 2)))).1 ≡
-    on no_ends (b_at keyed_b)
-first_key_b = key_goes false no_ends (b_at start_b) (new_key no_salt 2) (not_given [] start_b bytes) refl refl
-
-lets_b : lets_through (on no_ends (b_at (ready Same))) (link Same) ≡ true
-lets_b = rw (judged Same)
-
-hears_b : (ahead_renewing_step (on no_ends (b_at (ready Same))) (link Same)).1 ≡ on no_ends (b_at (heard Same))
-hears_b = goes_on (on no_ends (b_at (ready Same))) (link_frame (f Same)) _ lets_b (hears [] free_b Same)
-
-gives_b : newly_delivered_with (on no_ends (b_at (ready Same))) (link Same) ≡ delivery Same ∷ []
-gives_b = rw (lets_b, gives [] free_b Same)
-
 abbrev ends_b : Ends
 ends_b = record no_ends { entries = record { key = 0; sci = sci_a; an = 0; last = 1 } ∷ [] }
 
-deletes_b : (ahead_renewing_step (on no_ends (b_at (heard Same))) (command (RxDel sci_a 0))).1 ≡
-    on ends_b (b_at deleted_b)
-deletes_b = command_goes no_ends (b_at (heard Same)) (RxDel sci_a 0) refl refl refl
+deletes_b : (ahead_renewing_step (on (b_at (heard Same))) (command (RxDel sci_a 0))).1 ≡
+    on_with ends_b (b_at deleted_b)
+deletes_b = deletes_by (b_at (heard Same)) (RxDel sci_a 0) ends_b refl refl refl
     (carried_step (b_at (heard Same)) (RxDel sci_a 0) refl refl) refl
 
-retires_b : (ahead_renewing_step (on ends_b (b_at deleted_b)) (command (Retire 0))).1 ≡ on no_ends k_forgot_b
+retires_b : (ahead_renewing_step (on_with ends_b (b_at deleted_b)) (command (Retire 0))).1 ≡ on k_forgot_b
 retires_b = rw (can 2 1)
 
-renews_b : (ahead_renewing_step (on no_ends k_forgot_b) (command (Key (second 2)))).1 ≡ on no_ends (k_2 0 renewed_b)
+renews_b : (ahead_renewing_step (on k_forgot_b) (command (Key (second 2)))).1 ≡ on (k_2 0 renewed_b)
 renews_b =
-    key_goes true no_ends k_forgot_b (second 2) (not_given k_forgot_b.granted forgotten_b octets_2) taken_b fits_b
+    key_goes true false k_forgot_b (second 2)
+    (not_given_up (salt false) (reads []) k_forgot_b.granted forgotten_b octets_2 low_none) taken_b fits_b
 
-lets_2 : lets_through (on no_ends (k_2 0 ready_2)) link_2 ≡ true
-lets_2 = rw judged_2
-
-hears_2 : (ahead_renewing_step (on no_ends (k_2 0 ready_2)) link_2).1 ≡ on no_ends (k_2 0 heard_2)
-hears_2 = goes_on (on no_ends (k_2 0 ready_2)) (link_frame f_2) _ lets_2 (link_step_by (k_2 0 ready_2) f_2 _ refl
-    judged_2)
-
-gives_2 : newly_delivered_with (on no_ends (k_2 0 ready_2)) link_2 ≡ delivery_2 ∷ []
-gives_2 = rw (lets_2, gives_by (k_2 0 ready_2) f_2 _ refl judged_2)
-
-plain_b : ArePlain 2 (b_at keyed_b) channel_b
-plain_b = (
-  is_plain refl refl refl refl refl,
-  (is_plain refl refl refl refl refl, (is_plain refl refl refl refl refl, tt)),
-)
-
-plain_sa_b : ArePlain 2 (k_2 0 renewed_b) sa_b
-plain_sa_b = (is_plain refl refl refl refl refl, (is_plain refl refl refl refl refl, tt))
-
-abbrev pub begins_b : Ahead
-begins_b = begun false no_ends (b_at start_b)
-
--- up to the first frame
-b_first : {inputs : Inputs} {xs : List SentIn} {ds : List Delivery} {last : Ahead} →
-    Does 2 (on no_ends (b_at (ready Same))) inputs xs ds last → Does 2 begins_b (commands Same ++ inputs) xs ds last
-b_first rest =
-    let starts : IsGood 2 start_b = record { sound = rx_start [] free_b; keys = no_key 2 } in
-    does_next starts refl (newly_none begins_b (Key (new_key no_salt 2))) first_key_b
-    (commands_do channel_b (are_new [] free_b Same).1 refl refl plain_b
-    (good_one (rx_key Same) refl (is_key refl refl refl) keyed_b_sound) rest)
-
--- up to the second one
-b_then : {inputs : Inputs} {xs : List SentIn} {ds : List Delivery} {last : Ahead} →
-    Does 2 (on no_ends (k_2 0 ready_2)) inputs xs ds last →
-    Does 2 begins_b (commands Same ++ (link Same ∷ (then_b ++ inputs))) xs (delivery Same ∷ ds) last
-b_then rest = b_first
-    (does_next (good_one (rx_key Same) refl (is_key refl refl refl) (ready_sound [] free_b Same refl)) refl gives_b
-    hears_b (does_next (good_one (rx_key Same) refl (is_key refl refl refl) (heard_is_sound [] free_b Same refl)) refl
-    refl deletes_b (does_next (good_one (rx_key Same) refl (is_key refl refl refl) deleted_b_sound) refl refl retires_b
-    (does_next (good_one (record (was 2 1) { bytes = print }) refl (is_key refl refl refl) forgotten_b_sound) refl refl
-    renews_b (commands_do sa_b (is_new before_2 name_r 1 (free_2 name_r not_gone_r), (refl, tt)) refl refl plain_sa_b
-    (good_one (second_at 2 1) refl (is_key refl refl refl) renewed_b_sound) rest)))))
-
-ready_good : IsGood 2 (ready Same)
-ready_good = good_one (rx_key Same) refl (is_key refl refl refl) (ready_sound [] free_b Same refl)
-
-ready_2_good : IsGood 2 ready_2
-ready_2_good = good_one (second_at 2 1) refl (is_key refl refl refl) ready_2_sound
+pub genuine_2 : (uses : Uses) → Contains uses use_2 → IfSome (use_opened ready_2 f_2) (Contains uses)
+genuine_2 uses there = genuine_at ready_2 f_2 (accepts Same) uses judged_2 (rw (iv_is Same) there)
 
 abbrev pub last_b : Ahead
-last_b = on no_ends (k_2 0 heard_2)
+last_b = on (k_2 0 heard_2)
 
-pub b_does : Does 2 begins_b (commands Same ++ (link Same ∷ (then_b ++ link_2 ∷ []))) []
+-- up to the renewal
+b_first : {left_out : Premise} {uses : Uses} {inputs : Inputs} {ds : List Delivery} {last : Ahead} →
+    Contains uses (use_of Zeros) → Told (own_kind 2) left_out uses (on (b_at (heard Same))) inputs [] ds last →
+    Told (own_kind 2) left_out uses (begun (b_at start_b)) (commands Same ++ (link Same ∷ inputs)) []
+    (delivery Same ∷ ds) last
+b_first there rest = commands_first [] free_b Same low_none (frame_told [] free_b Same there rest)
+
+pub b_does : {left_out : Premise} {uses : Uses} → Contains uses (use_of Zeros) → Contains uses use_2 →
+    Told (own_kind 2) left_out uses (begun (b_at start_b)) (commands Same ++ (link Same ∷ (then_b ++ link_2 ∷ []))) []
     (delivery Same ∷ delivery_2 ∷ []) last_b
-b_does = b_then (does_next ready_2_good refl gives_2 hears_2
-    (does_end last_b (good_one (second_at 2 1) refl (is_key refl refl refl) heard_2_sound)))
+b_does {uses} there there_2 =
+    let first : IsKeyOf (own_kind 2) (rx_key Same) = is_key refl refl refl in
+    let is_2 : IsKeyOf (own_kind 2) (second_at 2 1) = is_key refl refl refl in
+    b_first there (told_next (heard_good [] free_b Same) refl refl deletes_b
+    (told_next (good_one (rx_key Same) refl first deleted_b_sound) refl refl retires_b
+    (told_next (good_one (record (was 2 1) { bytes = print }) refl (is_key refl refl refl) forgotten_b_sound) refl refl
+    renews_b (commands_told sa_b (is_new before_2 name_r 1 (free_2 name_r not_gone_r), (refl, tt)) refl (λ long. refl)
+    refl (good_one (second_at 2 1) refl is_2 renewed_b_sound) (told_link (accepts Same) refl judged_2
+    (good_one (second_at 2 1) refl is_2 ready_2_sound) (is_strict refl refl refl) octets_of_2
+    (λ d. genuine_2 uses there_2) (told_end last_b (good_one (second_at 2 1) refl is_2 heard_2_sound)))))))
 
-pub b_until_1 : Does 2 begins_b (commands Same) [] [] (on no_ends (b_at (ready Same)))
-b_until_1 = b_first (does_end _ ready_good)
+-- the keys of B before the renewal and after it: the number is the same
+pub keys_before : (heard Same).keys ≡ record (rx_key Same) { bytes = bytes } ∷ []
+keys_before = refl
 
-pub b_until_2 : Does 2 begins_b (commands Same ++ link Same ∷ then_b) [] (delivery Same ∷ [])
-    (on no_ends (k_2 0 ready_2))
-b_until_2 = b_then (does_end _ ready_2_good)
+pub keys_after : heard_2.keys ≡ record (rx_key Same) { bytes = octets_2 } ∷ []
+keys_after = refl

@@ -1,24 +1,27 @@
--- Runs that meet all premises of order and once except one about the journal. A's first run uses packet number 3. Its
--- second run does not read what was reported to the first, or reads another salt, and uses packet numbers 1 and 2. B
--- delivers the frames in the order of packet numbers, and so not in the order of sending.
-use Rattle.macsec_restarts.proofs.{
-  Examples.{
-    Blocks.{AgreeInRunsBut, AreOwn, AreSteps, blocks, heard_by, history_but, is_strict, KeepsSalt, KeepsSuite},
-    Blocks.{keys_but, LawWithout, no_step, Premise, ReadsDurable, ReadsSalt, step_link, Told, told_end, told_link},
-    Histories.{agree, history, IsRunOf, nothing_saved, peers_of, refuted, seals_are},
-    NotSent.accepts_now,
-    Tags.octets_3,
-    TwoRunsEach.{both, Facts, facts_a, facts_of, is_free, none_is, one_is, opens_1, opens_3, pair, reads, run_a, t, u},
-    TwoRunsEach.{use_1, use_3},
-  },
-  Names.{[], ◌++◌, ◌<◌, ◌∷◌, ◌≡◌, ◌≢◌, A, All, All-cons, All-nil, arith, B, bytes, client, compress, Contains},
-  Names.{digest_bytes, false, first_words, gcm_a, gcm_b, genuine_at, hash_after, highest, highest_of_one, Inputs},
-  Names.{IsReservation, IsSound, IsStrictlyIncreasing, IsSubsequence, journal, judgement_of, Keeping, KeepsDurable},
-  Names.{kept, length-sha256, List, map, name_of, one_alone, opening, reduced, reduced_reserves, refl, Reservation},
-  Names.{reservations, rounds, Run, rx_from, salt, same_octets, SameSalt, says, schedule, sci_a, sci_b, sealed_in_all},
-  Names.{sending_name, sent_in_all, sha256, slice_get, Some, State, state_after_receiving, suc, true, Uses, zero, ℕ},
-  Sends.IsSoundRun,
-}
+-- Runs that meet all premises of order except one about the journal of the sender. A's first run uses packet number 3.
+-- Its second run does not read what was reported to the first, or reads another salt. It uses packet numbers 1 and 2.
+-- B delivers the frames in the order of packet numbers, and so not in the order of sending.
+use Rattle.macsec_restarts.proofs.Examples.Blocks.{blocks, sealed_in}
+use Rattle.macsec_restarts.proofs.Examples.Histories.{both, breaks, Facts, facts_of, IsRunOf, Meets, meets_by, never}
+use Rattle.macsec_restarts.proofs.Examples.Histories.{of_run, one, pair, refuted, sent_by_two, short_agree}
+use Rattle.macsec_restarts.proofs.Examples.Histories.{without_option}
+use Rattle.macsec_restarts.proofs.Examples.Tags.{octets_3}
+use Rattle.macsec_restarts.proofs.Examples.Told.{heard_by, is_strict, IsLow, short, told_end, told_link}
+use Rattle.macsec_restarts.proofs.Examples.TwoRunsEach.{at_most, f3, facts_a, is_free, low_none, none_is, one_is}
+use Rattle.macsec_restarts.proofs.Examples.TwoRunsEach.{opens_1, opens_3, reads, run_a, t, told_1, u, use_1, use_3}
+use Rattle.macsec_restarts.proofs.Examples.Without.{KeepsDeliveredBut, KeepsSentBut, LawWithout, Premise}
+use Rattle.macsec_restarts.proofs.Examples.Without.{ReadLawWithout, ReadsBut, ReadsDeliveredBut, ReadsReported}
+use Rattle.macsec_restarts.proofs.Examples.Without.{ReadsSalt, ReadsSent, ReadsSentBut}
+use Rattle.macsec_restarts.proofs.Names.{[], ◌++◌, ◌<◌, ◌^◌, ◌∷◌, ◌≡◌, A, All, arith, B, bytes, client, compress}
+use Rattle.macsec_restarts.proofs.Names.{Contains, Delivery, digest_bytes, false, first_words, gcm_a, gcm_b, genuine_at}
+use Rattle.macsec_restarts.proofs.Names.{hash_after, highest, highest_of_one, inr, IsReservation, IsSound}
+use Rattle.macsec_restarts.proofs.Names.{IsStrictlyIncreasing, IsSubsequence, journal, judgement_of, length-sha256}
+use Rattle.macsec_restarts.proofs.Names.{List, map, one_alone, reduced, reduced_reserves, refl, Reservation}
+use Rattle.macsec_restarts.proofs.Names.{reservations, rounds, Run, salt, same_octets, says, schedule, sci_a, sci_b}
+use Rattle.macsec_restarts.proofs.Names.{seal_of, sending_name, SentIn, sha256, slice_get, Some, State}
+use Rattle.macsec_restarts.proofs.Names.{state_after_receiving, subst, suc, sym, true, Uses, zero, ℕ}
+use Rattle.macsec_restarts.specs.RenewingRuns.{sent_by_all}
+use Rattle.std.proofs.Common.{◌-◌}
 use Rattle.macsec_restarts.proofs.Examples.Receivers as receiver
 use Rattle.macsec_restarts.proofs.Examples.Senders as sender
 
@@ -49,37 +52,48 @@ not_in_order it = by_places it.0 it.1 it.2
 
 -- ---- two runs of A and one of B
 
-module _ (left_out : Premise) (a a' b : Run) (first : Facts 1 sci_a a (sender.sent true) [])
-    (second : Facts 1 sci_a a' (sender.sent false) [])
-    (heard : Facts 2 sci_b b [] (receiver.delivery 1 ∷ receiver.delivery 3 ∷ [])) where
-  sent_both : sent_in_all (a ∷ a' ∷ []) ≡ sender.sent true ++ sender.sent false
-  sent_both = rw (first.told.sends, second.told.sends)
+abbrev both_sent : List SentIn
+both_sent = sender.sent true ++ sender.sent false
 
-  sealed_1 : Contains (sealed_in_all (a ∷ a' ∷ []) ++ []) use_1
-  sealed_1 = rw (seals_are _ _ sent_both) (1, omega arith, refl)
+abbrev both_delivered : List Delivery
+both_delivered = receiver.delivery 1 ∷ receiver.delivery 3 ∷ []
 
-  sealed_3 : Contains (sealed_in_all (a ∷ a' ∷ []) ++ []) use_3
-  sealed_3 = rw (seals_are _ _ sent_both) (0, omega arith, refl)
+module _ (left_out : Premise) (a a' b : Run)
+    (first : Facts (short 1) sci_a left_out [] (without_option a) (sender.sent true) [])
+    (second : Facts (short 1) sci_a left_out [] (without_option a') (sender.sent false) [])
+    (heard : (uses : Uses) → Contains uses use_1 → Contains uses use_3 →
+    Facts (short 2) sci_b left_out uses (without_option b) [] both_delivered) where
+  both_are : sent_by_all (without_option a ∷ without_option a' ∷ []) ≡ both_sent
+  both_are = sent_by_two (without_option a) (without_option a') first.told.sends second.told.sends
 
-  reordered : AreOwn a.inputs → AreOwn a'.inputs → (ReadsSalt ≢ left_out → SameSalt a a') →
-      (ReadsDurable ≢ left_out → KeepsDurable a a') → ((uses : Uses) → Contains uses use_1 → Contains uses use_3 →
-      AreSteps left_out bytes sci_a 0 (opening b) [] uses b.inputs) →
-      LawWithout left_out (blocks ((A, a) ∷ (A, a') ∷ (B, b) ∷ [])) → ⊥
-  reordered own own' same durable steps =
-      refuted left_out ((A, a) ∷ (A, a') ∷ (B, b) ∷ []) (sender.sent true ++ sender.sent false)
-      (receiver.delivery 1 ∷ receiver.delivery 3 ∷ [])
-      (own, (own', (((λ d. nothing_saved b.journal), steps (sealed_in_all (a ∷ a' ∷ []) ++ []) sealed_1 sealed_3), tt)))
-      (peers_of left_out ((A, a) ∷ (A, a') ∷ (B, b) ∷ []) (both (IsRunOf 1 sci_a) a a' first.of second.of) (record {
-        sound = λ d. both IsSoundRun a a' first.of.sound second.of.sound;
-        agree = pair (AgreeInRunsBut left_out) a a' (keys_but KeepsSuite KeepsSalt left_out a a'
-            (agree 1 1 sci_a sci_a a a' first.of second.of));
-        salt = λ d. pair SameSalt a a' (same d);
-        durable = λ d. pair KeepsDurable a a' (durable d);
-      }) b_is (history_but left_out (b ∷ []) (history 2 sci_b (b ∷ []) b_is (one_alone SameSalt b)
-      (one_alone KeepsDurable b)))) sent_both (rw heard.told.delivers) not_in_order
-    where
-      b_is : All (IsRunOf 2 sci_b) (b ∷ [])
-      b_is = All-cons (IsRunOf 2 sci_b) b [] heard.of (All-nil (IsRunOf 2 sci_b))
+  sealed_1 : Contains (sealed_in never ((A, a) ∷ (A, a') ∷ [])) use_1
+  sealed_1 = subst (λ xs. Contains (map seal_of (xs ++ [])) use_1) (sym both_are) (1, omega arith, refl)
+
+  sealed_3 : Contains (sealed_in never ((A, a) ∷ (A, a') ∷ [])) use_3
+  sealed_3 = subst (λ xs. Contains (map seal_of (xs ++ [])) use_3) (sym both_are) (0, omega arith, refl)
+
+  delivers : Facts (short 2) sci_b left_out (sealed_in never ((A, a) ∷ (A, a') ∷ [])) (without_option b) []
+      both_delivered
+  delivers = heard (sealed_in never ((A, a) ∷ (A, a') ∷ [])) sealed_1 sealed_3
+
+  reordered : Meets left_out never ((A, a) ∷ (A, a') ∷ (B, b) ∷ []) both_sent both_delivered
+  reordered = meets_by (short 1) (short 2) short_agree (λ d. (refl, refl))
+      (both (IsRunOf (short 1) sci_a) (without_option a) (without_option a') (of_run first) (of_run second))
+      (one (IsRunOf (short 2) sci_b) (without_option b) (of_run delivers)) (tt, (tt, (delivers.told.fair, tt)))
+      both_are (rw delivers.told.delivers)
+
+  kept_needed : (KeepsSentBut left_out bytes) (without_option a) (without_option a') →
+      LawWithout left_out never (blocks ((A, a) ∷ (A, a') ∷ (B, b) ∷ [])) → ⊥
+  kept_needed reads = breaks never ((A, a) ∷ (A, a') ∷ (B, b) ∷ []) left_out reordered
+      (pair (KeepsSentBut left_out bytes) (without_option a) (without_option a') reads)
+      (one_alone (KeepsDeliveredBut left_out bytes sci_a 0) (without_option b)) not_in_order
+
+  read_needed : (ReadsBut left_out) (without_option a) (without_option a') →
+      ReadLawWithout left_out never (blocks ((A, a) ∷ (A, a') ∷ (B, b) ∷ [])) → ⊥
+  read_needed reads = refuted never ((A, a) ∷ (A, a') ∷ (B, b) ∷ []) (ReadsSentBut left_out)
+      (ReadsDeliveredBut left_out) left_out reordered
+      (pair (ReadsSentBut left_out bytes) (without_option a) (without_option a') (inr reads))
+      (one_alone (ReadsDeliveredBut left_out bytes sci_a 0) (without_option b)) not_in_order
 
 -- ---- the sender's runs: the first reserves up to 3
 
@@ -92,18 +106,21 @@ three_is = one_is _ (record { name = length-sha256 _; last = omega arith })
 abbrev first_run : Run
 first_run = record { journal = journal false []; config = gcm_a; inputs = sender.inputs true (salt false) }
 
-abbrev first_last : Keeping
-first_last = kept (salt false) (reads []) (reserved_3 ∷ []) (sender.at_end true)
-
-first_told : Told (opening first_run) first_run.inputs (sender.sent true) [] first_last
-first_told = sender.told (salt false) (reads []) true (is_free [] _ 3 none_is (omega arith))
-
-first_facts : Facts 1 sci_a first_run (sender.sent true) []
-first_facts = facts_of 4 refl refl first_told
+first_does : {left_out : Premise} {uses : Uses} →
+    Facts (short 1) sci_a left_out uses (without_option first_run) (sender.sent true) []
+first_does =
+    facts_of refl (sender.told (salt false) (reads []) true low_none (is_free [] _ 3 none_is (omega arith)))
 
 -- a second run with another salt reads what was reported to the first, under a name that is not its own
 abbrev reads_other : List Reservation
 reads_other = reduced (reservations (journal true (reserved_3 ∷ [])))
+
+other_is : (name : List ℕ) → highest reads_other name ≡ highest (reserved_3 ∷ []) name
+other_is name = omega (
+  arith,
+  reduced_reserves (reservations (journal true (reserved_3 ∷ []))) name,
+  says true (reserved_3 ∷ []) three_is name,
+)
 
 abbrev salted_run : Run
 salted_run = record {
@@ -112,9 +129,6 @@ salted_run = record {
   inputs = sender.inputs false (salt true);
 }
 
-abbrev salted_last : Keeping
-salted_last = kept (salt true) reads_other (sender.reserves false (salt true) ∷ []) (sender.at_end false)
-
 names_differ : same_octets (sending_name (salt false) bytes) (sending_name (salt true) bytes) ≡ false
 unfolding first_words schedule rounds compress hash_after digest_bytes sha256
 names_differ = refl
@@ -122,71 +136,61 @@ names_differ = refl
 other_free : highest reads_other (sending_name (salt true) bytes) < 1
 other_free =
     let name = sending_name (salt true) bytes in
-    let none = highest_of_one reserved_3 name false names_differ in
-    omega (
-      arith,
-      reduced_reserves (reservations (journal true (reserved_3 ∷ []))) name,
-      says true (reserved_3 ∷ []) three_is name,
-      none,
-    )
+    omega (arith, other_is name, highest_of_one reserved_3 name false names_differ)
 
-salted_told : Told (opening salted_run) salted_run.inputs (sender.sent false) [] salted_last
-salted_told = sender.told (salt true) reads_other false other_free
+other_low : IsLow reads_other
+other_low name =
+    let least = at_most reserved_3.name name 3 (2 ^ 64 - 1) (omega arith) in
+    omega (arith, other_is name, least)
 
-salted_facts : Facts 1 sci_a salted_run (sender.sent false) []
-salted_facts = facts_of 3 refl refl salted_told
+salted_does : {left_out : Premise} {uses : Uses} →
+    Facts (short 1) sci_a left_out uses (without_option salted_run) (sender.sent false) []
+salted_does = facts_of refl (sender.told (salt true) reads_other false other_low other_free)
 
 -- ---- the receiver's run
 
-abbrev both_in : Inputs
-both_in = receiver.link 1 t ∷ receiver.link 3 u ∷ []
-
 abbrev run_b : Run
-run_b = record { journal = journal false []; config = gcm_b; inputs = receiver.commands false ++ both_in }
+run_b = record {
+  journal = journal false [];
+  config = gcm_b;
+  inputs = receiver.commands false ++ (receiver.link 1 t ∷ receiver.link 3 u ∷ []);
+}
 
-abbrev at_b : State → Keeping
-at_b s = receiver.at (salt false) (reads []) s
-
-free_b : highest (reads []) (name_of (salt false)) < 1
-free_b = is_free [] _ 1 none_is (omega arith)
-
-judged_3 : judgement_of (receiver.heard_1 t) (receiver.frame 3 u) ≡ receiver.accepts_3
+judged_3 : judgement_of (receiver.heard_1 t) f3 ≡ receiver.accepts_3
 judged_3 = rw opens_3
 
 abbrev heard_both : State
-heard_both = state_after_receiving (receiver.heard_1 t) (receiver.frame 3 u) receiver.accepts_3
+heard_both = state_after_receiving (receiver.heard_1 t) f3 receiver.accepts_3
 
 both_sound : IsSound heard_both
-both_sound = heard_by (receiver.frame 3 u) refl judged_3 refl (receiver.heard_1_sound t opens_1)
+both_sound = heard_by f3 refl judged_3 refl (receiver.heard_1_sound t opens_1)
 
-told_b : Told (opening run_b) run_b.inputs [] (receiver.delivery 1 ∷ receiver.delivery 3 ∷ []) (at_b heard_both)
-told_b = receiver.told (salt false) (reads []) false free_b
-    (told_link _ refl (receiver.judged_1 t opens_1) (receiver.ready_sound false)
-    (told_link _ refl judged_3 (receiver.heard_1_sound t opens_1) (told_end _ both_sound)))
-
-facts_b : Facts 2 sci_b run_b [] (receiver.delivery 1 ∷ receiver.delivery 3 ∷ [])
-facts_b = facts_of 1 refl refl told_b
-
-steps_b : (left_out : Premise) (uses : Uses) → Contains uses use_1 → Contains uses use_3 →
-    AreSteps left_out bytes sci_a 0 (opening run_b) [] uses run_b.inputs
-steps_b left_out uses there there' = receiver.steps (salt false) (reads []) left_out false free_b
-    (step_link _ refl (receiver.judged_1 t opens_1) (accepts_now _ _ uses there) (step_link _ refl judged_3 (record {
-      genuine = λ d. genuine_at (receiver.heard_1 t) (receiver.frame 3 u) _ uses judged_3 there';
-      octets = octets_3;
-      order = λ d among. is_strict refl refl refl;
-      creates = λ d row at under fresh. absurd (fresh (rx_from 2) refl refl);
-    }) no_step))
+b_does : (left_out : Premise) (uses : Uses) → Contains uses use_1 → Contains uses use_3 →
+    Facts (short 2) sci_b left_out uses (without_option run_b) [] both_delivered
+b_does left_out uses there there' = facts_of refl (receiver.told (salt false) (reads []) false low_none
+    (is_free [] _ 1 none_is (omega arith)) (told_1 (reads []) (λ d. there)
+    (told_link receiver.accepts_3 refl judged_3 (receiver.heard_1_good t opens_1) (is_strict refl refl refl) octets_3
+    (λ d. genuine_at (receiver.heard_1 t) f3 receiver.accepts_3 uses judged_3 there')
+    (told_end _ (receiver.is_good refl both_sound)))))
 
 -- ---- without the premise
 
--- the second run reads an empty journal
-pub durable_needed : LawWithout ReadsDurable (blocks ((A, first_run) ∷ (A, run_a false) ∷ (B, run_b) ∷ [])) → ⊥
-durable_needed = reordered ReadsDurable first_run (run_a false) run_b first_facts (facts_a false) facts_b
-    (tt, (tt, (tt, (tt, (tt, tt))))) (tt, (tt, (tt, (tt, (tt, (tt, tt)))))) (λ d. refl) (λ d. absurd (d refl))
-    (steps_b ReadsDurable)
+-- the second run does not read what was sent
+pub sent_needed : LawWithout ReadsSent never (blocks ((A, first_run) ∷ (A, run_a false) ∷ (B, run_b) ∷ [])) → ⊥
+sent_needed = kept_needed ReadsSent first_run (run_a false) run_b first_does (facts_a false) (b_does ReadsSent)
+    (λ d. absurd (d refl))
 
--- the second run reads all that was reported, and another salt
-pub journal_salt_needed : LawWithout ReadsSalt (blocks ((A, first_run) ∷ (A, salted_run) ∷ (B, run_b) ∷ [])) → ⊥
-journal_salt_needed = reordered ReadsSalt first_run salted_run run_b first_facts salted_facts facts_b
-    (tt, (tt, (tt, (tt, (tt, tt))))) (tt, (tt, (tt, (tt, (tt, (tt, tt)))))) (λ d. absurd (d refl))
-    (λ d name. omega (arith, says true (reserved_3 ∷ []) three_is name)) (steps_b ReadsSalt)
+-- it reads an empty journal
+pub reported_needed : ReadLawWithout ReadsReported never
+    (blocks ((A, first_run) ∷ (A, run_a false) ∷ (B, run_b) ∷ [])) → ⊥
+reported_needed = read_needed ReadsReported first_run (run_a false) run_b first_does (facts_a false)
+    (b_does ReadsReported) (record { salt = λ d. refl; reported = λ d. absurd (d refl) })
+
+-- it reads all that was reported, and another salt
+pub journal_salt_needed : ReadLawWithout ReadsSalt never
+    (blocks ((A, first_run) ∷ (A, salted_run) ∷ (B, run_b) ∷ [])) → ⊥
+journal_salt_needed = read_needed ReadsSalt first_run salted_run run_b first_does salted_does (b_does ReadsSalt)
+    (record {
+      salt = λ d. absurd (d refl);
+      reported = λ d name. omega (arith, says true (reserved_3 ∷ []) three_is name);
+    })

@@ -1,15 +1,17 @@
 -- The runs of an end that sends for integrity only: the first sends the same client frame twice, with packet numbers 1
 -- and 2; the second sends another one, with packet number 3. The cipher is not computed.
 use Rattle.macsec_counterexamples.proofs.Link.Exchange.{options}
-use Rattle.macsec_restarts.proofs.{
-  Examples.Blocks.{commands_told, Told, told_end, told_next},
-  Names.{[], ◌*◌, ◌++◌, ◌<◌, ◌∙◌, ◌∷◌, ◌≡◌, aad, all_fit, ap, arith, begins_sound, Bool, bytes, CipherUse, client},
-  Names.{client_frame, Command, command, commands_sound, endpoint_input, false, frame_fault, frame_step, gcm_a},
-  Names.{highest, Inputs, is_new, is_within, IsSound, iv, Keeping, keeping_step, kept, Key, key_row, List, map, may_go},
-  Names.{may_send, new_key, newly_sent, no_salt, no_tx_counters, none_refused, now_durable, raised_alone, refl},
-  Names.{Reservation, row_at, sealed, sending_name, sending_of, sent_by, sent_sound, SentIn, start, State, tag, true},
-  Names.{TxOn, TxRow, TxSa, use_of, use_sent, ℕ},
-}
+use Rattle.macsec_restarts.proofs.Examples.Told.{begun, good, IsGood, IsLow, on, set_up_told, SetsUp, short, Told}
+use Rattle.macsec_restarts.proofs.Examples.Told.{told_end, told_next}
+use Rattle.macsec_restarts.proofs.Examples.Without.{Premise}
+use Rattle.macsec_restarts.proofs.Names.{[], ◌*◌, ◌++◌, ◌<◌, ◌∙◌, ◌∷◌, ◌≡◌, aad, ap, arith, begins_sound, Bool, bytes}
+use Rattle.macsec_restarts.proofs.Names.{CipherUse, client, client_frame, Command, command, commands_sound}
+use Rattle.macsec_restarts.proofs.Names.{endpoint_input, false, frame_fault, frame_step, gcm_a, highest, Inputs, is_new}
+use Rattle.macsec_restarts.proofs.Names.{is_within, IsSound, iv, Keeping, keeping_step, kept, Key, key_row, List, map}
+use Rattle.macsec_restarts.proofs.Names.{may_go, may_send, new_key, newly_sent, no_salt, no_tx_counters, now_durable}
+use Rattle.macsec_restarts.proofs.Names.{raised_alone, refl, Reservation, row_at, salt, sealed, sending_name}
+use Rattle.macsec_restarts.proofs.Names.{sending_of, sent_by, sent_sound, SentIn, start, State, tag, true, TxOn, TxRow}
+use Rattle.macsec_restarts.proofs.Names.{TxSa, use_of, use_sent, Uses, ℕ}
 
 -- its first packet number, and the last one that it reserves
 abbrev pub first_of : Bool → ℕ
@@ -27,11 +29,12 @@ abbrev pub frames : Bool → Inputs
 frames false = endpoint_input (client_frame (client 1)) ∷ endpoint_input (client_frame (client 1)) ∷ []
 frames true = endpoint_input (client_frame (client 3)) ∷ []
 
-abbrev set_up : Bool → List Command
-set_up again = Key (new_key no_salt 1) ∷ TxSa 0 0 (first_of again) false ∷ TxOn 0 ∷ []
+abbrev sa : Bool → List Command
+sa again = TxSa 0 0 (first_of again) false ∷ TxOn 0 ∷ []
 
 abbrev pub inputs : Bool → List ℕ → Inputs
-inputs again salt = map command (set_up again) ++ now_durable (reserves again salt) ∷ frames again
+inputs again salt = map command (Key (new_key no_salt 1) ∷ sa again) ++ now_durable (reserves again salt)
+    ∷ frames again
 
 -- ---- its states: the first unused packet number of the key, the SA, and how many frames it has sent
 
@@ -55,21 +58,18 @@ abbrev pub sent : Bool → List SentIn
 sent false = sent_at 1 1 ∷ sent_at 2 1 ∷ []
 sent true = sent_at 3 3 ∷ []
 
--- ---- they are sound
+-- ---- they are sound, and have one key
 
-none_is_refused : (again : Bool) → none_refused (start gcm_a) (set_up again) ≡ true
-none_is_refused false = refl
-none_is_refused true = refl
-
-all_are_fit : (again : Bool) → all_fit (start gcm_a) (set_up again) ≡ true
-all_are_fit false = refl
-all_are_fit true = refl
+sets_up : (again : Bool) → SetsUp (short 1) gcm_a (new_key no_salt 1) (sa again)
+sets_up false = record { fits = refl; none = refl; fit = λ long. refl; keep = refl; keys = refl }
+sets_up true = record { fits = refl; none = refl; fit = λ long. refl; keep = refl; keys = refl }
 
 start_sound : IsSound (start gcm_a)
 start_sound = begins_sound gcm_a refl
 
 on_sound : (again : Bool) → IsSound (state 1 (row_at (first_of again) true ∷ []) 0)
-on_sound again = commands_sound (set_up again) (none_is_refused again) (all_are_fit again) start_sound
+on_sound again =
+    commands_sound (Key (new_key no_salt 1) ∷ sa again) (sets_up again).none ((sets_up again).fit refl) start_sound
 
 one_sound : IsSound (state 2 (row_at 2 true ∷ []) 1)
 one_sound = sent_sound (client 1) refl refl (on_sound false)
@@ -77,6 +77,16 @@ one_sound = sent_sound (client 1) refl refl (on_sound false)
 end_sound : (again : Bool) → IsSound (at_end again)
 end_sound false = sent_sound (client 1) refl refl one_sound
 end_sound true = sent_sound (client 3) refl refl (on_sound true)
+
+on_good : (again : Bool) → IsGood (short 1) (state 1 (row_at (first_of again) true ∷ []) 0)
+on_good again = good (short 1) 1 refl (λ long. on_sound again)
+
+one_good : IsGood (short 1) (state 2 (row_at 2 true ∷ []) 1)
+one_good = good (short 1) 2 refl (λ long. one_sound)
+
+end_good : (again : Bool) → IsGood (short 1) (at_end again)
+end_good false = good (short 1) 3 refl (λ long. end_sound false)
+end_good true = good (short 1) 4 refl (λ long. end_sound true)
 
 -- ---- what it seals, by its tag
 
@@ -105,7 +115,7 @@ module _ (salt : List ℕ) (before : List Reservation) where
   reserved_at again s = kept salt before (reserves again salt ∷ []) s
 
   abbrev created : Bool → Bool → State
-  created again on = state 1 (row_at (first_of again) on ∷ []) 0
+  created again on' = state 1 (row_at (first_of again) on' ∷ []) 0
 
   reports : (again : Bool) → (keeping_step (with_none (created again true)) (now_durable (reserves again salt))).1 ≡
       reserved_at again (created again true)
@@ -130,22 +140,25 @@ module _ (salt : List ℕ) (before : List Reservation) where
       sent_by k.secy (client octet) (frame_fault (client octet)) (sending_of k.secy (client octet)).by
   lists k _ goes = rw goes
 
-  frames_told : (again : Bool) → highest before name < first_of again →
-      Told (reserved_at again (created again true)) (frames again) (sent again) [] (reserved_at again (at_end again))
+  frames_told : {left_out : Premise} {uses : Uses} (again : Bool) → highest before name < first_of again →
+      Told (short 1) left_out uses (on (reserved_at again (created again true))) (frames again) (sent again) []
+      (on (reserved_at again (at_end again)))
   frames_told false free =
       let k1 = reserved_at false (created false true) in
       let k2 = reserved_at false (state 2 (row_at 2 true ∷ []) 1) in
-      told_next (on_sound false) (lists k1 1 (first_goes free) ∙ ap (listed 1 1) first_use) refl
-      (frame_step k1 (client 1) (first_goes free))
-      (told_next one_sound (lists k2 1 (second_goes free) ∙ ap (listed 2 1) second_use) refl
-      (frame_step k2 (client 1) (second_goes free)) (told_end _ (end_sound false)))
+      told_next (on_good false) (lists k1 1 (first_goes free) ∙ ap (listed 1 1) first_use) refl
+      (ap on (frame_step k1 (client 1) (first_goes free)))
+      (told_next one_good (lists k2 1 (second_goes free) ∙ ap (listed 2 1) second_use) refl
+      (ap on (frame_step k2 (client 1) (second_goes free))) (told_end _ (end_good false)))
   frames_told true free =
       let k1 = reserved_at true (created true true) in
-      told_next (on_sound true) (lists k1 3 (third_goes free) ∙ ap (listed 3 3) third_use) refl
-      (frame_step k1 (client 3) (third_goes free)) (told_end _ (end_sound true))
+      told_next (on_good true) (lists k1 3 (third_goes free) ∙ ap (listed 3 3) third_use) refl
+      (ap on (frame_step k1 (client 3) (third_goes free))) (told_end _ (end_good true))
 
-  pub told : (again : Bool) → highest before name < first_of again →
-      Told (with_none (start gcm_a)) (inputs again salt) (sent again) [] (reserved_at again (at_end again))
-  told again free = commands_told (set_up again) (refl, (is_new before name (first_of again) free, (refl, tt)))
-      (none_is_refused again)
-      (all_are_fit again) start_sound (told_next (on_sound again) refl refl (reports again) (frames_told again free))
+  pub told : {left_out : Premise} {uses : Uses} (again : Bool) → IsLow before → highest before name < first_of again →
+      Told (short 1) left_out uses (begun (with_none (start gcm_a))) (inputs again salt) (sent again) []
+      (on (reserved_at again (at_end again)))
+  told again low free =
+      set_up_told gcm_a (new_key no_salt 1) (sa again) salt before (sets_up again) start_sound low
+      (refl, (is_new before name (first_of again) free, (refl, tt)))
+      (told_next (on_good again) refl refl (ap on (reports again)) (frames_told again free))

@@ -1,6 +1,0 @@
--- Order, and each frame at most once, by the laws of an endpoint.
-use Rattle.macsec_restarts.proofs.InOrder.{comes_in_order_once}
-use Rattle.macsec_restarts.proofs.laws.comes_in_order_once.Goals as goal
-
-pub returns : goal.returns
-returns c = comes_in_order_once (assumption) c.reads_by_grammar.ensures c.delivers_above.ensures
