@@ -12,5 +12,6 @@ pub mod Rewound
 pub mod Extended
 pub mod OtherSuites
 pub mod Reserved
+pub mod OnDisk
 pub mod Renews
 pub mod RenewsInOrder

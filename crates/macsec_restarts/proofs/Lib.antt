@@ -9,7 +9,7 @@ mod AheadEnds
 mod AheadPast
 mod Pushed
 pub mod AheadForgets
-mod Examples
+pub mod Examples
 mod ForgettingEnds
 mod RenewingSteps
 mod RenewingEnds
