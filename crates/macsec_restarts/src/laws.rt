@@ -130,7 +130,7 @@ pub fn accepts_above_if_kept_renewing()
 
 /// Over a journal on a disk that fails (`macsec_journal`), a later run sends under a key, and accepts from a receive
 /// SA, only higher packet numbers than an earlier run did, if the name of the key or of the SA was not let go between
-/// them. No other name matters. Each run reserves ahead of receiving or not; for what is accepted both do.
+/// their beginnings. No other name matters. Each run reserves ahead of receiving or not; for what is accepted both do.
 pub fn rises_on_disk_renewing()
     ensures { (form : Form) (salt : List ℕ) (events : List Event) → RisesOnDiskRenewing form salt events }
 {
@@ -266,7 +266,7 @@ pub fn keeps_used_on_disk()
 }
 
 /// `no_iv_if_used_is_kept_renewing` for the runs over such a journal. In place of what a later run reads, the premise
-/// is that no name was let go between two runs that both send under its key.
+/// is that no name was let go between the beginnings of two runs that both send under its key.
 pub fn no_iv_on_disk()
     ensures { (ahead : ℕ → Bool) (journal : JournalHistory) → NoIvOnDisk ahead journal }
 {
@@ -297,9 +297,9 @@ pub fn no_iv_at_both_on_disk()
 
 /// `comes_in_order_if_kept_renewing` for two ends, over such a journal at each, whatever happens to both in one order
 /// of time (`order`). The runs of each end are those that were begun over its journal (`runs`). In place of what a
-/// later run reads, the premises are that no name was let go between two runs of the sender that both send under the
-/// key, nor between two runs of the receiver that both deliver from the SA, and that the earlier one of the receiver
-/// reserved ahead of receiving.
+/// later run reads, the premises are that no name was let go between the beginnings of two runs of the sender that both
+/// send under the key, nor of two runs of the receiver that both deliver from the SA, and that the earlier one of the
+/// receiver reserved ahead of receiving.
 pub fn comes_in_order_on_disk()
     ensures runs { (two : TwoJournals) (e : End) → HasTheRuns two e }
     ensures order { (ahead : End → ℕ → Bool) (two : TwoJournals) → ComesInOrderOnDisk ahead two }

@@ -7,7 +7,8 @@
 //! reads what was used, delivered or saved before, under the names that it uses; other names may be lost:
 //! - `no_iv_if_used_is_kept_renewing`: over all runs no two frames are sealed with the same key octets and the same IV.
 //! - `numbers_rise_if_used_is_kept_renewing`: the packet numbers that are used under the octets of a key rise.
-//! - `accepts_above_if_kept_renewing`: a later run accepts only higher packet numbers than an earlier run accepted.
+//! - `accepts_above_if_kept_renewing`: a later run with the option accepts only higher packet numbers than an earlier
+//!   run accepted.
 //! - `no_iv_at_both_renewing`: over all runs of both ends no two frames have the same key octets and the same IV.
 //! - `comes_from_other_renewing`: what a strictly validating end delivers from an SA was sent before by the other end,
 //!   whatever the journals are.
@@ -23,7 +24,7 @@
 //! - `seals_each_frame_renewing`: each protected frame that leaves is one use of the cipher, has its octets, and is
 //!   listed.
 //! - `lists_each_delivery_renewing`: what is delivered from a receive SA is listed once; in Strict nothing else is
-//!   delivered.
+//!   delivered at the controlled port.
 //! - `begins_above_its_end_renewing`: an SA that was deleted begins above its end, unless its key is retired.
 //! - `is_keeping_inside`: a frame takes the step of the keeping endpoint inside, or nothing changes.
 //! - `accepts_in_time`: a frame of one run is accepted by a run of the other end.
@@ -36,8 +37,8 @@
 //! `comes_in_order_on_disk`. For each premise of the first, except that link frames are octets, it has runs that meet
 //! the others and break order. It uses the worked runs of `macsec_counterexamples`.
 //!
-//! Trusted: what was reported durable is read by every later run, except over the journal of `macsec_journal`, and no
-//! ICV is forged.
+//! Trusted: a later run reads what was used, delivered or saved before, except over the journal of `macsec_journal`;
+//! and no ICV is forged.
 #![tactic(auto)]
 
 pub mod laws;
