@@ -9,3 +9,4 @@ mod Peers
 mod SingleCalls
 mod Saved
 mod Examples
+mod TwoEndsMet

@@ -25,7 +25,7 @@
 //! refused is such a renewal, and a refused one is a renewal that is refused (`proofs/AsRenewals.antt`).
 //!
 //! Two worked runs meet all premises on what is sent (`proofs/Examples.antt`): one installs its key by a command, the
-//! other as a renewal.
+//! other as a renewal. A run of each end meets all premises of order (`proofs/TwoEndsMet.antt`).
 #![tactic(auto)]
 
 pub mod laws;
