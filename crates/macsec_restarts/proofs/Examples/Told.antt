@@ -43,7 +43,7 @@ pub record IsKeyOf (kind : Kind) (key : InstalledKey) : Type 0 where
   pub salt : key.salt ≡ kind.salt
   pub ssci : key.ssci ≡ kind.ssci
 
--- and it is sound, if the salt is not shorter than a key's has to be
+-- and it is sound, if the salt has as many octets as that of a key has
 pub record IsGood (kind : Kind) (s : State) : Type 0 where
   pub sound : length kind.salt ≡ 12 → IsSound s
   pub keys : All (IsKeyOf kind) s.keys
@@ -239,7 +239,7 @@ told_drop {k} {f} j whole is none is_good rest =
     told_next {now = []} is_good refl (link_gives k f (gives_by k f j whole is ∙ none))
     (link_goes k f (link_step_by k f j whole is)) rest
 
--- ---- commands that delete no SA
+-- ---- commands that delete no SA, and neither install nor retire a key
 
 pub newly_none : (a : Ahead) (c : Command) → newly_delivered_with a (command c) ≡ []
 newly_none a c = by_test (lets_through a (command c))
@@ -256,7 +256,6 @@ no_entries : (es : List EndedSa) → no_entry es ≡ true → es ≡ []
 no_entries [] none = refl
 no_entries (e ∷ es) none = cc
 
--- nor install or retire a key
 abbrev pub keeps_tables : State → Command → Bool
 keeps_tables s (Key key) = false
 keeps_tables s (Retire n) = false

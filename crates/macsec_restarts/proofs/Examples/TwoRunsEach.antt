@@ -214,10 +214,6 @@ facts_3 uses there = facts_of refl (receiver.told (salt false) (reads (saved_1 �
 -- ---- all of it
 
 -- the journal of the second run has what was reported to the first
-pub is_durable : (r : Reservation) → All IsReservation (r ∷ []) → (name : List ℕ) →
-    highest (r ∷ []) name ≤ highest (reservations (journal false (r ∷ []))) name
-is_durable r are name = omega (arith, says false (r ∷ []) are name)
-
 has_own : (r : Reservation) → All IsReservation (r ∷ []) →
     r.last ≤ highest (reservations (journal false (r ∷ []))) r.name
 has_own r are =
