@@ -274,6 +274,7 @@ impl Slot {
         ensures after { endpoint.new ≡ (ahead_step endpoint.old (endpoint_input (link_frame self.old.frame))).1 }
         ensures output { output_of_finished result self.old.frame out.new
             ≡ (ahead_step endpoint.old (endpoint_input (link_frame self.old.frame))).0 }
+        ensures within { delivered_length result ≤ length out.old }
         ensures rest { drop (delivered_length result) out.new ≡ drop (delivered_length result) out.old }
         ensures left { is_idle self.new.work ≡ true }
         ensures gone { IsGone self.new.key }
@@ -334,6 +335,7 @@ fn receive_frame(
     ensures after { endpoint.new ≡ (ahead_step endpoint.old (endpoint_input (link_frame frame.now))).1 }
     ensures output { output_of_finished result frame.now out.new
         ≡ (ahead_step endpoint.old (endpoint_input (link_frame frame.now))).0 }
+    ensures within { delivered_length result ≤ length out.old }
     ensures rest { drop (delivered_length result) out.new ≡ drop (delivered_length result) out.old }
 {
     // The proof cites this law; the call does nothing.
@@ -358,6 +360,7 @@ fn delivered_to(controlled: Option<&[u8]>, out: &mut [u8]) -> Option<usize>
     requires { IfSome controlled (λ d. length d.now ≤ length out.old) }
     ensures frame { option_map (λ n. take n out.new) result
         ≡ option_map (λ (d : Bor (List ℕ)). d.now) controlled.entry }
+    ensures within { unwrap_or result 0 ≤ length out.old }
     ensures rest { drop (unwrap_or result 0) out.new ≡ drop (unwrap_or result 0) out.old }
 {
     let delivered = controlled?;
