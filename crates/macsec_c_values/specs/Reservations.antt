@@ -1,6 +1,6 @@
 -- What the calls for reservations and for a journal as octets return.
-use Rattle.std.specs.Prelude.{◌≡◌, ℕ, List, ◌++◌, drop, length, true, false, Option, Some, None, option_and_then}
-use Rattle.std.specs.Prelude.{option_map}
+use Rattle.std.specs.Prelude.{◌≡◌, ℕ, List, ◌++◌, drop, length, nat_lt, true, false, if◌then◌else◌}
+use Rattle.std.specs.Prelude.{Option, Some, None, option_and_then, option_map}
 use Rattle.macsec_commands.specs.declared.fault.NewFault.TheVariants.{Memory}
 use Rattle.macsec_tag.specs.declared.identifiers.Sci.{Sci}
 use Rattle.macsec_tx.specs.Transmit.{tx_row}
@@ -30,11 +30,18 @@ Written = List ℕ × ℕ
 abbrev pub begun_with : List ℕ → List ℕ → Written
 begun_with octets before = (octets ++ drop (length octets) before, length octets)
 
--- the status of shortening a journal, and what is written: the shorter journal, or nothing. Where memory or the buffer
--- is too small for it, that is `Memory`
+-- the status of writing octets to the start of a buffer, and the buffer and their number after it. If the buffer has
+-- less space, nothing changes and the status is `Memory`
+abbrev pub written_if_they_fit : List ℕ → Written → ℕ × Written
+written_if_they_fit octets before =
+    if nat_lt (length before.0) (length octets) then (status_of_new_fault Memory, before)
+    else (done_status, begun_with octets before.0)
+
+-- the status of shortening a journal, and what is written: the shorter journal if it fits. Or nothing, because the
+-- octets are no journal or memory ran out
 abbrev pub CompactsWith : Option CompactFault → List ℕ → Written → ℕ → Written → Type 0
 CompactsWith None journal before status after =
-    (is_journal journal ≡ true) × (status ≡ done_status) × (after ≡ begun_with (compacted journal) before.0)
+    (is_journal journal ≡ true) × ((status, after) ≡ written_if_they_fit (compacted journal) before)
 CompactsWith (Some compact.NotJournal) journal before status after =
     (is_journal journal ≡ false) × (status ≡ not_journal_status) × (after ≡ before)
 CompactsWith (Some compact.Memory) journal before status after =

@@ -4,7 +4,7 @@ ghost use Rattle.std.specs.Prelude.{◌≡◌, IfNone, IfSome};
 ghost use Rattle.macsec_reserve.specs.Journal.{record_of};
 ghost use Rattle.macsec_reserve.specs.Keeping.{tx_floor};
 ghost use Rattle.macsec_c_values.specs.Arguments.{an_of, key_number_of, sci_of};
-ghost use Rattle.macsec_c_values.specs.Reservations.{Compacts, saved_at, wanted_at};
+ghost use Rattle.macsec_c_values.specs.Reservations.{Compacts, saved_at, wanted_at, written_if_they_fit};
 ghost use Rattle.macsec_c_values.specs.Shown.{found_at, status_at, status_if};
 
 use crate::{DONE, NONE, NOT_JOURNAL, an_of, key_number_of, status_of_new_fault};
@@ -97,11 +97,18 @@ pub fn write_compacted(alloc: Global, journal: &[u8], out: &mut [u8], written: &
     let Ok(shorter) = compacted(alloc, journal) else {
         return status_of_new_fault(NewFault::Memory);
     };
+    write_shorter(shorter.as_slice(), out, written)
+}
+
+/// Writes octets to the start of a buffer, if it has space for them.
+fn write_shorter(shorter: &[u8], out: &mut [u8], written: &mut usize) -> u32
+    ensures { (result, (out.new, written.new)) ≡ written_if_they_fit shorter.now (out.old, written.old) }
+{
     let count = shorter.len();
     if out.len() < count {
         return status_of_new_fault(NewFault::Memory);
     }
-    out[..count].copy_from_slice(shorter.as_slice());
+    out[..count].copy_from_slice(shorter);
     *written = count;
     DONE
 }

@@ -11,9 +11,5 @@ returns-then-not-is_journal c = (Some NotJournal, search rules)
 pub returns-in_default : goal.returns-in_default
 returns-in_default c = (Some Memory, search rules)
 
--- the buffer is too small
-pub returns-then-out-count : goal.returns-then-out-count
-returns-then-out-count c = (Some Memory, search rules)
-
 pub returns : goal.returns
 returns c = (None, search rules steps 300000)
