@@ -359,7 +359,7 @@ typedef struct macsec_planned {
 
 /* What becomes of the link frame of a slot, as in macsec_received. What is delivered is in the caller's buffer. */
 typedef struct macsec_finished {
-    size_t length; /* the octets that are delivered */
+    size_t length; /* how many octets are delivered: at most the buffer's; 0 if none are */
     uint32_t status;
     uint32_t verdict; /* MACSEC_VERDICT_.. */
     uint8_t sci[8];
@@ -586,10 +586,10 @@ uint32_t macsec_slot_clear(macsec_slot *slot);
 
 uint32_t macsec_plan_send_raw(macsec_endpoint *e, macsec_slot *slot, const uint8_t *frame, size_t length,
                               macsec_planned *out);
-/* Takes the step of macsec_send, without the work of the cipher. If `job` is true, the slot has the frame, and what
- * macsec_seal_job makes of it is to be transmitted. Else the slot has none; a frame of fate MACSEC_FATE_PLAIN is to be
- * transmitted as it is. Returns out->status: MACSEC_E_JOB if the slot has a frame, MACSEC_E_FRAME_SHORT,
- * MACSEC_E_FRAME_LONG. */
+/* Takes the step of macsec_send, without the work of the cipher. `job` is true for the fate MACSEC_FATE_PROTECTED
+ * alone: then the slot has the frame, and what macsec_seal_job makes of it is to be transmitted. Else the slot has
+ * none; a frame of fate MACSEC_FATE_PLAIN is to be transmitted as it is. Returns out->status: MACSEC_E_JOB if the slot
+ * has a frame, MACSEC_E_FRAME_SHORT, MACSEC_E_FRAME_LONG. */
 static inline uint32_t macsec_plan_send(macsec_endpoint *e, macsec_slot *slot, const uint8_t *frame, size_t length,
                                         macsec_planned *out) {
     return macsec_plan_send_raw(e, slot, macsec_octets(frame, length), length, out);

@@ -1,7 +1,7 @@
 -- The calls for jobs answer as the steps do.
 use Rattle.{
   std.proofs.Common.{◌≡◌, ℕ, List, Bool, true, false, refl, ap, sym, subst, ◌∙◌, not, if◌then◌else◌, Result, Ok, Err},
-  std.proofs.Common.{IfOk, OnErr, OnOk},
+  std.proofs.Common.{IfOk, OnErr, OnOk, nat_eq},
   macsec_secy.specs.{Jobs.job_of_frame, Step.{client_frame, frame_fault}, declared.fault.FrameFault.FrameFault},
   macsec_reserve.specs.Keeping.endpoint_input,
   macsec_ahead.specs.Ahead.{Ahead, ahead_step, kept},
@@ -41,16 +41,17 @@ module _ (e after : Ahead) (left : SlotState) (frame : List ℕ) (result : Plann
     (endpoint_input (client_frame frame))).1) where
   -- by the parts of the step's answer
   by_parts : (parts : SentParts) (shown : Planned) → parts ≡ sent_by e frame → result ≡ shown →
-      shown.status ≡ parts.status → shown.fate ≡ parts.fate → shown.key ≡ parts.key →
+      shown.job ≡ nat_eq shown.fate 1 → shown.status ≡ parts.status → shown.fate ≡ parts.fate → shown.key ≡ parts.key →
       is_sealing left.work ≡ shown.job → (is_sealing left.work ≡ true → frame_planned left ≡ parts.frame) →
       is_idle left.work ≡ not shown.job → shown.reserved ≡ (unplanned 0).reserved →
       IsPlanned e frame result after left
-  by_parts parts shown is same status fate key job made idle zeros = record {
+  by_parts parts shown is same protected status fate key job made idle zeros = record {
     after = steps;
     status = ap (λ (p : Planned). p.status) same ∙ status ∙ ap (λ (p : SentParts). p.status) is;
     fate = ap (λ (p : Planned). p.fate) same ∙ fate ∙ ap (λ (p : SentParts). p.fate) is;
     key = ap (λ (p : Planned). p.key) same ∙ key ∙ ap (λ (p : SentParts). p.key) is;
     job = ap (λ (p : Planned). p.job) same ∙ sym job;
+    protected = ap (λ (p : Planned). p.job) same ∙ protected ∙ ap (λ (p : Planned). nat_eq p.fate 1) (sym same);
     frame = λ sealing. made sealing ∙ ap (λ (p : SentParts). p.frame) is;
     idle = idle ∙ ap (λ (p : Planned). not p.job) (sym same);
     reserved = ap (λ (p : Planned). p.reserved) same ∙ zeros;
@@ -60,17 +61,17 @@ module _ (e after : Ahead) (left : SlotState) (frame : List ℕ) (result : Plann
       (endpoint_input (client_frame frame))).0 →
       is_sealing left.work ≡ is_job made → is_idle left.work ≡ not (is_job made) →
       result ≡ planned_for made left.key.number → IsPlanned e frame result after left
-  plans (Ok plan.Job) output sealing idle shown = by_parts _ _ (ap sent_of output) shown refl refl refl sealing
+  plans (Ok plan.Job) output sealing idle shown = by_parts _ _ (ap sent_of output) shown refl refl refl refl sealing
       (λ t. refl) idle refl
-  plans (Ok plan.Plain) output sealing idle shown = by_parts _ _ (ap sent_of output) shown refl refl refl sealing
+  plans (Ok plan.Plain) output sealing idle shown = by_parts _ _ (ap sent_of output) shown refl refl refl refl sealing
       (not_both _ sealing) idle refl
   plans (Ok (plan.Dropped reason.NoSa)) output sealing idle shown = by_parts _ _
-      (ap sent_of output) shown refl refl refl sealing (not_both _ sealing) idle refl
+      (ap sent_of output) shown refl refl refl refl sealing (not_both _ sealing) idle refl
   plans (Ok (plan.Dropped reason.TooLong)) output sealing idle shown = by_parts _ _
-      (ap sent_of output) shown refl refl refl sealing (not_both _ sealing) idle refl
+      (ap sent_of output) shown refl refl refl refl sealing (not_both _ sealing) idle refl
   plans (Ok plan.NoReservation) output sealing idle shown = by_parts _ _
-      (ap sent_of output) shown refl refl refl sealing (not_both _ sealing) idle refl
-  plans (Err f) output sealing idle shown = by_parts _ _ (ap sent_of output) shown refl refl refl sealing
+      (ap sent_of output) shown refl refl refl refl sealing (not_both _ sealing) idle refl
+  plans (Err f) output sealing idle shown = by_parts _ _ (ap sent_of output) shown refl refl refl refl sealing
       (not_both _ sealing) idle refl
 
 -- ---- a link frame

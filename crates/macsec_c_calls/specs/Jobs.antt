@@ -1,6 +1,6 @@
 -- The calls that leave the work of the cipher to jobs: what they return, and what is left in the endpoint and the slot.
-use Rattle.std.specs.Prelude.{◌≡◌, ◌≤◌, ℕ, List, replicate, length, take, drop, nat_lt, Bool, true, false, not}
-use Rattle.std.specs.Prelude.{if◌then◌else◌, Option, Some, None, Result, Ok, Err}
+use Rattle.std.specs.Prelude.{◌≡◌, ◌≤◌, ℕ, List, replicate, length, take, drop, nat_eq, nat_lt, Bool, true, false}
+use Rattle.std.specs.Prelude.{not, if◌then◌else◌, Option, Some, None, Result, Ok, Err}
 use Rattle.macsec_tag.specs.Limits.{max_frame_len}
 use Rattle.macsec_secy.specs.declared.answers.DropReason.TheVariants as reason
 use Rattle.macsec_secy.specs.declared.fault.FrameFault.{FrameFault}
@@ -60,13 +60,14 @@ abbrev pub sent_by : Ahead → List ℕ → SentParts
 sent_by e frame = sent_of (ahead_step e (endpoint_input (client_frame frame))).0
 
 -- the endpoint takes its step for the client frame, and answers as the step does; the slot's job makes the frame that
--- is sent protected
+-- is sent protected. There is a job if the fate is 1, protected, and for no other fate
 pub record IsPlanned (e : Ahead) (client : List ℕ) (result : Planned) (later : Ahead) (left : SlotState) : Type 0 where
   pub after : later ≡ (ahead_step e (endpoint_input (client_frame client))).1
   pub status : result.status ≡ (sent_by e client).status
   pub fate : result.fate ≡ (sent_by e client).fate
   pub key : result.key ≡ (sent_by e client).key
   pub job : result.job ≡ is_sealing left.work
+  pub protected : result.job ≡ nat_eq result.fate 1
   pub frame : is_sealing left.work ≡ true → frame_planned left ≡ (sent_by e client).frame
   pub idle : is_idle left.work ≡ not result.job
   pub reserved : result.reserved ≡ replicate 4 0
@@ -146,6 +147,7 @@ pub record IsFinished (e : Ahead) (link : List ℕ) (result : Finished) (out out
     (left : SlotState) : Type 0 where
   pub after : later ≡ (ahead_step e (endpoint_input (link_frame link))).1
   pub shown : parts_of_finished result out_after ≡ received_of (ahead_step e (endpoint_input (link_frame link))).0
+  pub within : result.length ≤ length out
   pub rest : drop result.length out_after ≡ drop result.length out
   pub idle : is_idle left.work ≡ true
 

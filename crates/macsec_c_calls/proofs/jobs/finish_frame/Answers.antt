@@ -40,6 +40,7 @@ returns c =
     finishes _ _ _ _ _ _ _ _ _ there wide (record {
       after = step.ensures.after;
       shown = c.finished_of.ensures.parts c.args.slot.now.frame step.new.out ∙ ap parts_of_ahead step.ensures.output;
+      within = rw c.finished_of.ensures.length step.ensures.within;
       rest = rw (c.finished_of.ensures.length, step.ensures.rest);
       idle = step.ensures.left;
     })
