@@ -76,9 +76,9 @@ OpensHeld (Some s) (Some key) status (Some left) = OpensWith s key status left
 abbrev pub FinishesHeld : Option Ahead → Option SlotState → List ℕ → Finished → List ℕ → Option Ahead → Option SlotState
     → Type 0
 FinishesHeld None s out result out_after after left = (parts_of_finished result out_after ≡ unreceived empty_status) ×
-    (out_after ≡ out) × (after ≡ None) × (left ≡ s)
+    (result.length ≡ 0) × (out_after ≡ out) × (after ≡ None) × (left ≡ s)
 FinishesHeld (Some e) None out result out_after after left = (parts_of_finished result out_after ≡ unreceived
-    empty_status) × (out_after ≡ out) × (after ≡ Some e) × (left ≡ None)
+    empty_status) × (result.length ≡ 0) × (out_after ≡ out) × (after ≡ Some e) × (left ≡ None)
 FinishesHeld (Some e) (Some s) out result out_after None left = ⊥
 FinishesHeld (Some e) (Some s) out result out_after (Some after) None = ⊥
 FinishesHeld (Some e) (Some s) out result out_after (Some after) (Some left) = FinishesFrame e s out result out_after
