@@ -935,7 +935,8 @@ uint32_t macsec_journal_begin_raw(macsec_journal *j, const uint8_t *octets, size
 /* Begins, in a handle that holds no journal, with all octets of a file that may have `limit` octets. It allocates all
  * that later calls need: five blocks, of less than three times the limit. MACSEC_E_TAKEN; MACSEC_E_NOT_JOURNAL, and
  * MACSEC_E_JOURNAL_DAMAGED: install new keys at both ends, and create another journal; MACSEC_E_JOURNAL_FULL: the
- * entries do not fit into a file of the limit, which has 128 octets and 64 for each entry; MACSEC_E_MEMORY. */
+ * journal was read, but its entries do not fit into a file of the limit, which has 128 octets and 64 for each entry;
+ * MACSEC_E_MEMORY. */
 static inline uint32_t macsec_journal_begin(macsec_journal *j, const uint8_t *octets, size_t length, uint32_t limit) {
     return macsec_journal_begin_raw(j, macsec_octets(octets, length), length, limit);
 }

@@ -50,7 +50,7 @@ abbrev pub Begins : ℕ → List ℕ → Result Journal BeginFault → Type 0
 Begins limit octets (Ok j) = (j ≡ begun limit octets) × (is_readable octets ≡ true) × (can_have limit octets ≡ true)
 Begins limit octets (Err NotJournal) = has_header octets ≡ false
 Begins limit octets (Err Damaged) = (has_header octets ≡ true) × (is_readable octets ≡ false)
-Begins limit octets (Err TooLong) = can_have limit octets ≡ false
+Begins limit octets (Err TooLong) = (is_readable octets ≡ true) × (can_have limit octets ≡ false)
 Begins limit octets (Err Memory) = Unit {0}
 
 -- ---- orders
