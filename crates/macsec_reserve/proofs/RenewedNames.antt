@@ -5,7 +5,7 @@ use Rattle.macsec_secy.specs.Renewing.{renewal_refusal, renewing, state_after_re
 use Rattle.macsec_suite.specs.{KeyRows.keys_with, Renewing.{keys_added, keys_renewing, renewed_row}}
 use Rattle.macsec_reserve.{
   proofs.{
-    Prelude.{[], ◌&&◌, ◌+◌, ◌++◌, ◌-◌, ◌==◌, ◌^◌, ◌∙◌, ◌∷◌, ◌≡◌, ◌⊎◌, ap, Bool, false, HasNames, if◌then◌else◌, inl, inr},
+    Prelude.{[], ◌&&◌, ◌+◌, ◌++◌, ◌==◌, ◌∙◌, ◌∷◌, ◌≡◌, ◌⊎◌, ap, Bool, false, HasNames, if◌then◌else◌, inl, inr},
     Prelude.{InstalledKey, is_number_used, is_some, IsGivenUp, Keeping, key_bytes, key_name, key_row, List, map},
     Prelude.{map-append, name_row, named, NamedKey, new_row, NewKey, None, not, Option, option_map, refl, Refusal},
     Prelude.{renamed, Reservation, sending_name, Some, State, Suite, suite_of, sym, true, uses, ℕ},
@@ -13,7 +13,7 @@ use Rattle.macsec_reserve.{
     KeptNames.{found_name, row_in_map},
   },
   specs.Names.{name_or_none, place_named},
-  specs.Renewing.{before_renewed, entries_renewed, keeping_after_renewing, place_of, unless_refused},
+  specs.Renewing.{entries_renewed, keeping_after_renewing, names_renewed, place_of, unless_refused},
 }
 
 -- ---- the keys after a renewal that is not refused
@@ -83,17 +83,17 @@ names_if_free salt s key names free are =
 
 -- ---- what the call leaves
 
-pub left_if_renewed : (k : Keeping) (key : NewKey) (before entries : List Reservation) → None ≡ renewal_refusal k.secy key →
-    before ≡ before_renewed k.salt key k.secy.keys k.before → entries ≡ entries_renewed k.salt key k.secy.keys k.granted →
-    record k { secy = renewing key k.secy; before = before; granted = entries } ≡ keeping_after_renewing key k
-left_if_renewed k key before entries e is_before is =
-    ap (λ (rs : List Reservation). record k { secy = renewing key k.secy; before = rs; granted = entries }) is_before
-    ∙ ap (λ (rs : List Reservation). record k { secy = renewing key k.secy; before = before_renewed k.salt key k.secy.keys k.before; granted = rs }) is
+pub left_if_renewed : (k : Keeping) (key : NewKey) (names : List (List ℕ)) (entries : List Reservation) → None ≡ renewal_refusal k.secy key →
+    names ≡ names_renewed k.salt key k.secy.keys k.given_up → entries ≡ entries_renewed k.salt key k.secy.keys k.granted →
+    record k { secy = renewing key k.secy; granted = entries; given_up = names } ≡ keeping_after_renewing key k
+left_if_renewed k key names entries e is_names is =
+    ap (λ (all : List (List ℕ)). record k { secy = renewing key k.secy; granted = entries; given_up = all }) is_names
+    ∙ ap (λ (rs : List Reservation). record k { secy = renewing key k.secy; granted = rs; given_up = names_renewed k.salt key k.secy.keys k.given_up }) is
     ∙ ap (λ (r : Option Refusal). unless_refused r key k) e
 
-pub before_if : (salt : List ℕ) (key : NewKey) (keys : List InstalledKey) (before : List Reservation) (used : Bool) → is_number_used keys key.number ≡ used →
-    (if used then before ++ record { name = key_name salt keys key.number; last = 2 ^ 64 - 1 } ∷ [] else before) ≡ before_renewed salt key keys before
-before_if salt key keys before used is = sym (ap (λ (b : Bool). if b then before ++ record { name = key_name salt keys key.number; last = 2 ^ 64 - 1 } ∷ [] else before) is)
+pub given_up_if : (salt : List ℕ) (key : NewKey) (keys : List InstalledKey) (names : List (List ℕ)) (used : Bool) → is_number_used keys key.number ≡ used →
+    (if used then names ++ key_name salt keys key.number ∷ [] else names) ≡ names_renewed salt key keys names
+given_up_if salt key keys names used is = sym (ap (λ (b : Bool). if b then names ++ key_name salt keys key.number ∷ [] else names) is)
 
 pub entries_if : (salt : List ℕ) (key : NewKey) (keys : List InstalledKey) (granted : List Reservation) (used : Bool) → is_number_used keys key.number ≡ used →
     (if used then set granted (place_of keys key.number) (record { name = sending_name salt (key_bytes key.bytes); last = 0 }) else granted) ≡ entries_renewed salt key keys granted

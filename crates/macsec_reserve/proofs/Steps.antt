@@ -76,6 +76,15 @@ pub before_stays : (k : Keeping) (input : KeepingInput) → (keeping_step k inpu
 before_stays k (now_durable r) = refl
 before_stays k (endpoint_input input) = before_by_tests (is_below_floor k input) (may_go k input) k (step k.secy input)
 
+given_up_by_tests : (below go : Bool) (k : Keeping) (answer : Output × State) → (by_tests below go k answer).1.given_up ≡ k.given_up
+given_up_by_tests true go k answer = refl
+given_up_by_tests false true k answer = refl
+given_up_by_tests false false k answer = refl
+
+pub given_up_stays : (k : Keeping) (input : KeepingInput) → (keeping_step k input).1.given_up ≡ k.given_up
+given_up_stays k (now_durable r) = refl
+given_up_stays k (endpoint_input input) = given_up_by_tests (is_below_floor k input) (may_go k input) k (step k.secy input)
+
 granted_by_tests : (below go : Bool) (k : Keeping) (answer : Output × State) (name : List ℕ) → highest k.granted name ≤ highest (by_tests below go k answer).1.granted name
 granted_by_tests true go k answer name = omega arith
 granted_by_tests false true k answer name = omega arith

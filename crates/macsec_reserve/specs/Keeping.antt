@@ -17,22 +17,24 @@ use Rattle.macsec_reserve.specs.Entries.{raised_by, reduced}
 use Rattle.macsec_reserve.specs.Journal.{highest, receiving_name, reservations, salt_of, sending_name}
 
 -- the endpoint; whether it has a journal; the journal's salt; what the journal reserved when the run began, one entry
--- for each name; and what was reported durable since, one entry for each key
+-- for each name; what was reported durable since, one entry for each key; and the names of the keys whose row a new key
+-- took, which only the installation of a key reads
 pub record Keeping : Type 0 where
   pub secy : State
   pub keeps : Bool
   pub salt : List ℕ
   pub before : List Reservation
   pub granted : List Reservation
+  pub given_up : List (List ℕ)
 
--- a keeping endpoint opened with a journal: nothing is reserved
+-- a keeping endpoint opened with a journal: nothing is reserved, and no name is given up
 abbrev pub opened : EndConfig → List ℕ → Keeping
 opened config journal =
-    record { secy = start config; keeps = true; salt = salt_of journal; before = reduced (reservations journal); granted = [] }
+    record { secy = start config; keeps = true; salt = salt_of journal; before = reduced (reservations journal); granted = []; given_up = [] }
 
 -- a keeping endpoint made without a journal
 abbrev pub alone : EndConfig → Keeping
-alone config = record { secy = start config; keeps = false; salt = replicate 24 0; before = []; granted = [] }
+alone config = record { secy = start config; keeps = false; salt = replicate 24 0; before = []; granted = []; given_up = [] }
 
 -- the name of the key of this number for sending
 abbrev pub key_name : List ℕ → List InstalledKey → ℕ → List ℕ

@@ -1,5 +1,6 @@
 -- A keeping endpoint that takes a new key under the number of a retired one.
-use Rattle.std.specs.Prelude.{◌≡◌, ◌⊎◌, ◌≤◌, ℕ, ◌+◌, ◌-◌, ◌^◌, ◌==◌, List, [], ◌∷◌, ◌++◌, set, ◌||◌, nat_le, Bool, true, false, if◌then◌else◌, Option, Some, None}
+use Rattle.std.specs.Prelude.{◌≡◌, ◌⊎◌, ℕ, ◌+◌, ◌==◌, List, [], ◌∷◌, ◌++◌, set, ◌||◌, Bool, true, false, if◌then◌else◌, Option, Some, None}
+use Rattle.std.specs.List.{list_any}
 use Rattle.macsec_aes.specs.Keys.{key_bytes}
 use Rattle.macsec_suite.specs.declared.key_row.NewKey.{NewKey}
 use Rattle.macsec_suite.specs.declared.refusal.Refusal.{Refusal}
@@ -7,9 +8,10 @@ use Rattle.macsec_suite.specs.declared.refusal.Refusal.TheVariants.{KeyRepeated}
 use Rattle.macsec_suite.specs.KeyRows.{InstalledKey, the_key}
 use Rattle.macsec_suite.specs.Refusals.{is_number_used}
 use Rattle.macsec_secy.specs.Renewing.{renewal_refusal, renewing}
+use Rattle.macsec_gcm.specs.Octets.{same_octets}
 use Rattle.macsec_reserve.specs.declared.reservation.Reservation.{Reservation}
 use Rattle.macsec_reserve.specs.Forgetting.{as_taken, fingerprint, forgetting_step}
-use Rattle.macsec_reserve.specs.Journal.{highest, sending_name}
+use Rattle.macsec_reserve.specs.Journal.{sending_name}
 use Rattle.macsec_reserve.specs.Keeping.{Keeping, KeepingInput, key_name}
 
 -- the place of the key of this number in the table
@@ -23,17 +25,17 @@ abbrev pub entries_renewed : List ℕ → NewKey → List InstalledKey → List 
 entries_renewed salt key keys granted =
     if is_number_used keys key.number then set granted (place_of keys key.number) (record { name = sending_name salt (key_bytes key.bytes); last = 0 }) else granted
 
--- the name of the key that had the number is given up: no packet number is left under it
-abbrev pub before_renewed : List ℕ → NewKey → List InstalledKey → List Reservation → List Reservation
-before_renewed salt key keys before =
-    if is_number_used keys key.number then before ++ record { name = key_name salt keys key.number; last = 2 ^ 64 - 1 } ∷ [] else before
+-- the names that are given up: the name of the key that had the number, if there is one, is one more
+abbrev pub names_renewed : List ℕ → NewKey → List InstalledKey → List (List ℕ) → List (List ℕ)
+names_renewed salt key keys given_up =
+    if is_number_used keys key.number then given_up ++ key_name salt keys key.number ∷ [] else given_up
 
--- with the new key. What earlier runs reserved stays, and so does what this run reserved for other keys
+-- with the new key. What earlier runs reserved stays under every name, and so does what this run reserved for other keys
 abbrev pub keeping_renewed : NewKey → Keeping → Keeping
 keeping_renewed key k = record k {
   secy = renewing key k.secy;
-  before = before_renewed k.salt key k.secy.keys k.before;
   granted = entries_renewed k.salt key k.secy.keys k.granted;
+  given_up = names_renewed k.salt key k.secy.keys k.given_up;
 }
 
 abbrev pub unless_refused : Option Refusal → NewKey → Keeping → Keeping
@@ -45,8 +47,13 @@ keeping_after_renewing key k = unless_refused (renewal_refusal k.secy key) key k
 
 -- ---- octets that are given up
 
+-- the name is among these
+abbrev pub has_name : List (List ℕ) → List ℕ → Bool
+has_name names name = list_any (λ other. same_octets other name) names
+
+-- a new key took the row of a key with this name. What a journal reserved for the name does not matter
 abbrev pub is_name_given_up : Keeping → List ℕ → Bool
-is_name_given_up k name = nat_le (2 ^ 64 - 1) (highest k.before name)
+is_name_given_up k name = has_name k.given_up name
 
 -- a new key took the row of the key with these octets, or with their fingerprint
 abbrev pub is_given_up : Keeping → List ℕ → Bool
@@ -86,6 +93,6 @@ abbrev pub RefusesGivenUp : Keeping → NewKey → Type 0
 RefusesGivenUp k key =
     is_given_up k (key_bytes key.bytes) ≡ true → (forgetting_refusal k key ≡ Some KeyRepeated) × (forgetting_after_renewing k key ≡ k)
 
--- no floor falls: what an earlier run may have used stays refused
-abbrev pub KeepsFloors : Keeping → NewKey → List ℕ → Type 0
-KeepsFloors k key name = highest k.before name ≤ highest (keeping_after_renewing key k).before name
+-- no floor changes: what an earlier run may have used stays refused, and nothing else is
+abbrev pub KeepsFloors : Keeping → NewKey → Type 0
+KeepsFloors k key = (keeping_after_renewing key k).before ≡ k.before

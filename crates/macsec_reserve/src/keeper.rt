@@ -36,7 +36,8 @@ use crate::entries::{raise, restart};
 use crate::forgetting::{fingerprint, key_of_name, name_of_key, rename};
 use crate::journal::{entries_of, salt_of};
 use crate::key_names::{add_entries, name_of, named_key, note_key, place_of};
-use crate::numbers::{is_all, may_use, up_to, wanted_last, was_reserved};
+use crate::names::has_name;
+use crate::numbers::{may_use, up_to, wanted_last, was_reserved};
 use crate::{Reservation, highest, is_journal, receiving_name};
 use macsec_aes::Key;
 use macsec_secy::{
@@ -86,6 +87,8 @@ pub struct Keeper {
     names: Vec<NamedKey>,
     /// What is reserved for the key of the enabled association, so that a frame pays one comparison.
     at_hand: Option<AtHand>,
+    /// The names of the keys whose row a new key took. Only the installation of a key searches them.
+    given_up: Vec<[u8; 32]>,
 }
 
 impl Model for Keeper {
@@ -101,6 +104,7 @@ impl Model for Keeper {
       salt = k.salt;
       before = k.before.items;
       granted = k.granted.items;
+      given_up = k.given_up.items;
     } };
 
     // The endpoint's keys have these names, it is sound, and there is capacity for all keys that it can have.
@@ -157,6 +161,7 @@ impl Keeper {
             granted,
             names,
             at_hand: None,
+            given_up: Vec::new(alloc),
         })
     }
 
@@ -189,6 +194,7 @@ impl Keeper {
             granted,
             names,
             at_hand: None,
+            given_up: Vec::new(alloc),
         })
     }
 
@@ -210,6 +216,7 @@ impl Keeper {
             granted,
             names,
             at_hand: self.at_hand,
+            given_up: Vec::from_slice(alloc, self.given_up.as_slice())?,
         })
     }
 
@@ -415,6 +422,8 @@ impl Keeper {
 
     /// Carries out a management command, as `Secy::command`. If an association would begin at a packet number that an
     /// earlier run may have used, the command is refused with `PnFloor`, before any other refusal.
+    ///
+    /// Octets that are given up are not refused: once `renew_forgetting` has installed a key, install none by this call.
     pub fn command(&mut self, command: &Command) -> Result<(), Refusal>
         ensures output { endpoint_output (output_of_command result)
             ≡ (keeping_step self.old (endpoint_input (operator_command command.now))).0 }
@@ -440,7 +449,8 @@ impl Keeper {
     /// under a forgotten key can be refused with `KeyRetired` in place of `PnFloor`. `tx_floor` and `rx_floor` no
     /// longer find what an earlier run reserved under a forgotten key.
     ///
-    /// Do not pass what was opened under a key to `finish_receive` once the key is forgotten.
+    /// Do not pass what was opened under a key to `finish_receive` once the key is forgotten. As `command`, it does not
+    /// refuse octets that are given up.
     pub fn command_forgetting(&mut self, command: &Command) -> Result<(), Refusal>
         ensures output { endpoint_output (output_of_command result)
             ≡ (forgetting_step self.old (endpoint_input (operator_command command.now))).0 }
@@ -463,14 +473,9 @@ impl Keeper {
         }
     }
 
-    /// Installs a key, as `Secy::renew_key`: also under the number of a retired key that no association uses. What
-    /// earlier runs reserved stays known by the names of the keys, so a transmit association under the new key begins
-    /// above what was reserved under its octets. Nothing is reserved for the new key; what is reserved for every other
-    /// key stays.
-    ///
-    /// The name of the key that was there is given up, for which 40 octets are needed: `AllocError` means that there is
-    /// no memory for them, and changes nothing.
-    pub fn renew_key(&mut self, key: &NewKey) -> Result<Result<(), Refusal>, AllocError>
+    /// Installs a key, as `Secy::renew_key`: also under the number of a retired key that no association uses. The name
+    /// of the key that was there is given up. It does not ask whether the new key's octets are given up.
+    fn renew_key(&mut self, key: &NewKey) -> Result<Result<(), Refusal>, AllocError>
         ensures refusal { IfOk result (λ answer. refusal_of answer ≡ renewal_refusal self.old.secy key.now) }
         ensures after { IfOk result (λ answer. self.new ≡ keeping_after_renewing key.now self.old) }
         ensures unchanged { OnErr result (self.new ≡ self.old) }
@@ -478,20 +483,14 @@ impl Keeper {
     {
         // For the prover only: after this line it knows that the endpoint is sound. The compiler deletes the line.
         let _ = &self.keeps;
-        self.before.reserve(1)?;
+        self.given_up.reserve(1)?;
         match self.secy.renew_key(key) {
             Ok(()) => {
                 self.at_hand = None;
                 match named_key(self.names.as_slice(), key.number) {
                     Some(gone) => {
                         let name = name_of_key(&self.salt, key.bytes);
-                        let old = gone.name;
-                        self.before
-                            .push(Reservation {
-                                name: old,
-                                last: u64::MAX,
-                            })
-                            .unwrap();
+                        self.given_up.push(gone.name).unwrap();
                         let place = place_of(self.names.as_slice(), key.number);
                         rename(self.names.as_mut_slice(), key.number, &name);
                         restart(self.granted.as_mut_slice(), place, &name);
@@ -509,8 +508,13 @@ impl Keeper {
         }
     }
 
-    /// Installs a key, as `renew_key`. It also refuses octets that are given up, and, as `command_forgetting` does,
-    /// those of a forgotten key.
+    /// Installs a key, as `Secy::renew_key`: also under the number of a retired key that no association uses. It also
+    /// refuses octets that are given up, and, as `command_forgetting` does, those of a forgotten key. What earlier runs
+    /// reserved stays known by the names of the keys, so a transmit association under the new key begins above what was
+    /// reserved under its octets. Nothing is reserved for the new key; what is reserved for every other key stays.
+    ///
+    /// The name of the key that was there is given up, for which 32 octets are needed: `AllocError` means that there is
+    /// no memory for them, and changes nothing.
     pub fn renew_forgetting(&mut self, key: &NewKey) -> Result<Result<(), Refusal>, AllocError>
         ensures refusal { IfOk result (λ answer. refusal_of answer ≡ forgetting_refusal self.old key.now) }
         ensures after { IfOk result (λ answer. self.new ≡ forgetting_after_renewing self.old key.now) }
@@ -526,14 +530,15 @@ impl Keeper {
         self.renew_key(&key)
     }
 
-    /// Did a new key take the row of the key with these octets?
+    /// Did a new key take the row of the key with these octets? What the journal reserved under their name does not
+    /// matter.
     pub fn is_given_up(&self, bytes: Key) -> bool
         ensures { result ≡ is_given_up self.now (key_bytes bytes) }
     {
         let name = name_of_key(&self.salt, bytes);
         let of_fingerprint = name_of_key(&self.salt, fingerprint(&self.salt, bytes));
-        is_all(highest(self.before.as_slice(), &name))
-            || is_all(highest(self.before.as_slice(), &of_fingerprint))
+        let given_up = self.given_up.as_slice();
+        has_name(given_up, &name) || has_name(given_up, &of_fingerprint)
     }
 
     /// A key to install, with its fingerprint in place of its octets if it was forgotten.

@@ -141,13 +141,13 @@ pub fn refuses_forgotten_keys()
 
 /// When a new key takes the row of a retired one, the retired key's octets are given up: `Keeper::renew_forgetting`
 /// refuses them from then on, also if only their fingerprint was left, whatever the inputs and the renewals are. No
-/// floor falls: what an earlier run may have used stays refused.
+/// floor changes: what an earlier run may have used stays refused, and nothing else is.
 pub fn renewing_gives_up_octets()
     ensures gives_up { (k : Keeping) (key : NewKey) (bytes : List ℕ) → GivesUpOctets k key bytes }
     ensures stays { (k : Keeping) (key : NewKey) (bytes : List ℕ) → StaysGivenUp k key bytes }
     ensures forever { (k : Keeping) (input : KeepingInput) (bytes : List ℕ) → StaysGivenUpBy k input bytes }
     ensures refuses { (k : Keeping) (key : NewKey) → RefusesGivenUp k key }
-    ensures floors { (k : Keeping) (key : NewKey) (name : List ℕ) → KeepsFloors k key name }
+    ensures floors { (k : Keeping) (key : NewKey) → KeepsFloors k key }
 {}
 
 /// One run of an endpoint that renews keys, with a journal or without one: each key is installed by

@@ -6,13 +6,6 @@ ghost use Rattle.macsec_reserve.specs.Keeping.{wanted_last};
 
 use crate::{Reservation, highest};
 
-/// Is no packet number above this one?
-pub(crate) fn is_all(last: u64) -> bool
-    ensures { result ≡ nat_le (2 ^ 64 - 1) last }
-{
-    u64::MAX <= last
-}
-
 /// Was this packet number not used by an earlier run, and is it reserved?
 pub(crate) fn may_use(
     before: &[Reservation],

@@ -5,11 +5,11 @@ use Rattle.std.proofs.Common.{set}
 use Rattle.macsec_secy.specs.Renewing.{renewal_refusal, renewing}
 use Rattle.macsec_reserve.{
   proofs.{
-    Prelude.{[], ◌++◌, ◌-◌, ◌^◌, ◌∙◌, ◌∷◌, ◌≡◌, ap, arith, false, is_number_used, key_bytes, key_name, length},
+    Prelude.{[], ◌++◌, ◌∙◌, ◌∷◌, ◌≡◌, ap, arith, false, is_number_used, key_bytes, key_name, length},
     Prelude.{length-map, map, name_row, named, NamedKey, None, refl, renamed, Reservation, sending_name, Some, State, sym, true},
     Prelude.with_items_is,
     KeyEntries.names_fit,
-    RenewedNames.{before_if, entries_if, its_name, left_if_renewed, names_if_free, names_if_used, renewed_state, same_place},
+    RenewedNames.{entries_if, given_up_if, its_name, left_if_renewed, names_if_free, names_if_used, renewed_state, same_place},
     RenewedNames.used_by_name,
   },
   specs.{
@@ -75,14 +75,14 @@ returns-in-Some-clause-after c =
     ∙ ap (λ at. set k.granted at (record { name = c.name_of_key-name.result; last = 0 })) place
     ∙ ap (λ new. set k.granted (place_of k.secy.keys key.number) (record { name = new; last = 0 })) c.name_of_key-name.ensures
     ∙ entries_if k.salt key k.secy.keys k.granted true (is_used b) in
-    let before = pushed (record { name = c.in-Some.gone.name; last = 2 ^ 64 - 1 } ∷ []) refl c.unwrap.ensures c.push.ensures.items
-    ∙ ap (λ rs. rs ++ record { name = c.in-Some.gone.name; last = 2 ^ 64 - 1 } ∷ []) c.reserve.ensures.items
-    ∙ ap (λ old. k.before ++ record { name = old; last = 2 ^ 64 - 1 } ∷ []) name
-    ∙ before_if k.salt key k.secy.keys k.before true (is_used b) in
+    let names = pushed (c.in-Some.gone.name ∷ []) refl c.unwrap.ensures c.push.ensures.items
+    ∙ ap (λ all. all ++ c.in-Some.gone.name ∷ []) c.reserve.ensures.items
+    ∙ ap (λ old. k.given_up ++ old ∷ []) name
+    ∙ given_up_if k.salt key k.secy.keys k.given_up true (is_used b) in
     c.take_at_hand.ensures
-    ∙ ap (λ rs. record k { secy = c.renew_key.new.self; before = c.push.new.self.items; granted = rs }) entries
-    ∙ ap (λ (t : State). record k { secy = t; before = c.push.new.self.items; granted = entries_renewed k.salt key k.secy.keys k.granted }) (is_after b)
-    ∙ left_if_renewed k key c.push.new.self.items (entries_renewed k.salt key k.secy.keys k.granted) (refuses_none b) before refl
+    ∙ ap (λ rs. record k { secy = c.renew_key.new.self; granted = rs; given_up = c.push.new.self.items }) entries
+    ∙ ap (λ (t : State). record k { secy = t; granted = entries_renewed k.salt key k.secy.keys k.granted; given_up = c.push.new.self.items }) (is_after b)
+    ∙ left_if_renewed k key c.push.new.self.items (entries_renewed k.salt key k.secy.keys k.granted) (refuses_none b) names refl
     ∙ ap (keeping_after_renewing key) c.self.view_is
 
 -- ---- the key has a new number
@@ -125,7 +125,7 @@ returns-in-None-clause-after c =
     let key = c.args.key.now in
     let b = c.before.before.before in
     c.take_at_hand-in-None.ensures
-    ∙ ap (λ (t : State). record k { secy = t; before = c.reserve.new.self.items }) (free_after b)
+    ∙ ap (λ (t : State). record k { secy = t; given_up = c.reserve.new.self.items }) (free_after b)
     ∙ left_if_renewed k key c.reserve.new.self.items k.granted (c.in-Ok.ensures.refusal ∙ ap (λ (s : State). renewal_refusal s key) c.deref_mut.ensures.value)
-    (c.reserve.ensures.items ∙ before_if k.salt key k.secy.keys k.before false (is_free b)) (entries_if k.salt key k.secy.keys k.granted false (is_free b))
+    (c.reserve.ensures.items ∙ given_up_if k.salt key k.secy.keys k.given_up false (is_free b)) (entries_if k.salt key k.secy.keys k.granted false (is_free b))
     ∙ ap (keeping_after_renewing key) c.self.view_is
