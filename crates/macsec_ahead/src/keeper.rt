@@ -321,7 +321,8 @@ impl AheadKeeper {
     }
 
     /// Carries out a management command, as `Keeper::command`. A receive SA that this run deleted does not begin again
-    /// at or below its end: such a command is refused with `PnFloor`, before any other refusal.
+    /// at or below its end: such a command is refused with `PnFloor`, before any other refusal. Octets that are given
+    /// up are not refused: `command_renewing` refuses them.
     pub fn command(&mut self, command: &Command) -> Result<(), Refusal>
         ensures output { kept (endpoint_output (output_of_command result))
             ≡ (ahead_step self.old (endpoint_input (operator_command command.now))).0 }
@@ -352,7 +353,7 @@ impl AheadKeeper {
     }
 
     /// Carries out a management command, as `command`, and forgets a key that it retires, as
-    /// `Keeper::command_forgetting`.
+    /// `Keeper::command_forgetting`. Octets that are given up are not refused either.
     pub fn command_forgetting(&mut self, command: &Command) -> Result<(), Refusal>
         ensures output { kept (endpoint_output (output_of_command result))
             ≡ (command_forgetting self.old command.now).0 }
