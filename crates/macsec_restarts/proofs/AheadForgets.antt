@@ -4,7 +4,7 @@ use Rattle.macsec_restarts.{
   proofs.{
     AheadInside.{stays_by, takes_by},
     Names.{◌∙◌, ◌≡◌, Ahead, ahead_by, ahead_forgetting_step, Answer, before_stays, begins_again, Bool, endpoint_input},
-    Names.{false, forgetting, forgetting_step, if◌then◌else◌, Input, Keeping, keeping_step, KeepingInput, lets_through},
+    Names.{false, forgetting, forgetting_step, given_up_stays, if◌then◌else◌, Input, Keeping, keeping_step, KeepingInput, lets_through},
     Names.{None, now_durable, operator_command, Option, refl, retired_by, salt_stays, Some, standing, taken},
     Names.{then_forget, true, ℕ},
   },
@@ -57,6 +57,10 @@ forgets_field g same (Some n) answer = by_both _
 pub salt_kept : (k : Keeping) (input : KeepingInput) → (forgetting_step k input).1.salt ≡ k.salt
 salt_kept k input = forgets_field (λ x. x.salt) (λ x n. refl) (retired_by input)
     (keeping_step k (taken k input)) ∙ salt_stays k (taken k input)
+
+pub given_up_kept : (k : Keeping) (input : KeepingInput) → (forgetting_step k input).1.given_up ≡ k.given_up
+given_up_kept k input = forgets_field (λ x. x.given_up) (λ x n. refl) (retired_by input)
+    (keeping_step k (taken k input)) ∙ given_up_stays k (taken k input)
 
 pub before_kept : (k : Keeping) (input : KeepingInput) → (forgetting_step k input).1.before ≡ k.before
 before_kept k input = forgets_field (λ x. x.before) (λ x n. refl) (retired_by input)

@@ -75,7 +75,7 @@ pub use Rattle.macsec_reserve.proofs.{
   HighestOf.{highest-append, highest_of_one},
   Pairs.{no_pairs, one_alone, pairs-append, pairs-head, pairs-tail},
   Reduced.reduced_reserves,
-  Steps.{before_stays, by_tests, keeps_stays, received_step, salt_stays},
+  Steps.{before_stays, by_tests, given_up_stays, keeps_stays, received_step, salt_stays},
   Written.same_octets-refl,
 }
 pub use Rattle.macsec_reserve.specs.{

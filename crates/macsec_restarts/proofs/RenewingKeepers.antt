@@ -2,13 +2,13 @@
 use Rattle.macsec_aes.specs.Keys.{key_bytes}
 use Rattle.macsec_reserve.proofs.Steps.{granted_reported}
 use Rattle.macsec_reserve.specs.Forgetting.{as_taken}
-use Rattle.macsec_reserve.specs.Keeping.{key_name, nothing_yet}
+use Rattle.macsec_reserve.specs.Keeping.{nothing_yet}
 use Rattle.macsec_reserve.specs.Renewing.{forgetting_refusal, place_of, unless_refused}
 use Rattle.macsec_reserve.specs.RenewingRuns.{OctetsHaveOneKey, renewing_after, renewing_step, RepeatsNoIvRenewing}
 use Rattle.macsec_reserve.specs.RenewingRuns.{sealed_renewing, StaysSoundRenewing}
 use Rattle.macsec_restarts.proofs.AheadForgets.{before_kept, forgets_field, salt_kept}
 use Rattle.macsec_restarts.proofs.Forgetting.{numbers_tell, OtherSeal}
-use Rattle.macsec_restarts.proofs.Names.{[], ◌++◌, ◌<◌, ◌==◌, ◌^◌, ◌||◌, ◌∙◌, ◌∷◌, ◌≡◌, ◌≤◌, ◌⊎◌, All, All-append}
+use Rattle.macsec_restarts.proofs.Names.{[], ◌<◌, ◌==◌, ◌||◌, ◌∙◌, ◌∷◌, ◌≡◌, ◌≤◌, ◌⊎◌, All, All-append}
 use Rattle.macsec_restarts.proofs.Names.{All-head, All-map, All-nil, All-tail, All-weaker, AllPairs, ap, arith, Bool}
 use Rattle.macsec_restarts.proofs.Names.{client_frame, Contains, endpoint_input, EndpointLaws, eq-eqb, false}
 use Rattle.macsec_restarts.proofs.Names.{forgetting, forgetting_step, get_or, HasOtherIv, highest, highest-append}
@@ -34,7 +34,7 @@ use Rattle.macsec_suite.specs.KeyRows.{key_row}
 use Rattle.macsec_suite.specs.Refusals.{is_number_used}
 use Rattle.macsec_suite.specs.declared.key_row.NewKey.{NewKey}
 use Rattle.macsec_tx.specs.Commands.{tx_uses}
-use Rattle.std.proofs.Common.{◌-◌, drop, set}
+use Rattle.std.proofs.Common.{drop, set}
 
 -- the laws of one run
 pub record RenewingLaws : Type 0 where
@@ -61,16 +61,7 @@ goes_forgetting k input = record {
 
 goes_by : (r : Option Refusal) (key : NewKey) (k : Keeping) → Goes k (unless_refused r key k)
 goes_by (Some r) key k = record { keeps = refl; salt = refl; floors = λ name. omega arith }
-goes_by None key k =
-    record { keeps = refl; salt = refl; floors = λ name. by_use (is_number_used k.secy.keys key.number) name }
-  where
-    given_up : Reservation
-    given_up = record { name = key_name k.salt k.secy.keys key.number; last = 2 ^ 64 - 1 }
-
-    by_use : (b : Bool) (name : List ℕ) →
-        highest k.before name ≤ highest (if b then k.before ++ given_up ∷ [] else k.before) name
-    by_use true name = omega (arith, highest-append k.before (given_up ∷ []) name)
-    by_use false name = omega arith
+goes_by None key k = record { keeps = refl; salt = refl; floors = λ name. omega arith }
 
 pub goes : (k : Keeping) (input : KeepingInput) → Goes k (renewing_step k input).1
 goes k (endpoint_input (operator_command (Key key))) = goes_by (forgetting_refusal k key) (as_taken k key) k

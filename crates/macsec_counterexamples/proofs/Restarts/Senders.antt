@@ -109,7 +109,8 @@ facts it = record { begins = refl; carried = refl; fit = refl; uses = refl; send
 -- ---- its steps, with any journal that has not reserved the packet number
 
 abbrev pub kept : List ℕ → List Reservation → List Reservation → State → Keeping
-kept salt before granted s = record { secy = s; keeps = true; salt = salt; before = before; granted = granted }
+kept salt before granted s =
+    record { secy = s; keeps = true; salt = salt; before = before; granted = granted; given_up = [] }
 
 pub goes : (salt : List ℕ) (before : List Reservation) (w : Sender) →
     highest before (sending_name salt bytes) < number_of w →

@@ -11,10 +11,10 @@ use Rattle.macsec_restarts.proofs.Examples.Histories.{meets_of_b, MeetsAll, neve
 use Rattle.macsec_restarts.proofs.Examples.Histories.{without_option}
 use Rattle.macsec_restarts.proofs.Examples.NotSent.{names_differ, not_of_none}
 use Rattle.macsec_restarts.proofs.Examples.Tags.{small_at, tag_is}
-use Rattle.macsec_restarts.proofs.Examples.Told.{begun, gives_by, good, heard_by, is_strict, IsGood, IsLow, key_of}
+use Rattle.macsec_restarts.proofs.Examples.Told.{begun, gives_by, good, heard_by, is_strict, IsGood, key_of}
 use Rattle.macsec_restarts.proofs.Examples.Told.{Kind, link_gives, link_goes, link_step_by, on, set_up_told, SetsUp}
 use Rattle.macsec_restarts.proofs.Examples.Told.{Told, told_end, told_gives, told_next}
-use Rattle.macsec_restarts.proofs.Examples.TwoRunsEach.{is_free, low_none, low_one, none_is, reads, reserved_2}
+use Rattle.macsec_restarts.proofs.Examples.TwoRunsEach.{is_free, none_is, reads, reserved_2}
 use Rattle.macsec_restarts.proofs.Examples.TwoRunsEach.{reserved_is, t}
 use Rattle.macsec_restarts.proofs.Examples.Without.{HasOneSalt, HasOneSuite, HasStrictOrderBut, KeepsDeliveredBut}
 use Rattle.macsec_restarts.proofs.Examples.Without.{KeepsSalt, KeepsSentBut, KeepsSsci, KeepsSuite, LawWithout}
@@ -190,7 +190,7 @@ module _ (sci : Sci) where
     sender_told : {left_out : Premise} {uses : Uses} (s : Salt) → Told (kind_of (of_salt s) 1) left_out uses
         (begun k_begun) (sends s) (sent_1 s ∷ []) [] (on (k_sent s))
     sender_told s = set_up_told (config_of sci) (new_key (of_salt s) 1) tx_sa (salt false) (reads []) (tx_sets_up s)
-        first_sound low_none (tx_new s) (told_next (on_good s) refl refl (ap on (reserves s))
+        first_sound (tx_new s) (told_next (on_good s) refl refl (ap on (reserves s))
         (told_next (on_good s) (lists s) refl (ap on (frame_step (k_reserved s) (client 1) (goes s)))
         (told_end (on (k_sent s)) (last_good s))))
 
@@ -370,17 +370,17 @@ module _ (before : List Reservation) (free : highest (reads before) (name_of (sa
       }) (link_goes (at (ready r)) (f r) (link_step_by (at (ready r)) (f r) (accepts r) (whole r) (judged r))) rest
 
   pub commands_first : {left_out : Premise} {uses : Uses} (r : Receiver) {inputs : Inputs} {ds : List Delivery}
-      {last : Ahead} → IsLow (reads before) → Told (rx_kind r) left_out uses (on (at (ready r))) inputs [] ds last →
+      {last : Ahead} → Told (rx_kind r) left_out uses (on (at (ready r))) inputs [] ds last →
       Told (rx_kind r) left_out uses (begun (at (start (config_of sci_b)))) (commands r ++ inputs) [] ds last
-  commands_first r low rest =
+  commands_first r rest =
       set_up_told (config_of sci_b) (new_key (salt_of_key r) (own_ssci r)) (rx_sa r) (salt false) (reads before)
-      (sets_up r) rx_start low (are_new r) rest
+      (sets_up r) rx_start (are_new r) rest
 
-  receiver_told : {left_out : Premise} {uses : Uses} (r : Receiver) → IsLow (reads before) →
+  receiver_told : {left_out : Premise} {uses : Uses} (r : Receiver) →
       Contains uses (use_of (sender_salt r)) →
       Told (rx_kind r) left_out uses (begun (at (start (config_of sci_b)))) (commands r ++ link r ∷ []) []
       (delivery r ∷ []) (on (at (heard r)))
-  receiver_told r low there = commands_first r low (frame_told r there (told_end (on (at (heard r))) (heard_good r)))
+  receiver_told r there = commands_first r (frame_told r there (told_end (on (at (heard r))) (heard_good r)))
 
 -- ---- B has another own SSCI or another salt in its second run, and delivers what it sent in the first one
 
@@ -407,7 +407,7 @@ does_s left_out = facts_of refl (sender_told sci_b refl Zeros)
 does_r : (left_out : Premise) (r : Receiver) (uses : Uses) → Contains uses (use_of (sender_salt r)) →
     Facts (rx_kind r) sci_b left_out uses (without_option (run_r r)) [] (delivery r ∷ [])
 does_r left_out r uses there = facts_of refl
-    (receiver_told (reserved_2 ∷ []) free_r r (low_one reserved_2 reserved_is (omega arith)) there)
+    (receiver_told (reserved_2 ∷ []) free_r r there)
 
 abbrev reflected : Receiver → List EndRun
 reflected r = (B, first_run) ∷ (B, run_r r) ∷ []
@@ -481,7 +481,7 @@ module _ (left_out : Premise) (r : Receiver) where
 
   does_b : Facts (rx_kind r) sci_b left_out (sealed_in never ((A, run_a r) ∷ [])) (without_option (run_b r)) []
       (delivery r ∷ [])
-  does_b = facts_of refl (receiver_told [] free_b r low_none sealed_a)
+  does_b = facts_of refl (receiver_told [] free_b r sealed_a)
 
   shifts : KindsAgree HasOneSuite HasOneSalt left_out (tx_kind r) (rx_kind r) →
       (StaysSoundAlways ≢ left_out → (length (tx_kind r).salt ≡ 12) × (length (rx_kind r).salt ≡ 12)) →

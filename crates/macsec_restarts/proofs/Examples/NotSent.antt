@@ -9,7 +9,7 @@ use Rattle.macsec_restarts.proofs.Examples.Histories.{pair, short_agree, two_run
 use Rattle.macsec_restarts.proofs.Examples.Tags.{octets_1}
 use Rattle.macsec_restarts.proofs.Examples.Told.{begun, heard_by, on, set_up_told, SetsUp, short, Told, told_end}
 use Rattle.macsec_restarts.proofs.Examples.Told.{told_link}
-use Rattle.macsec_restarts.proofs.Examples.TwoRunsEach.{f1, facts_a, is_free, low_none, low_one, none_is, opens_1}
+use Rattle.macsec_restarts.proofs.Examples.TwoRunsEach.{f1, facts_a, is_free, none_is, opens_1}
 use Rattle.macsec_restarts.proofs.Examples.TwoRunsEach.{reads, reserved_2, reserved_is, run_a, t, told_1, use_1}
 use Rattle.macsec_restarts.proofs.Examples.Without.{IsNotForged, IsStrict, KeepsDeliveredBut, KeepsSci, KeepsSentBut}
 use Rattle.macsec_restarts.proofs.Examples.Without.{LawWithout, Premise}
@@ -58,7 +58,7 @@ plain = run_with (receiver.link 1 t ∷ [])
 
 pub plain_does : (left_out : Premise) (uses : Uses) → (IsNotForged ≢ left_out → Contains uses use_1) →
     Facts (short 2) sci_b left_out uses (without_option plain) [] (receiver.delivery 1 ∷ [])
-plain_does left_out uses there = facts_of refl (receiver.told (salt false) (reads []) false low_none free_b
+plain_does left_out uses there = facts_of refl (receiver.told (salt false) (reads []) false free_b
     (told_1 (reads []) there (told_end _ (receiver.heard_1_good t opens_1))))
 
 -- a frame that nobody sealed is delivered
@@ -94,7 +94,7 @@ disabled_sound = commands_sound (Key receiver.key ∷ lax_sa) refl refl receiver
 
 lax_told : (uses : Uses) → Told (short 2) IsStrict uses (begun (receiver.at (salt false) (reads []) (start gcm_b)))
     lax.inputs [] (receiver.delivery 1 ∷ []) (on (receiver.at (salt false) (reads []) passed))
-lax_told uses = set_up_told gcm_b receiver.key lax_sa (salt false) (reads []) lax_sets_up receiver.start_sound low_none
+lax_told uses = set_up_told gcm_b receiver.key lax_sa (salt false) (reads []) lax_sets_up receiver.start_sound
     (refl, (refl, (is_new (reads []) (name_of (salt false)) 1 free_b, (refl, (refl, tt)))))
     (told_link unchecked refl judged (receiver.is_good refl disabled_sound)
     (record { mode = λ n. absurd (n refl); replay = λ n. refl; window = λ n. refl }) octets_1
@@ -152,7 +152,7 @@ free_later = is_free (reserved_2 ∷ []) (name_of (salt false)) 1 reserved_is
 later_does : (uses : Uses) → Contains uses use_1 →
     Facts (short 2) sci_b KeepsSci uses (without_option later) [] (receiver.delivery 1 ∷ [])
 later_does uses there = facts_of refl (receiver.told (salt false) (reads (reserved_2 ∷ [])) false
-    (low_one reserved_2 reserved_is (omega arith)) free_later
+    free_later
     (told_1 (reads (reserved_2 ∷ [])) (λ d. there) (told_end _ (receiver.heard_1_good t opens_1))))
 
 -- B delivers what it sent itself

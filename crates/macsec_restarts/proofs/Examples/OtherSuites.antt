@@ -9,10 +9,10 @@ use Rattle.macsec_restarts.proofs.Examples.Histories.{keeps_delivered, Meets, me
 use Rattle.macsec_restarts.proofs.Examples.Histories.{pair, two_runs_of_b, without_option}
 use Rattle.macsec_restarts.proofs.Examples.NotSent.{not_of_none}
 use Rattle.macsec_restarts.proofs.Examples.Tags.{octets_1, small_at, tag_is}
-use Rattle.macsec_restarts.proofs.Examples.Told.{begun, gives_by, good, heard_by, is_strict, IsGood, IsLow, key_of}
+use Rattle.macsec_restarts.proofs.Examples.Told.{begun, gives_by, good, heard_by, is_strict, IsGood, key_of}
 use Rattle.macsec_restarts.proofs.Examples.Told.{Kind, link_gives, link_goes, link_step_by, on, set_up_told, SetsUp}
 use Rattle.macsec_restarts.proofs.Examples.Told.{short, Told, told_end, told_gives, told_next}
-use Rattle.macsec_restarts.proofs.Examples.TwoRunsEach.{at_most, facts_a, is_free, low_none, low_one, none_is, opens_1}
+use Rattle.macsec_restarts.proofs.Examples.TwoRunsEach.{at_most, facts_a, is_free, none_is, opens_1}
 use Rattle.macsec_restarts.proofs.Examples.TwoRunsEach.{reads, reserved_2, reserved_is, run_a, t, use_1}
 use Rattle.macsec_restarts.proofs.Examples.Without.{HasOneSuite, HasStrictOrderBut, KeepsDeliveredBut, KeepsSentBut}
 use Rattle.macsec_restarts.proofs.Examples.Without.{KeepsSuite, LawWithout, Premise}
@@ -143,7 +143,7 @@ own_lists = rw (own_goes, own_seals)
 
 own_does : Facts (short 2) sci_b KeepsSuite [] (without_option first_run) (sent_own ∷ []) []
 own_does = facts_of refl (set_up_told config_own receiver.key own_sa (salt false) (reads []) own_sets_up own_start_sound
-    low_none (refl, (is_new (reads []) extended.tx_name 1 extended.name_free, (refl, tt)))
+    (refl, (is_new (reads []) extended.tx_name 1 extended.name_free, (refl, tt)))
     (told_next (receiver_good 1 refl own_on_sound) refl refl (ap on own_reserves)
     (told_next (receiver_good 1 refl own_on_sound) own_lists refl (ap on (frame_step own_reserved (client 1) own_goes))
     (told_end (on own_last) (receiver_good 2 refl (sent_sound (client 1) refl refl own_on_sound))))))
@@ -300,10 +300,6 @@ free B =
 are_new : (e : End) → AreNew (at e (start xpn_b)) (Key (key e) ∷ sa)
 are_new e = (refl, (refl, (is_new (reads (before e)) (name_of (salt false)) lowest (free e), (refl, tt))))
 
-low : (e : End) → IsLow (reads (before e))
-low A = low_none
-low B = low_one reserved_2 reserved_is (omega arith)
-
 -- its frame is among these uses of the cipher
 genuine : (e : End) (uses : Uses) → Contains uses (sent_use e) → IfSome (use_opened (ready e) (f e)) (Contains uses)
 genuine A uses there = genuine_at (ready A) (f A) accepts uses (judged A) (rw (iv_is A) there)
@@ -313,7 +309,7 @@ told_b : {left_out : Premise} {uses : Uses} (e : End) → Contains uses (sent_us
     Told (kind_b e) left_out uses (begun (at e (start xpn_b))) (commands e ++ link e ∷ []) [] (delivery ∷ [])
     (on (at e (heard e)))
 told_b {uses} e there =
-    set_up_told xpn_b (key e) sa (salt false) (reads (before e)) (works e).sets_up start_sound (low e) (are_new e)
+    set_up_told xpn_b (key e) sa (salt false) (reads (before e)) (works e).sets_up start_sound (are_new e)
     (told_gives {now = []} (ready_good e) refl (link_gives (at e (ready e)) (f e)
     (gives_by (at e (ready e)) (f e) accepts (works e).whole (judged e) ∙ (works e).delivers)) (λ some. record {
       order = (works e).strict;

@@ -1,7 +1,7 @@
 -- The runs of an end that receives: the commands, and the states that frames leave. The cipher is not computed: all
 -- that is known of a frame's ICV is that it is valid.
 use Rattle.macsec_counterexamples.proofs.Link.Exchange.{link_frame_of}
-use Rattle.macsec_restarts.proofs.Examples.Told.{begun_as, good, heard_by, IsGood, IsLow, on_as, set_up_told, SetsUp}
+use Rattle.macsec_restarts.proofs.Examples.Told.{begun_as, good, heard_by, IsGood, on_as, set_up_told, SetsUp}
 use Rattle.macsec_restarts.proofs.Examples.Told.{short, Told}
 use Rattle.macsec_restarts.proofs.Examples.Without.{Premise}
 use Rattle.macsec_restarts.proofs.Names.{[], ◌++◌, ◌<◌, ◌∷◌, ◌≡◌, after_commands, Ahead, at_row, begins_sound, Bool}
@@ -126,8 +126,8 @@ module _ (salt : List ℕ) (before : List Reservation) where
 
   -- the commands, and what follows them
   pub told : {left_out : Premise} {uses : Uses} {ahead : Bool} (again : Bool) {inputs : Inputs} {ds : List Delivery}
-      {last : Ahead} → IsLow before → highest before (name_of salt) < lowest_of again →
+      {last : Ahead} → highest before (name_of salt) < lowest_of again →
       Told (short 2) left_out uses (on_as ahead (at (ready again))) inputs [] ds last →
       Told (short 2) left_out uses (begun_as ahead (at (start gcm_b))) (commands again ++ inputs) [] ds last
-  told again low free rest = set_up_told gcm_b key (sa again) salt before (sets_up again) start_sound low
+  told again free rest = set_up_told gcm_b key (sa again) salt before (sets_up again) start_sound
       (refl, (refl, (is_new before (name_of salt) (lowest_of again) free, (refl, tt)))) rest

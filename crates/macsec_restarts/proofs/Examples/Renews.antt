@@ -13,9 +13,9 @@ use Rattle.macsec_restarts.proofs.Examples.Extended.{on_sound, options, report_i
 use Rattle.macsec_restarts.proofs.Examples.Extended.{tx_new, use_of, Zeros}
 use Rattle.macsec_restarts.proofs.Examples.Tags.{small_at, tag_is}
 use Rattle.macsec_restarts.proofs.Examples.Told.{begun, commands_told, good_with, heard_by, is_strict, IsGood, IsKeyOf}
-use Rattle.macsec_restarts.proofs.Examples.Told.{key_goes, Kind, not_given_up, on, on_with, set_up_told, SetsUp, Told}
+use Rattle.macsec_restarts.proofs.Examples.Told.{key_goes, Kind, on, on_with, set_up_told, SetsUp, Told}
 use Rattle.macsec_restarts.proofs.Examples.Told.{told_end, told_link, told_next}
-use Rattle.macsec_restarts.proofs.Examples.TwoRunsEach.{is_free, low_none, none_is, reads}
+use Rattle.macsec_restarts.proofs.Examples.TwoRunsEach.{is_free, none_is, reads}
 use Rattle.macsec_restarts.proofs.Examples.Without.{Premise}
 use Rattle.macsec_restarts.proofs.Names.{[], ◌*◌, ◌++◌, ◌<◌, ◌^◌, ◌∷◌, ◌≡◌, ◌≤◌, add_round_key, added_word, aes}
 use Rattle.macsec_restarts.proofs.Names.{affine_transformation, after_commands, after_rounds, Ahead, All-append}
@@ -24,7 +24,7 @@ use Rattle.macsec_restarts.proofs.Names.{can_replace, carried_step, cipher_use, 
 use Rattle.macsec_restarts.proofs.Names.{Command, command, commands_sound, compress, Contains, Delivery, digest_bytes}
 use Rattle.macsec_restarts.proofs.Names.{effect, ended_after, endpoint_input, Ends, false, fingerprint, first_words}
 use Rattle.macsec_restarts.proofs.Names.{forgetting, forgetting_step, frame_step, genuine_at, hash_after, highest}
-use Rattle.macsec_restarts.proofs.Names.{highest-append, highest_of_one, IfSome, Inputs, InstalledKey, inverse, is_new}
+use Rattle.macsec_restarts.proofs.Names.{IfSome, Inputs, InstalledKey, inverse, is_new}
 use Rattle.macsec_restarts.proofs.Names.{is_within, IsSound, items, iv_of, judgement_of, Keeping, keeping_step}
 use Rattle.macsec_restarts.proofs.Names.{KeepingInput, kept, Key, key_expansion, key_words, keys_replacing, length}
 use Rattle.macsec_restarts.proofs.Names.{link_frame, List, map, max_frame_len, may_go, may_send, mix_columns, new_key}
@@ -32,7 +32,7 @@ use Rattle.macsec_restarts.proofs.Names.{newly_sent, no_ends, no_salt, no_tx_cou
 use Rattle.macsec_restarts.proofs.Names.{opens, operator_command, parts_with, polynomial_product, pre_counter_block}
 use Rattle.macsec_restarts.proofs.Names.{raised_alone, ready_by_keys, receiving_name, refl, remainder, replacing}
 use Rattle.macsec_restarts.proofs.Names.{replicate, Reservation, Retire, rot_word, round_key, rounds, row_at, RxDel}
-use Rattle.macsec_restarts.proofs.Names.{RxOn, RxSa, s_box, salt, same_octets, schedule, sci_a, sci_b, sealed}
+use Rattle.macsec_restarts.proofs.Names.{RxOn, RxSa, s_box, salt, schedule, sci_a, sci_b, sealed}
 use Rattle.macsec_restarts.proofs.Names.{sending_name, sent_sound, SentIn, sha256, shift_rows, small, Some, start}
 use Rattle.macsec_restarts.proofs.Names.{State, state_after_receiving, sub_bytes, sub_word, sum_below, sum_of_words}
 use Rattle.macsec_restarts.proofs.Names.{sum_with_stream, sym, tag_of, tag_sent, true, tx_from, TxOn, TxRow, TxSa}
@@ -43,7 +43,7 @@ use Rattle.macsec_secy.specs.Renewing.{renewal_refusal}
 use Rattle.macsec_suite.specs.KeyRows.{IsKeyRow}
 use Rattle.macsec_suite.specs.Suites.{key_length}
 use Rattle.macsec_suite.specs.declared.key_row.NewKey.{NewKey}
-use Rattle.std.proofs.Common.{◌-◌, Ok}
+use Rattle.std.proofs.Common.{Ok}
 
 is_row : {row : InstalledKey} → row.number < 4096 → length row.bytes ≡ key_length row.suite →
     length row.salt ≡ 12 → row.ssci < 2 ^ 32 → 1 ≤ row.first_unused → row.first_unused ≤ 2 ^ 64 → IsKeyRow row
@@ -119,36 +119,21 @@ abbrev pub name_2 : List ℕ
 name_2 = sending_name (salt false) octets_2
 
 -- the name that is given up
-abbrev pub gone : Reservation
-gone = record { name = sending_name (salt false) print; last = 2 ^ 64 - 1 }
-
-abbrev pub before_2 : List Reservation
-before_2 = reads [] ++ gone ∷ []
+abbrev pub gone : List ℕ
+gone = sending_name (salt false) print
 
 abbrev pub entry_2 : ℕ → Reservation
 entry_2 last = record { name = name_2; last = last }
 
 -- the endpoint under the second key
 abbrev pub k_2 : ℕ → State → Keeping
-k_2 reserved s = kept (salt false) before_2 (entry_2 reserved ∷ []) s
+k_2 reserved s = record (kept (salt false) (reads []) (entry_2 reserved ∷ []) s) { given_up = gone ∷ [] }
 
-low : (name : List ℕ) → highest (reads []) name < 1
-low name = is_free [] name 1 none_is (omega arith)
+free : (name : List ℕ) → highest (reads []) name < 1
+free name = is_free [] name 1 none_is (omega arith)
 
 abbrev name_r : List ℕ
 name_r = receiving_name name_2 sci_a 0
-
-not_gone : same_octets gone.name name_2 ≡ false
-unfolding first_words schedule rounds compress hash_after digest_bytes sha256
-not_gone = refl
-
-not_gone_r : same_octets gone.name name_r ≡ false
-unfolding first_words schedule rounds compress hash_after digest_bytes sha256
-not_gone_r = refl
-
-free_2 : (name : List ℕ) → same_octets gone.name name ≡ false → highest before_2 name < 1
-free_2 name other = omega
-    (arith, highest-append (reads []) (gone ∷ []) name, low name, highest_of_one gone name false other)
 
 -- ---- the frame under the second key
 
@@ -274,15 +259,14 @@ retires_a = rw (can 1 2)
 
 renews_a : (ahead_renewing_step (on k_forgot_a) (command (Key (second 1)))).1 ≡ on (k_2 0 renewed_a)
 renews_a =
-    key_goes true false k_forgot_a (second 1)
-    (not_given_up (salt false) (reads []) k_forgot_a.granted forgotten_a octets_2 low_none) taken_a fits_a
+    key_goes true false k_forgot_a (second 1) refl taken_a fits_a
 
 reserves_2 : (ahead_renewing_step (on (k_2 0 on_a)) report_2).1 ≡ on (k_2 2 on_a)
 reserves_2 = rw (raised_alone name_2 2)
 
 goes_2 : may_go (k_2 2 on_a) (client_frame (client 1)) ≡ true
 goes_2 = may_send (k_2 2 on_a) (client 1) 1 refl
-    (is_within before_2 name_2 1 2 (free_2 name_2 not_gone) (omega arith))
+    (is_within (reads []) name_2 1 2 (free name_2) (omega arith))
 
 sends_2 : (ahead_renewing_step (on (k_2 2 on_a)) frame_in).1 ≡ on (k_2 2 last_state_a)
 sends_2 = rw (frame_step (k_2 2 on_a) (client 1) goes_2)
@@ -306,12 +290,12 @@ a_does =
     let on_1 = good_one (first_of_a 1) refl (is_key refl refl refl) (on_sound sci_a refl) in
     let on_2 = good_one (second_at 1 1) refl is_2 on_a_sound in
     set_up_told (config_of sci_a) (new_key no_salt 1) sa_a (salt false) (reads []) sets_up_a (first_sound sci_a refl)
-    low_none (tx_new sci_a Zeros)
+    (tx_new sci_a Zeros)
     (told_next on_1 refl refl reserves_a (told_next on_1 (lists sci_a Zeros) refl sends_a
     (told_next (good_one (first_of_a 2) refl (is_key refl refl refl) (last_sound_a sci_a refl)) refl refl deletes_a
     (told_next (good_one (first_of_a 2) refl (is_key refl refl refl) deleted_a_sound) refl refl retires_a
     (told_next (good_one (record (was 1 2) { bytes = print }) refl (is_key refl refl refl) forgotten_a_sound) refl
-    refl renews_a (commands_told sa_a (is_new before_2 name_2 1 (free_2 name_2 not_gone), (refl, tt)) refl
+    refl renews_a (commands_told sa_a (is_new (reads []) name_2 1 (free name_2), (refl, tt)) refl
     (λ long. refl) refl (good_one (second_at 1 1) refl is_2 renewed_a_sound) (told_next on_2 refl refl reserves_2
     (told_next on_2 lists_2 refl sends_2
     (told_end last_a (good_one (second_at 1 2) refl (is_key refl refl refl) last_a_sound))))))))))
@@ -413,8 +397,7 @@ retires_b = rw (can 2 1)
 
 renews_b : (ahead_renewing_step (on k_forgot_b) (command (Key (second 2)))).1 ≡ on (k_2 0 renewed_b)
 renews_b =
-    key_goes true false k_forgot_b (second 2)
-    (not_given_up (salt false) (reads []) k_forgot_b.granted forgotten_b octets_2 low_none) taken_b fits_b
+    key_goes true false k_forgot_b (second 2) refl taken_b fits_b
 
 pub genuine_2 : (uses : Uses) → Contains uses use_2 → IfSome (use_opened ready_2 f_2) (Contains uses)
 genuine_2 uses there = genuine_at ready_2 f_2 (accepts Same) uses judged_2 (rw (iv_is Same) there)
@@ -427,7 +410,7 @@ b_first : {left_out : Premise} {uses : Uses} {inputs : Inputs} {ds : List Delive
     Contains uses (use_of Zeros) → Told (own_kind 2) left_out uses (on (b_at (heard Same))) inputs [] ds last →
     Told (own_kind 2) left_out uses (begun (b_at start_b)) (commands Same ++ (link Same ∷ inputs)) []
     (delivery Same ∷ ds) last
-b_first there rest = commands_first [] free_b Same low_none (frame_told [] free_b Same there rest)
+b_first there rest = commands_first [] free_b Same (frame_told [] free_b Same there rest)
 
 pub b_does : {left_out : Premise} {uses : Uses} → Contains uses (use_of Zeros) → Contains uses use_2 →
     Told (own_kind 2) left_out uses (begun (b_at start_b)) (commands Same ++ (link Same ∷ (then_b ++ link_2 ∷ []))) []
@@ -438,7 +421,7 @@ b_does {uses} there there_2 =
     b_first there (told_next (heard_good [] free_b Same) refl refl deletes_b
     (told_next (good_one (rx_key Same) refl first deleted_b_sound) refl refl retires_b
     (told_next (good_one (record (was 2 1) { bytes = print }) refl (is_key refl refl refl) forgotten_b_sound) refl refl
-    renews_b (commands_told sa_b (is_new before_2 name_r 1 (free_2 name_r not_gone_r), (refl, tt)) refl (λ long. refl)
+    renews_b (commands_told sa_b (is_new (reads []) name_r 1 (free name_r), (refl, tt)) refl (λ long. refl)
     refl (good_one (second_at 2 1) refl is_2 renewed_b_sound) (told_link (accepts Same) refl judged_2
     (good_one (second_at 2 1) refl is_2 ready_2_sound) (is_strict refl refl refl) octets_of_2
     (λ d. genuine_2 uses there_2) (told_end last_b (good_one (second_at 2 1) refl is_2 heard_2_sound)))))))

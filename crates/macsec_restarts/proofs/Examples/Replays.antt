@@ -9,7 +9,7 @@ use Rattle.macsec_restarts.proofs.Examples.NotSent.{plain, plain_does}
 use Rattle.macsec_restarts.proofs.Examples.Tags.{octets_1}
 use Rattle.macsec_restarts.proofs.Examples.Told.{gives_by, heard_by, link_gives, link_goes, link_step_by, set_up_told}
 use Rattle.macsec_restarts.proofs.Examples.Told.{SetsUp, short, told_end, told_gives}
-use Rattle.macsec_restarts.proofs.Examples.TwoRunsEach.{f1, facts_a, is_free, low_none, none_is, opens_1, reads, run_a}
+use Rattle.macsec_restarts.proofs.Examples.TwoRunsEach.{f1, facts_a, is_free, none_is, opens_1, reads, run_a}
 use Rattle.macsec_restarts.proofs.Examples.TwoRunsEach.{t, use_1}
 use Rattle.macsec_restarts.proofs.Examples.Without.{DropsLate, HasOption, HasStrictOrderBut, HasWindowOf0}
 use Rattle.macsec_restarts.proofs.Examples.Without.{KeepsDeliveredBut, KeepsSentBut, LawWithout, Premise}
@@ -198,7 +198,7 @@ does k uses there =
     let first = commands_sound (Key receiver.key ∷ sa k) w.sets_up.none (w.sets_up.fit refl) receiver.start_sound in
     let second = heard_by f1 refl (first_judged k) w.once_fit first in
     let third = heard_by f1 refl (second_judged k) w.again_fit second in
-    facts_of refl (set_up_told gcm_b receiver.key (sa k) (salt false) (reads []) w.sets_up receiver.start_sound low_none
+    facts_of refl (set_up_told gcm_b receiver.key (sa k) (salt false) (reads []) w.sets_up receiver.start_sound
     w.new (told_gives {now = []} (receiver.is_good w.keys first) refl
     (link_gives (at_b (set k)) f1 (gives_by (at_b (set k)) f1 _ refl (first_judged k) ∙ w.delivers))
     (λ some. record { order = w.order; octets = octets_1; genuine = λ d. w.genuine uses there })

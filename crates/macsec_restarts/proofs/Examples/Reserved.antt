@@ -8,13 +8,13 @@ use Rattle.macsec_restarts.proofs.Examples.Histories.{of_run, one, pair, refuted
 use Rattle.macsec_restarts.proofs.Examples.NotSent.{plain, plain_does}
 use Rattle.macsec_restarts.proofs.Examples.Replays.{not_twice, twice_1}
 use Rattle.macsec_restarts.proofs.Examples.Tags.{octets_1}
-use Rattle.macsec_restarts.proofs.Examples.Told.{gives_by, goes_on, is_strict, IsLow, link_step_by, on_as, short}
+use Rattle.macsec_restarts.proofs.Examples.Told.{gives_by, goes_on, is_strict, link_step_by, on_as, short}
 use Rattle.macsec_restarts.proofs.Examples.Told.{told_end, told_gives, told_link, told_next}
-use Rattle.macsec_restarts.proofs.Examples.TwoRunsEach.{at_most, f1, facts_a, is_free, low_none, none_is, opens_1}
+use Rattle.macsec_restarts.proofs.Examples.TwoRunsEach.{f1, facts_a, is_free, none_is, opens_1}
 use Rattle.macsec_restarts.proofs.Examples.TwoRunsEach.{reads, run_a, saved_1, saved_is, t, use_1}
 use Rattle.macsec_restarts.proofs.Examples.Without.{Premise, ReadLawWithout, ReadsBut, ReadsDeliveredBut, ReadsReported}
 use Rattle.macsec_restarts.proofs.Examples.Without.{ReadsSalt, ReadsSentBut}
-use Rattle.macsec_restarts.proofs.Names.{[], ◌++◌, ◌<◌, ◌==◌, ◌^◌, ◌∷◌, ◌≡◌, A, Ahead, arith, B, Bool, bytes, compress}
+use Rattle.macsec_restarts.proofs.Names.{[], ◌++◌, ◌<◌, ◌==◌, ◌∷◌, ◌≡◌, A, Ahead, arith, B, Bool, bytes, compress}
 use Rattle.macsec_restarts.proofs.Names.{Contains, digest_bytes, End, false, first_words, gcm_b, genuine_at, hash_after}
 use Rattle.macsec_restarts.proofs.Names.{highest, highest_of_one, inr, journal, Keeping, keeping_step, kept, key_row}
 use Rattle.macsec_restarts.proofs.Names.{lets_through, link_frame, List, lt-leb, map, name_of, nat_le}
@@ -23,7 +23,6 @@ use Rattle.macsec_restarts.proofs.Names.{raised_by, reduced, reduced_reserves, r
 use Rattle.macsec_restarts.proofs.Names.{Run, RunWith, rx_from, salt, same_octets, same_octets-refl, says, schedule}
 use Rattle.macsec_restarts.proofs.Names.{sci_a, sci_b, sha256, Some, standing_by, State, true, Uses, ℕ}
 use Rattle.macsec_restarts.specs.RenewingRuns.{ahead_renewing_step}
-use Rattle.std.proofs.Common.{◌-◌}
 use Rattle.macsec_restarts.proofs.Examples.Receivers as receiver
 use Rattle.macsec_restarts.proofs.Examples.Senders as sender
 
@@ -85,7 +84,7 @@ gives =
 
 first_does : (left_out : Premise) (uses : Uses) → Contains uses use_1 →
     Facts (short 2) sci_b left_out uses (with_option first_run) [] (receiver.delivery 1 ∷ [])
-first_does left_out uses there = facts_of refl (receiver.told (salt false) (reads []) false low_none free_b
+first_does left_out uses there = facts_of refl (receiver.told (salt false) (reads []) false free_b
     (told_next (receiver.ready_good false) refl refl reports (told_gives {now = []} (receiver.ready_good false) refl
     gives (λ some. record {
       order = is_strict refl refl refl;
@@ -155,11 +154,6 @@ names_apart : same_octets name (name_of (salt true)) ≡ false
 unfolding first_words schedule rounds compress hash_after digest_bytes sha256
 names_apart = refl
 
-other_low : IsLow reads_other
-other_low n =
-    let least = at_most name n 1 (2 ^ 64 - 1) (omega arith) in
-    omega (arith, other_is n, least)
-
 abbrev salted_run : Run
 salted_run = record {
   journal = journal true (saved_1 ∷ []);
@@ -169,7 +163,7 @@ salted_run = record {
 
 salted_does : (left_out : Premise) (uses : Uses) → Contains uses use_1 →
     Facts (short 2) sci_b left_out uses (without_option salted_run) [] (receiver.delivery 1 ∷ [])
-salted_does left_out uses there = facts_of refl (receiver.told (salt true) reads_other false other_low
+salted_does left_out uses there = facts_of refl (receiver.told (salt true) reads_other false
     (omega (arith, other_is (name_of (salt true)), highest_of_one saved_1 (name_of (salt true)) false names_apart))
     (told_link receiver.accepts_1 refl (receiver.judged_1 t opens_1) (receiver.ready_good false)
     (is_strict refl refl refl) octets_1

@@ -6,13 +6,13 @@ use Rattle.macsec_restarts.proofs.Examples.Histories.{both, breaks, Facts, facts
 use Rattle.macsec_restarts.proofs.Examples.Histories.{of_run, one, pair, refuted, sent_by_two, short_agree}
 use Rattle.macsec_restarts.proofs.Examples.Histories.{without_option}
 use Rattle.macsec_restarts.proofs.Examples.Tags.{octets_3}
-use Rattle.macsec_restarts.proofs.Examples.Told.{heard_by, is_strict, IsLow, short, told_end, told_link}
-use Rattle.macsec_restarts.proofs.Examples.TwoRunsEach.{at_most, f3, facts_a, is_free, low_none, none_is, one_is}
+use Rattle.macsec_restarts.proofs.Examples.Told.{heard_by, is_strict, short, told_end, told_link}
+use Rattle.macsec_restarts.proofs.Examples.TwoRunsEach.{f3, facts_a, is_free, none_is, one_is}
 use Rattle.macsec_restarts.proofs.Examples.TwoRunsEach.{opens_1, opens_3, reads, run_a, t, told_1, u, use_1, use_3}
 use Rattle.macsec_restarts.proofs.Examples.Without.{KeepsDeliveredBut, KeepsSentBut, LawWithout, Premise}
 use Rattle.macsec_restarts.proofs.Examples.Without.{ReadLawWithout, ReadsBut, ReadsDeliveredBut, ReadsReported}
 use Rattle.macsec_restarts.proofs.Examples.Without.{ReadsSalt, ReadsSent, ReadsSentBut}
-use Rattle.macsec_restarts.proofs.Names.{[], ◌++◌, ◌<◌, ◌^◌, ◌∷◌, ◌≡◌, A, All, arith, B, bytes, client, compress}
+use Rattle.macsec_restarts.proofs.Names.{[], ◌++◌, ◌<◌, ◌∷◌, ◌≡◌, A, All, arith, B, bytes, client, compress}
 use Rattle.macsec_restarts.proofs.Names.{Contains, Delivery, digest_bytes, false, first_words, gcm_a, gcm_b, genuine_at}
 use Rattle.macsec_restarts.proofs.Names.{hash_after, highest, highest_of_one, inr, IsReservation, IsSound}
 use Rattle.macsec_restarts.proofs.Names.{IsStrictlyIncreasing, IsSubsequence, journal, judgement_of, length-sha256}
@@ -21,7 +21,6 @@ use Rattle.macsec_restarts.proofs.Names.{reservations, rounds, Run, salt, same_o
 use Rattle.macsec_restarts.proofs.Names.{seal_of, sending_name, SentIn, sha256, slice_get, Some, State}
 use Rattle.macsec_restarts.proofs.Names.{state_after_receiving, subst, suc, sym, true, Uses, zero, ℕ}
 use Rattle.macsec_restarts.specs.RenewingRuns.{sent_by_all}
-use Rattle.std.proofs.Common.{◌-◌}
 use Rattle.macsec_restarts.proofs.Examples.Receivers as receiver
 use Rattle.macsec_restarts.proofs.Examples.Senders as sender
 
@@ -109,7 +108,7 @@ first_run = record { journal = journal false []; config = gcm_a; inputs = sender
 first_does : {left_out : Premise} {uses : Uses} →
     Facts (short 1) sci_a left_out uses (without_option first_run) (sender.sent true) []
 first_does =
-    facts_of refl (sender.told (salt false) (reads []) true low_none (is_free [] _ 3 none_is (omega arith)))
+    facts_of refl (sender.told (salt false) (reads []) true (is_free [] _ 3 none_is (omega arith)))
 
 -- a second run with another salt reads what was reported to the first, under a name that is not its own
 abbrev reads_other : List Reservation
@@ -138,14 +137,9 @@ other_free =
     let name = sending_name (salt true) bytes in
     omega (arith, other_is name, highest_of_one reserved_3 name false names_differ)
 
-other_low : IsLow reads_other
-other_low name =
-    let least = at_most reserved_3.name name 3 (2 ^ 64 - 1) (omega arith) in
-    omega (arith, other_is name, least)
-
 salted_does : {left_out : Premise} {uses : Uses} →
     Facts (short 1) sci_a left_out uses (without_option salted_run) (sender.sent false) []
-salted_does = facts_of refl (sender.told (salt true) reads_other false other_low other_free)
+salted_does = facts_of refl (sender.told (salt true) reads_other false other_free)
 
 -- ---- the receiver's run
 
@@ -167,7 +161,7 @@ both_sound = heard_by f3 refl judged_3 refl (receiver.heard_1_sound t opens_1)
 
 b_does : (left_out : Premise) (uses : Uses) → Contains uses use_1 → Contains uses use_3 →
     Facts (short 2) sci_b left_out uses (without_option run_b) [] both_delivered
-b_does left_out uses there there' = facts_of refl (receiver.told (salt false) (reads []) false low_none
+b_does left_out uses there there' = facts_of refl (receiver.told (salt false) (reads []) false
     (is_free [] _ 1 none_is (omega arith)) (told_1 (reads []) (λ d. there)
     (told_link receiver.accepts_3 refl judged_3 (receiver.heard_1_good t opens_1) (is_strict refl refl refl) octets_3
     (λ d. genuine_at (receiver.heard_1 t) f3 receiver.accepts_3 uses judged_3 there')

@@ -1,7 +1,7 @@
 -- The runs of an end that sends for integrity only: the first sends the same client frame twice, with packet numbers 1
 -- and 2; the second sends another one, with packet number 3. The cipher is not computed.
 use Rattle.macsec_counterexamples.proofs.Link.Exchange.{options}
-use Rattle.macsec_restarts.proofs.Examples.Told.{begun, good, IsGood, IsLow, on, set_up_told, SetsUp, short, Told}
+use Rattle.macsec_restarts.proofs.Examples.Told.{begun, good, IsGood, on, set_up_told, SetsUp, short, Told}
 use Rattle.macsec_restarts.proofs.Examples.Told.{told_end, told_next}
 use Rattle.macsec_restarts.proofs.Examples.Without.{Premise}
 use Rattle.macsec_restarts.proofs.Names.{[], ◌*◌, ◌++◌, ◌<◌, ◌∙◌, ◌∷◌, ◌≡◌, aad, ap, arith, begins_sound, Bool, bytes}
@@ -155,10 +155,10 @@ module _ (salt : List ℕ) (before : List Reservation) where
       told_next (on_good true) (lists k1 3 (third_goes free) ∙ ap (listed 3 3) third_use) refl
       (ap on (frame_step k1 (client 3) (third_goes free))) (told_end _ (end_good true))
 
-  pub told : {left_out : Premise} {uses : Uses} (again : Bool) → IsLow before → highest before name < first_of again →
+  pub told : {left_out : Premise} {uses : Uses} (again : Bool) → highest before name < first_of again →
       Told (short 1) left_out uses (begun (with_none (start gcm_a))) (inputs again salt) (sent again) []
       (on (reserved_at again (at_end again)))
-  told again low free =
-      set_up_told gcm_a (new_key no_salt 1) (sa again) salt before (sets_up again) start_sound low
+  told again free =
+      set_up_told gcm_a (new_key no_salt 1) (sa again) salt before (sets_up again) start_sound
       (refl, (is_new before name (first_of again) free, (refl, tt)))
       (told_next (on_good again) refl refl (ap on (reports again)) (frames_told again free))

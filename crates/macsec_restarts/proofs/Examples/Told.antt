@@ -7,18 +7,18 @@ use Rattle.macsec_counterexamples.proofs.Restarts.Tables.{first_sound, heard_sou
 use Rattle.macsec_reserve.specs.Forgetting.{as_taken}
 use Rattle.macsec_reserve.specs.Renewing.{is_given_up, keeping_renewed}
 use Rattle.macsec_restarts.proofs.Examples.Without.{HasStrictOrderBut, IsNotForged, Premise}
-use Rattle.macsec_restarts.proofs.Names.{[], ◌&&◌, ◌++◌, ◌<◌, ◌==◌, ◌^◌, ◌∙◌, ◌∷◌, ◌≡◌, ◌≢◌, after_commands}
+use Rattle.macsec_restarts.proofs.Names.{[], ◌&&◌, ◌++◌, ◌==◌, ◌∙◌, ◌∷◌, ◌≡◌, ◌≢◌, after_commands}
 use Rattle.macsec_restarts.proofs.Names.{after_retiring, Ahead, ahead_by, ahead_step, All, All-cons, All-nil, all_fit}
 use Rattle.macsec_restarts.proofs.Names.{and_parts, Answer, ap, AreNew, AreOctets, arith, B, Bool, carried_step}
 use Rattle.macsec_restarts.proofs.Names.{comes_in, Command, command, Contains, delivered_by, Delivery, effect}
 use Rattle.macsec_restarts.proofs.Names.{EndConfig, ended_after, ended_by, EndedSa, endpoint_input, Ends, false}
-use Rattle.macsec_restarts.proofs.Names.{fingerprint, first_carried, frame_fault, FrameFault, HasOctets, highest}
+use Rattle.macsec_restarts.proofs.Names.{first_carried, frame_fault, FrameFault, HasOctets}
 use Rattle.macsec_restarts.proofs.Names.{IfSome, if◌then◌else◌, Input, Inputs, installed_key, InstalledKey, is_done}
 use Rattle.macsec_restarts.proofs.Names.{is_new, is_through, IsSound, Judgement, judgement_of, Keeping, keeping_step}
 use Rattle.macsec_restarts.proofs.Names.{KeepingInput, kept, Key, length, lets_through, link_frame, List, lt-leb, map}
 use Rattle.macsec_restarts.proofs.Names.{nat_le, nat_lt, newly_delivered, newly_delivered_with, newly_sent, no_ends}
 use Rattle.macsec_restarts.proofs.Names.{no_salt, None, none_refused, operator_command, Option, passes, refl}
-use Rattle.macsec_restarts.proofs.Names.{Reservation, Retire, RxRow, RxSa, sending_name, SentIn, Some, Standing}
+use Rattle.macsec_restarts.proofs.Names.{Reservation, Retire, RxRow, RxSa, SentIn, Some, Standing}
 use Rattle.macsec_restarts.proofs.Names.{standing_by, standing_of, start, State, state_after_receiving, step, Strict}
 use Rattle.macsec_restarts.proofs.Names.{subst, suc, sym, tables_fit, take, true, use_opened, Uses, with_ends, zero, ℕ}
 use Rattle.macsec_restarts.specs.RenewingOrder.{delivered_from_renewing}
@@ -27,7 +27,6 @@ use Rattle.macsec_secy.specs.Renewing.{renewal_refusal}
 use Rattle.macsec_suite.specs.declared.key_row.NewKey.{NewKey}
 use Rattle.macsec_suite.specs.declared.suite.Suite.{Suite}
 use Rattle.macsec_suite.specs.declared.suite.Suite.TheVariants.{Gcm128}
-use Rattle.std.proofs.Common.{◌-◌}
 use Rattle.std.proofs.lemmas.Bool.{and_right}
 
 -- ---- what holds of an endpoint
@@ -339,20 +338,6 @@ pub key_goes : (renews ahead : Bool) (k : Keeping) (key : NewKey) → is_given_u
 key_goes renews ahead k key given taken fits =
     rw (given, taken, fits) (ap (λ x. on_as ahead (keeping_renewed x k)) taken)
 
--- no name is given up
-abbrev pub IsLow : List Reservation → Type 0
-IsLow before = (name : List ℕ) → highest before name < 2 ^ 64 - 1
-
-pub not_given_up : (salt : List ℕ) (before granted : List Reservation) (s : State) (octets : List ℕ) → IsLow before →
-    is_given_up (kept salt before granted s) octets ≡ false
-not_given_up salt before granted s octets low =
-    let name = sending_name salt octets in
-    let other = sending_name salt (fingerprint salt octets) in
-    rw (
-      lt-leb (2 ^ 64 - 1) (highest before name) (low name),
-      lt-leb (2 ^ 64 - 1) (highest before other) (low other),
-    )
-
 -- the commands with which a run begins: a key, and SAs
 pub record SetsUp (kind : Kind) (config : EndConfig) (key : NewKey) (cs : List Command) : Type 0 where
   pub fits : renewal_refusal (start config) key ≡ None
@@ -363,17 +348,17 @@ pub record SetsUp (kind : Kind) (config : EndConfig) (key : NewKey) (cs : List C
 
 pub set_up_told : {kind : Kind} {left_out : Premise} {uses : Uses} {ahead : Bool} (config : EndConfig) (key : NewKey)
     (cs : List Command) (salt : List ℕ) (before : List Reservation) {last : Ahead} {inputs : Inputs}
-    {xs : List SentIn} {ds : List Delivery} → SetsUp kind config key cs → IsSound (start config) → IsLow before →
+    {xs : List SentIn} {ds : List Delivery} → SetsUp kind config key cs → IsSound (start config) →
     AreNew (kept salt before [] (start config)) (Key key ∷ cs) →
     Told kind left_out uses (on_as ahead (kept salt before [] (after_commands (start config) (Key key ∷ cs)))) inputs
     xs ds last → Told kind left_out uses (begun_as ahead (kept salt before [] (start config)))
     (map command (Key key ∷ cs) ++ inputs) xs ds last
-set_up_told {kind} {ahead = ahead} config key cs salt before it sound low new rest =
+set_up_told {kind} {ahead = ahead} config key cs salt before it sound new rest =
     let s = start config in
     let k = kept salt before [] s in
     let next = first_carried s (Key key) cs it.none in
     told_next (record { sound = λ long. sound; keys = All-nil (IsKeyOf kind) }) refl
     (newly_none (begun_as ahead k) (Key key))
-    (key_goes false ahead k key (not_given_up salt before [] s (key_bytes key.bytes) low) refl it.fits)
+    (key_goes false ahead k key refl refl it.fits)
     (commands_told cs new.1 next.1 (λ long. (first_sound s (Key key) cs next.0 (it.fit long) sound).1) it.keep
     (good kind 1 it.keys (λ long. (first_sound s (Key key) cs next.0 (it.fit long) sound).0)) rest)

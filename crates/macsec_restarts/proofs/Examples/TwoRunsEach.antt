@@ -6,10 +6,10 @@ use Rattle.macsec_restarts.proofs.Examples.Histories.{both, delivered_by_two, Fa
 use Rattle.macsec_restarts.proofs.Examples.Histories.{keeps_sent, Meets, meets_all, meets_by, MeetsAll, never, of_run}
 use Rattle.macsec_restarts.proofs.Examples.Histories.{one, pair, sent_by_two, short_agree, without_option}
 use Rattle.macsec_restarts.proofs.Examples.Tags.{octets_1, octets_3}
-use Rattle.macsec_restarts.proofs.Examples.Told.{is_strict, IsLow, on, short, Told, told_drop, told_end, told_link}
+use Rattle.macsec_restarts.proofs.Examples.Told.{is_strict, on, short, Told, told_drop, told_end, told_link}
 use Rattle.macsec_restarts.proofs.Examples.Told.{told_next}
 use Rattle.macsec_restarts.proofs.Examples.Without.{IsNotForged, NoPremise, Premise}
-use Rattle.macsec_restarts.proofs.Names.{[], ◌++◌, ◌<◌, ◌^◌, ◌∷◌, ◌≡◌, ◌≢◌, ◌≤◌, A, aad, Ahead, All, All-nil, arith, B}
+use Rattle.macsec_restarts.proofs.Names.{[], ◌++◌, ◌<◌, ◌∷◌, ◌≡◌, ◌≢◌, ◌≤◌, A, aad, Ahead, All, All-nil, arith, B}
 use Rattle.macsec_restarts.proofs.Names.{Bool, bytes, CipherUse, client, Contains, Delivery, false, gcm_a, gcm_b}
 use Rattle.macsec_restarts.proofs.Names.{genuine_at, highest, if◌then◌else◌, Inputs, IsReservation, iv, journal}
 use Rattle.macsec_restarts.proofs.Names.{Keeping, length-sha256, List, map, max, name_of, now_durable, Opens, opens}
@@ -18,7 +18,6 @@ use Rattle.macsec_restarts.proofs.Names.{same_octets-refl, says, sci_a, sci_b, s
 use Rattle.macsec_restarts.proofs.Names.{subst, sym, tag, true, use_of, Uses, ℕ}
 use Rattle.macsec_restarts.specs.RenewingOrder.{KeepsDeliveredWith, KeepsSentWith}
 use Rattle.macsec_restarts.specs.RenewingRuns.{sent_by_all}
-use Rattle.std.proofs.Common.{◌-◌}
 use Rattle.macsec_restarts.proofs.Examples.Receivers as receiver
 use Rattle.macsec_restarts.proofs.Examples.Senders as sender
 
@@ -114,14 +113,6 @@ at_most _ _ last n less = by_name _
     by_name true = omega (arith, less)
     by_name false = omega (arith, less)
 
--- no name is given up in them
-pub low_none : IsLow (reads [])
-low_none name = is_free [] name (2 ^ 64 - 1) none_is (omega arith)
-
-pub low_one : (r : Reservation) → All IsReservation (r ∷ []) → r.last < 2 ^ 64 - 1 → IsLow (reads (r ∷ []))
-low_one r are less name =
-    is_free (r ∷ []) name (2 ^ 64 - 1) are (at_most r.name name r.last (2 ^ 64 - 1) less)
-
 -- ---- the sender's runs
 
 abbrev before_a : Bool → List Reservation
@@ -137,10 +128,9 @@ run_a again = record {
 
 pub facts_a : {left_out : Premise} {uses : Uses} (again : Bool) →
     Facts (short 1) sci_a left_out uses (without_option (run_a again)) (sender.sent again) []
-facts_a false = facts_of refl (sender.told (salt false) (reads []) false low_none
+facts_a false = facts_of refl (sender.told (salt false) (reads []) false
     (is_free [] (sending_name (salt false) bytes) 1 none_is (omega arith)))
 facts_a true = facts_of refl (sender.told (salt false) (reads (reserved_2 ∷ [])) true
-    (low_one reserved_2 reserved_is (omega arith))
     (is_free (reserved_2 ∷ []) (sending_name (salt false) bytes) 3 reserved_is
     (at_most (sending_name (salt false) bytes) (sending_name (salt false) bytes) 2 3 (omega arith))))
 
@@ -194,7 +184,7 @@ at_b again s = receiver.at (salt false) (reads (before_b again)) s
 
 facts_1 : (uses : Uses) → Contains uses use_1 →
     Facts (short 2) sci_b NoPremise uses (without_option (run_b false)) [] (receiver.delivery 1 ∷ [])
-facts_1 uses there = facts_of refl (receiver.told (salt false) (reads []) false low_none
+facts_1 uses there = facts_of refl (receiver.told (salt false) (reads []) false
     (is_free [] (name_of (salt false)) 1 none_is (omega arith))
     (told_1 (reads []) (λ d. there) (told_drop receiver.is_late refl (receiver.late_then t) refl
     (receiver.heard_1_good t opens_1) (told_next (receiver.dropped_1_good t opens_1) refl refl refl
@@ -203,7 +193,7 @@ facts_1 uses there = facts_of refl (receiver.told (salt false) (reads []) false 
 facts_3 : (uses : Uses) → Contains uses use_3 →
     Facts (short 2) sci_b NoPremise uses (without_option (run_b true)) [] (receiver.delivery 3 ∷ [])
 facts_3 uses there = facts_of refl (receiver.told (salt false) (reads (saved_1 ∷ [])) true
-    (low_one saved_1 saved_is (omega arith)) (is_free (saved_1 ∷ []) (name_of (salt false)) 2 saved_is
+    (is_free (saved_1 ∷ []) (name_of (salt false)) 2 saved_is
     (at_most (name_of (salt false)) (name_of (salt false)) 1 2 (omega arith)))
     (told_drop receiver.is_late refl (receiver.late_again t) refl (receiver.ready_good true)
     (told_link receiver.accepts_3 refl (receiver.judged_3 t u opens_3) (receiver.dropped_2_good t)
