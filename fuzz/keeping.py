@@ -42,6 +42,8 @@ class Endpoint(expected.Endpoint):
         self.taken: list[journals.Reservation] = []
         # Where deleted receive associations ended, by key, SCI and AN. While 1,024 are enough the library keeps each.
         self.ends: dict[tuple[int, bytes, int], int] = {}
+        # The names of the keys whose place a new key took.
+        self.given_up: list[bytes] = []
         # Has it renewed a key, and is it renewing one?
         self.renews = self.renewing = False
 
@@ -60,9 +62,8 @@ class Endpoint(expected.Endpoint):
         super().do_key(number, mark if is_forgotten else octets, *rest)
 
     def is_given_up(self, octets):
-        """Has a new key taken the place of this one, or has the journal reserved all packet numbers under it?"""
-        names = [journals.sending_name(self.salt, it) for it in (octets, self.fingerprint(octets))]
-        return any(journals.highest(self.before, it) == journals.LAST for it in names)
+        """Has a new key taken the place of the key with these octets, or with their fingerprint?"""
+        return any(journals.sending_name(self.salt, it) in self.given_up for it in (octets, self.fingerprint(octets)))
 
     def is_taken(self, number):
         """A key that is renewed may take the place of a retired key, which no association uses."""
@@ -79,7 +80,7 @@ class Endpoint(expected.Endpoint):
             self.renewing = False
         self.renews = True
         if takes:
-            self.before.append((name, journals.LAST))
+            self.given_up.append(name)
             place = list(self.keys).index(number)
             self.granted[place : place + 1] = [(self.key_name(number), 0)] if place < len(self.granted) else []
 

@@ -648,9 +648,9 @@ uint32_t macsec_set_tag_form(macsec_endpoint *e, uint32_t form);
 uint32_t macsec_install_key(macsec_endpoint *e, const macsec_sak *key);
 /* The same, also under the number of a retired key that no association uses. The new key then takes that key's place,
  * so 4,096 is a limit on keys at one time. Associations, packet numbers, windows and counters go on. Every later call
- * refuses the octets of the key whose place was taken (KeyRepeated, before any other refusal): the endpoint keeps 40
- * octets for each. MACSEC_E_MEMORY if there is no memory for them; then nothing has changed. Octets under which the
- * journal reserves all packet numbers are refused in the same way. */
+ * refuses the octets of the key whose place was taken (KeyRepeated, before any other refusal): the endpoint keeps 32
+ * octets for each, which only calls that install a key search. MACSEC_E_MEMORY if there is no memory for them; then
+ * nothing has changed. */
 uint32_t macsec_renew_key(macsec_endpoint *e, const macsec_sak *key);
 /* Retire a key that no association uses: no new association may use it. The endpoint overwrites its octets, and what it
  * had computed from them. Of the key only a fingerprint stays, by which the octets are still refused: the first octets

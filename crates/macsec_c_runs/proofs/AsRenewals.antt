@@ -1,7 +1,7 @@
 -- A run of calls as a run in which each key is installed as a renewal: after each call both endpoints are the same, but
 -- for whether they have renewed a key. So they send, deliver and accept the same.
-use Rattle.std.proofs.Common.{◌≡◌, ◌∙◌, ◌++◌, ◌∷◌, ◌||◌, ◌^◌, ◌-◌, ℕ, zero, suc, List, [], Bool, true, false}
-use Rattle.std.proofs.Common.{Option, Some, None, refl, ap, ap₂, sym, subst, if◌then◌else◌, Contains, nat_le, take}
+use Rattle.std.proofs.Common.{◌≡◌, ◌∙◌, ◌++◌, ◌∷◌, ◌||◌, ℕ, zero, suc, List, [], Bool, true, false}
+use Rattle.std.proofs.Common.{Option, Some, None, refl, ap, ap₂, sym, subst, if◌then◌else◌, Contains, take}
 use Rattle.macsec_aes.specs.Keys.{key_bytes}
 use Rattle.macsec_aes.specs.declared.Key.TheVariants.{K256}
 use Rattle.macsec_suite.specs.KeyRows.{InstalledKey}
@@ -12,26 +12,24 @@ use Rattle.macsec_commands.specs.declared.command.Command.{Command}
 use Rattle.macsec_commands.specs.declared.command.Command.TheVariants.{Key, RxSa}
 use Rattle.macsec_rx.specs.Judge.{Judgement}
 use Rattle.macsec_rx.specs.declared.RxRow.{RxRow}
-use Rattle.macsec_secy.proofs.Contained.{behind, first as first_there}
 use Rattle.macsec_secy.specs.Commands.{uses}
 use Rattle.macsec_secy.specs.Reception.{judgement_of}
 use Rattle.macsec_secy.specs.Renewing.{renewal_refusal}
 use Rattle.macsec_secy.specs.Sound.{IsSound}
 use Rattle.macsec_secy.specs.Step.{Input, client_frame, frame_fault, link_frame, operator_command}
 use Rattle.macsec_secy.specs.declared.fault.FrameFault.{FrameFault}
-use Rattle.macsec_reserve.specs.declared.reservation.Reservation.{Reservation}
 use Rattle.macsec_reserve.specs.Forgetting.{as_taken, fingerprint, forgetting_step, is_forgotten, key_of_fingerprint}
 use Rattle.macsec_reserve.specs.Histories.{reported_in}
-use Rattle.macsec_reserve.specs.Journal.{highest, sending_name}
+use Rattle.macsec_reserve.specs.Journal.{sending_name}
 use Rattle.macsec_reserve.specs.Keeping.{Keeping, KeepingInput, KeepingOutput, endpoint_input, keeping_step}
 use Rattle.macsec_reserve.specs.Keeping.{now_durable}
-use Rattle.macsec_reserve.specs.Renewing.{forgetting_refusal, is_given_up, keeping_renewed, refusal_if}
+use Rattle.macsec_reserve.specs.Renewing.{forgetting_refusal, has_name, is_given_up, keeping_renewed, refusal_if}
 use Rattle.macsec_ahead.specs.Ahead.{Ahead, Standing, ahead_by, ahead_step, before_this_run, begins_again}
 use Rattle.macsec_ahead.specs.Ahead.{command_forgetting}
 use Rattle.macsec_ahead.specs.Ahead.{ended_after, is_through, lets_through, not_yet, passes, standing, standing_by}
 use Rattle.macsec_ahead.specs.Ends.{Ends}
 use Rattle.macsec_ahead.specs.Renewing.{installs_given_up, unless_given_up, unless_refused}
-use Rattle.macsec_restarts.proofs.AheadForgets.{before_kept, field_forgetting, salt_kept}
+use Rattle.macsec_restarts.proofs.AheadForgets.{field_forgetting, given_up_kept}
 use Rattle.macsec_restarts.proofs.RenewingAhead.{renews_field}
 use Rattle.macsec_restarts.specs.AheadRuns.{is_valid, newly_accepted, newly_delivered_with}
 use Rattle.macsec_restarts.specs.Delivered.{Delivery, newly_delivered}
@@ -59,44 +57,28 @@ call_is e (command (Key key)) = by_given (installs_given_up e (Key key)) e key
 call_is e (renewal key) = renews key
 call_is e call = forgets (input_of call)
 
--- ---- until a key is renewed, the endpoint knows of the journal what it read
+-- ---- until a key is renewed, no name is given up
 
-pub record IsSince (begun e : Ahead) : Type 0 where
-  pub salt : e.k.salt ≡ begun.k.salt
-  pub before : e.renews ≡ false → e.k.before ≡ begun.k.before
+abbrev pub GivesNone : Ahead → Type 0
+GivesNone e = e.renews ≡ false → e.k.given_up ≡ []
 
-pub since_step : (begun e after : Ahead) → IsSince begun e → IsStep e after → IsSince begun after
-since_step begun e _ it (forgets input) = record {
-  salt = field_forgetting (λ k. k.salt) salt_kept e input ∙ it.salt;
-  before = λ no. field_forgetting (λ k. k.before) before_kept e input ∙ it.before (sym (renews_field e input) ∙ no);
-}
-since_step begun e _ it (renews key) = by_refusal (forgetting_refusal e.k key)
+none_step : (e after : Ahead) → GivesNone e → IsStep e after → GivesNone after
+none_step e _ it (forgets input) = λ no.
+    field_forgetting (λ k. k.given_up) given_up_kept e input ∙ it (sym (renews_field e input) ∙ no)
+none_step e _ it (renews key) = by_refusal (forgetting_refusal e.k key)
   where
-    by_refusal : (r : Option Refusal) → IsSince begun (unless_refused r key e)
+    by_refusal : (r : Option Refusal) → GivesNone (unless_refused r key e)
     by_refusal (Some r) = it
-    by_refusal None = record { salt = it.salt; before = λ no. cc }
-since_step begun e _ it stays = it
+    by_refusal None = λ no. cc
+none_step e _ it stays = it
 
-abbrev pub AreUsable : Ahead → List Call → Type 0
-AreUsable begun calls =
-    (key : NewKey) → Contains calls (command (Key key)) → is_given_up begun.k (key_bytes key.bytes) ≡ false
-
-fits : (begun e : Ahead) → IsSince begun e → (call : Call) (calls : List Call) → AreUsable begun (call ∷ calls) →
-    Fits e call
-fits begun e it (command (Key key)) calls usable = λ no.
-    ap (λ salt. given salt e.k.before) it.salt ∙ ap (λ before. given begun.k.salt before) (it.before no)
-    ∙ usable key (first_there (command (Key key)) calls)
+fits : (e : Ahead) → GivesNone e → (call : Call) → Fits e call
+fits e it (command (Key key)) = λ no. ap given (it no)
   where
-    bytes : List ℕ
-    bytes = key_bytes key.bytes
-
-    given : List ℕ → List Reservation → Bool
-    given salt before = nat_le (2 ^ 64 - 1) (highest before (sending_name salt bytes))
-        || nat_le (2 ^ 64 - 1) (highest before (sending_name salt (fingerprint salt bytes)))
-fits begun e it call calls usable = tt
-
-less : (begun : Ahead) (call : Call) (calls : List Call) → AreUsable begun (call ∷ calls) → AreUsable begun calls
-less begun call calls usable key there = usable key (behind call calls (command (Key key)) there)
+    given : List (List ℕ) → Bool
+    given names = has_name names (sending_name e.k.salt (key_bytes key.bytes))
+        || has_name names (sending_name e.k.salt (fingerprint e.k.salt (key_bytes key.bytes)))
+fits e it call = tt
 
 -- ---- whether the endpoint has renewed a key decides nothing, where no command installs one
 
@@ -236,18 +218,16 @@ abbrev pub as_inputs : Ahead → List Call → List KeepingInput
 as_inputs e [] = []
 as_inputs e (call ∷ calls) = as_input e call ∷ as_inputs (after_call e call) calls
 
-pub record Stands (begun e : Ahead) (calls : List Call) : Type 0 where
-  pub since : IsSince begun e
+pub record Stands (e : Ahead) (calls : List Call) : Type 0 where
+  pub gives_none : GivesNone e
   pub ends : HasEnds e
-  pub usable : AreUsable begun calls
   pub sound : (n : ℕ) → IsSound (after_calls e (take n calls)).k.secy
 
-pub stands_next : (begun e : Ahead) (call : Call) (calls : List Call) → Stands begun e (call ∷ calls) →
-    Stands begun (after_call e call) calls
-stands_next begun e call calls it = record {
-  since = since_step begun e (after_call e call) it.since (call_is e call);
+pub stands_next : (e : Ahead) (call : Call) (calls : List Call) → Stands e (call ∷ calls) →
+    Stands (after_call e call) calls
+stands_next e call calls it = record {
+  gives_none = none_step e (after_call e call) it.gives_none (call_is e call);
   ends = ends_stay e (after_call e call) (call_is e call) (it.sound 0).rx_keys it.ends;
-  usable = less begun call calls it.usable;
   sound = λ n. it.sound (suc n);
 }
 
@@ -259,16 +239,16 @@ pub record RunsAlike (b : Bool) (e : Ahead) (calls : List Call) : Type 0 where
   pub sends : sent_from_renewing (with_renews b e) (as_inputs e calls) ≡ sent_by e calls
   pub delivers : delivered_from_renewing (with_renews b e) (as_inputs e calls) ≡ delivered_by e calls
 
-pub runs_alike : (begun : Ahead) (calls : List Call) (e : Ahead) (b : Bool) → Stands begun e calls → RunsAlike b e calls
-runs_alike begun [] e b stands = record { after = always; ends = (b, refl); sends = refl; delivers = refl }
+pub runs_alike : (calls : List Call) (e : Ahead) (b : Bool) → Stands e calls → RunsAlike b e calls
+runs_alike [] e b stands = record { after = always; ends = (b, refl); sends = refl; delivers = refl }
   where
     always : (n : ℕ) → (c : Bool) × (ahead_renewing_after (with_renews b e) (take n (as_inputs e [])) ≡
         with_renews c (after_calls e (take n [])))
     always zero = (b, refl)
     always (suc n) = (b, refl)
-runs_alike begun (call ∷ calls) e b stands =
-    let it = steps_alike b e call (fits begun e stands.since call calls stands.usable) stands.ends in
-    by_step it.0 it.1 (runs_alike begun calls next it.0 (stands_next begun e call calls stands))
+runs_alike (call ∷ calls) e b stands =
+    let it = steps_alike b e call (fits e stands.gives_none call) stands.ends in
+    by_step it.0 it.1 (runs_alike calls next it.0 (stands_next e call calls stands))
   where
     next : Ahead
     next = after_call e call
@@ -301,16 +281,15 @@ as_run r = record {
   run = record { journal = r.journal; config = r.config; inputs = as_inputs (opening r) r.calls };
 }
 
-pub run_stands : (r : CallRun) → IsRun r → Stands (opening r) (opening r) r.calls
+pub run_stands : (r : CallRun) → IsRun r → Stands (opening r) r.calls
 run_stands r is = record {
-  since = record { salt = refl; before = λ no. refl };
+  gives_none = λ no. refl;
   ends = no_ends_yet (opening r) refl refl;
-  usable = is.usable;
   sound = is.sound;
 }
 
 pub run_alike : (r : CallRun) → IsRun r → RunsAlike false (opening r) r.calls
-run_alike r is = runs_alike (opening r) r.calls (opening r) false (run_stands r is)
+run_alike r is = runs_alike r.calls (opening r) false (run_stands r is)
 
 pub state_same : (r : CallRun) → IsRun r → (n : ℕ) → states_of (as_run r) n ≡ states r n
 state_same r is n = ap (λ (a : Ahead). a.k.secy) ((run_alike r is).after n).1

@@ -1,5 +1,5 @@
 -- What a command that installs a key does: the same as a renewal of the key, or nothing.
-use Rattle.std.proofs.Common.{◌≡◌, ◌∙◌, ◌&&◌, ◌||◌, ◌++◌, ◌∷◌, ◌^◌, ◌-◌, [], Bool, true, false, not, Option, Some, None}
+use Rattle.std.proofs.Common.{◌≡◌, ◌∙◌, ◌&&◌, ◌||◌, ◌++◌, ◌∷◌, [], Bool, true, false, not, Option, Some, None}
 use Rattle.std.proofs.Common.{List, refl, ap, sym, if◌then◌else◌, set}
 use Rattle.std.specs.Prelude.{is_none}
 use Rattle.macsec_aes.specs.Keys.{key_bytes}
@@ -81,14 +81,11 @@ same_key k key none =
     new : Reservation
     new = record { name = sending_name k.salt (key_bytes key.bytes); last = 0 }
 
-    given_up : Reservation
-    given_up = record { name = key_name k.salt s.keys key.number; last = 2 ^ 64 - 1 }
-
     after_with : Bool → Bool → Keeping
     after_with unused used = record k {
       secy = record s { keys = if unused && used then keys_renewing suite s.keys key else keys_with suite s.keys key };
-      before = if used then k.before ++ given_up ∷ [] else k.before;
       granted = if used then set k.granted (place_of s.keys key.number) new else k.granted;
+      given_up = if used then k.given_up ++ key_name k.salt s.keys key.number ∷ [] else k.given_up;
     }
 
     by_use : (unused : Bool) → record k { secy = record s { keys = keys_with suite s.keys key } } ≡

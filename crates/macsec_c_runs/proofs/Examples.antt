@@ -1,14 +1,12 @@
 -- Two runs of calls beside one journal that meet all premises of the laws on what is sent. Both install the same key,
 -- the first by a command and the second as a renewal. Each begins an SA, and sends a frame for integrity only: with
 -- packet number 1, then with 2. The cipher is not computed.
-use Rattle.std.proofs.Common.{◌≡◌, ◌∙◌, ◌++◌, ◌∷◌, ◌<◌, ◌||◌, ◌^◌, ◌-◌, ℕ, zero, suc, List, [], Bool, true, false}
-use Rattle.std.proofs.Common.{refl, ap, sym, subst, if◌then◌else◌, arith, nat_le, All, AllPairs, map}
+use Rattle.std.proofs.Common.{◌≡◌, ◌∙◌, ◌++◌, ◌∷◌, ◌<◌, ℕ, zero, suc, List, [], Bool, true, false}
+use Rattle.std.proofs.Common.{refl, ap, sym, subst, if◌then◌else◌, arith, All, AllPairs, map}
 use Rattle.std.proofs.Common.{max, take}
-use Rattle.std.proofs.lemmas.Bool.{lt-leb}
 use Rattle.std.proofs.lemmas.List.Elements.{All-cons, All-contains, All-nil}
 use Rattle.std.proofs.lemmas.List.Kept.{AllPairs-cons}
 use Rattle.sha2.proofs.Facts256.{length-sha256}
-use Rattle.macsec_aes.specs.Keys.{key_bytes}
 use Rattle.macsec_suite.specs.KeyRows.{InstalledKey}
 use Rattle.macsec_suite.specs.declared.key_row.NewKey.{NewKey}
 use Rattle.macsec_suite.specs.declared.suite.Suite.TheVariants.{Gcm128}
@@ -24,12 +22,8 @@ use Rattle.macsec_reserve.specs.Crashes.{IsReservation}
 use Rattle.macsec_reserve.specs.Journal.{highest, reservations, sending_name}
 use Rattle.macsec_reserve.specs.Keeping.{Keeping, may_go}
 use Rattle.macsec_reserve.specs.Entries.{reduced}
-use Rattle.macsec_reserve.specs.Renewing.{is_given_up, refusal_if}
 use Rattle.macsec_ahead.specs.Ahead.{Ahead}
 use Rattle.macsec_ahead.specs.Ends.{no_ends}
-use Rattle.macsec_ahead.specs.Renewing.{unless_refused}
-use Rattle.macsec_secy.specs.Renewing.{renewal_refusal}
-use Rattle.macsec_reserve.specs.Forgetting.{as_taken}
 use Rattle.macsec_restarts.proofs.RenewingAhead.{is_weaker_with}
 use Rattle.macsec_restarts.specs.Sent.{SentIn, newly_sent}
 use Rattle.macsec_counterexamples.proofs.Link.WorkedEnds.{bytes, client as frame, gcm_a, installed_key, new_key}
@@ -100,13 +94,6 @@ is_free again other = omega (
   at_most again other,
 )
 
-small : (again : Bool) → number again < 2 ^ 64 - 1
-small false = omega arith
-small true = omega arith
-
-not_all : (again : Bool) (other : List ℕ) → nat_le (2 ^ 64 - 1) (highest (reads again) other) ≡ false
-not_all again other = lt-leb _ _ (omega (arith, is_free again other, small again))
-
 -- ---- the states of the endpoint
 
 abbrev key_at : ℕ → InstalledKey
@@ -153,23 +140,13 @@ end_sound true = sent_sound frame refl refl (ready_sound true)
 
 -- ---- what each call leaves
 
-neither : (b c : Bool) → b ≡ false → c ≡ false → (b || c) ≡ false
-neither true c b_is c_is = cc
-neither false c b_is c_is = c_is
-
-not_given_up : (again : Bool) (octets : List ℕ) → is_given_up (opening (run again)).k octets ≡ false
-not_given_up again octets = neither _ _ (not_all again _) (not_all again _)
-
 abbrev inside : Bool → List Reservation → State → Keeping → Ahead
 inside again granted s k = record (at again granted s) { k = k }
 
 installed : (again : Bool) → after_call (opening (run again)) (installs again) ≡ at again [] with_key
 installed false =
     ap (inside false [] with_key) (carried_step (opening (run false)).k (Key key) refl refl)
-installed true =
-    let e = opening (run true) in
-    ap (λ (b : Bool). unless_refused (refusal_if b (renewal_refusal e.k.secy (as_taken e.k key))) key e)
-    (not_given_up true bytes)
+installed true = refl
 
 begins : (again : Bool) →
     after_call (at again [] with_key) (command (TxSa 0 0 (number again) false)) ≡ at again [] (with_sa again)
@@ -266,8 +243,7 @@ runs true = goes_on {now = []} start_sound (All-nil IsOurs) refl (installed true
 -- ---- the premises
 
 is_run : (again : Bool) → IsRun (run again)
-is_run again =
-    record { sound = (runs again).sound; usable = λ k there. not_given_up again (key_bytes k.bytes) }
+is_run again = record { sound = (runs again).sound }
 
 agree : AgreeOnKeys (run false) (run true)
 agree x y first second same =

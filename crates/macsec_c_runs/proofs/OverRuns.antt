@@ -30,12 +30,9 @@ use Rattle.macsec_restarts.specs.Used.{seal_of}
 use Rattle.macsec_c_calls.specs.GivenUp.{Call, after_call, command, durable}
 use Rattle.macsec_c_runs.proofs.AsRenewals.{as_run, reports_same, sent_same, state_same, used_same}
 use Rattle.macsec_c_runs.specs.Runs.{AcceptsAbove, AcceptsAboveOverCalls, AcceptsOnceOverCalls, AgreeOnKeys, CallRun}
-use Rattle.macsec_c_runs.specs.Runs.{IsCovered, IsRun, IsRunOfRenewals, IsWeaker, IsWeakerToAccept, KeepsAccepted}
+use Rattle.macsec_c_runs.specs.Runs.{IsCovered, IsRun, IsWeaker, IsWeakerToAccept, KeepsAccepted}
 use Rattle.macsec_c_runs.specs.Runs.{KeepsUsed, NoIvOverCalls, NumbersRiseOverCalls, accepted, accepted_by, input_of}
 use Rattle.macsec_c_runs.specs.Runs.{opening, reported, sent, sent_in_all}
-
-pub is_run_of_renewals : (r : CallRun) → IsRunOfRenewals r
-is_run_of_renewals r sound none = record { sound = sound; usable = λ key there. absurd (none key there) }
 
 -- ---- the premises, of runs in which each key is installed as a renewal
 

@@ -2,7 +2,7 @@
 -- renewal.
 use Rattle.std.proofs.Common.{◌≡◌, ◌∙◌, ◌++◌, ◌∷◌, ◌<◌, ◌≤◌, ℕ, List, [], Bool, true, false, refl, ap, sym, subst, All}
 use Rattle.std.proofs.Common.{if◌then◌else◌, Contains, Some}
-use Rattle.std.proofs.lemmas.List.Elements.{All-cons, All-head, All-nil, All-tail, Contains-append_left}
+use Rattle.std.proofs.lemmas.List.Elements.{All-cons, All-head, All-nil, All-tail}
 use Rattle.macsec_tag.specs.declared.identifiers.Sci.{Sci}
 use Rattle.macsec_suite.specs.KeyRows.{the_key}
 use Rattle.macsec_commands.specs.declared.command.Command.TheVariants.{Key}
@@ -29,20 +29,17 @@ use Rattle.macsec_c_runs.specs.SingleCalls.{HasSaved, NeverDeliversAgain, NeverD
 
 -- ---- parts of a run
 
-stands_less : (begun e : Ahead) (xs ys : List Call) → Stands begun e (xs ++ ys) → Stands begun e xs
-stands_less begun e xs ys it = record {
-  since = it.since;
+stands_less : (e : Ahead) (xs ys : List Call) → Stands e (xs ++ ys) → Stands e xs
+stands_less e xs ys it = record {
+  gives_none = it.gives_none;
   ends = it.ends;
-  usable = λ key there. it.usable key (Contains-append_left xs ys (command (Key key)) there);
   sound = λ n. let at = first_moments n xs ys in
       subst (λ cs. IsSound (after_calls e cs).k.secy) (sym at.1) (it.sound at.0);
 }
 
-stands_after : (begun : Ahead) (xs : List Call) (e : Ahead) (ys : List Call) → Stands begun e (xs ++ ys) →
-    Stands begun (after_calls e xs) ys
-stands_after begun [] e ys it = it
-stands_after begun (x ∷ xs) e ys it =
-    stands_after begun xs (after_call e x) ys (stands_next begun e x (xs ++ ys) it)
+stands_after : (xs : List Call) (e : Ahead) (ys : List Call) → Stands e (xs ++ ys) → Stands (after_calls e xs) ys
+stands_after [] e ys it = it
+stands_after (x ∷ xs) e ys it = stands_after xs (after_call e x) ys (stands_next e x (xs ++ ys) it)
 
 -- the input deletes no SA where the call deletes none
 keeps_input : (sci : Sci) (an : ℕ) (e : Ahead) (call : Call) → KeepsAssociation sci an (input_of call) →
@@ -67,8 +64,8 @@ keep_inputs sci an (call ∷ calls) e keep =
 
 saved_as_run : (r : CallRun) (name : List ℕ) (n : ℕ) → IsRun r → HasSaved r name n → HasSavedRenewing (as_run r) name n
 saved_as_run r name n is saved =
-    let it = (runs_alike begun saved.before begun false (stands_less begun begun saved.before rest stands)).ends in
-    by_parts it.0 it.1 (stands_after begun saved.before begun rest stands)
+    let it = (runs_alike saved.before begun false (stands_less begun saved.before rest stands)).ends in
+    by_parts it.0 it.1 (stands_after saved.before begun rest stands)
   where
     begun : Ahead
     begun = opening r
@@ -76,8 +73,8 @@ saved_as_run r name n is saved =
     rest : List Call
     rest = link saved.frame ∷ (saved.then_on ++ saved.more)
 
-    stands : Stands begun begun (saved.before ++ rest)
-    stands = subst (Stands begun begun) saved.calls_are (run_stands r is)
+    stands : Stands begun (saved.before ++ rest)
+    stands = subst (Stands begun) saved.calls_are (run_stands r is)
 
     came : KeepingInput
     came = input_of (link saved.frame)
@@ -89,15 +86,14 @@ saved_as_run r name n is saved =
     after = as_inputs next saved.then_on
 
     by_parts : (b : Bool) → ahead_renewing_after (with_renews false begun) (as_inputs begun saved.before) ≡
-        with_renews b (after_calls begun saved.before) → Stands begun (after_calls begun saved.before) rest →
+        with_renews b (after_calls begun saved.before) → Stands (after_calls begun saved.before) rest →
         HasSavedRenewing (as_run r) name n
     by_parts b alike at_first =
-        let here : Stands begun saved.first rest = subst (λ x. Stands begun x rest) (sym saved.first_is) at_first in
-        let then_here = stands_next begun saved.first (link saved.frame) (saved.then_on ++ saved.more) here in
-        let later = (runs_alike begun saved.then_on next b
-        (stands_less begun next saved.then_on saved.more then_here)).ends in
-        let at_last : Stands begun saved.last saved.more = subst (λ x. Stands begun x saved.more) (sym saved.last_is)
-        (stands_after begun saved.then_on next saved.more then_here) in
+        let here : Stands saved.first rest = subst (λ x. Stands x rest) (sym saved.first_is) at_first in
+        let then_here = stands_next saved.first (link saved.frame) (saved.then_on ++ saved.more) here in
+        let later = (runs_alike saved.then_on next b (stands_less next saved.then_on saved.more then_here)).ends in
+        let at_last : Stands saved.last saved.more = subst (λ x. Stands x saved.more) (sym saved.last_is)
+        (stands_after saved.then_on next saved.more then_here) in
         record {
           before = as_inputs begun saved.before;
           first = with_renews b saved.first;

@@ -1,11 +1,10 @@
 -- Two ends of calls as two ends in which each key is installed as a renewal: what happens, and the runs of each end.
 use Rattle.std.proofs.Common.{◌≡◌, ◌∙◌, ◌++◌, ◌∷◌, ℕ, zero, suc, List, [], Bool, true, false, Option, Some, None, refl}
 use Rattle.std.proofs.Common.{ap, ap₂, sym, subst, if◌then◌else◌, All, AllPairs, append_assoc, map, option_map}
-use Rattle.std.proofs.Common.{IfSome, Contains, take}
-use Rattle.std.proofs.lemmas.List.Elements.{All-cons, All-head, All-nil, All-tail, Contains-append_left}
+use Rattle.std.proofs.Common.{IfSome, take}
+use Rattle.std.proofs.lemmas.List.Elements.{All-cons, All-head, All-nil, All-tail}
 use Rattle.macsec_commands.specs.declared.event.End.{End}
 use Rattle.macsec_commands.specs.declared.event.End.TheVariants.{A, B}
-use Rattle.macsec_commands.specs.declared.command.Command.TheVariants.{Key}
 use Rattle.macsec_secy.specs.Sound.{IsSound}
 use Rattle.macsec_reserve.specs.Keeping.{KeepingInput}
 use Rattle.macsec_reserve.specs.Unique.{HasOtherIv}
@@ -19,7 +18,7 @@ use Rattle.macsec_restarts.specs.RenewingOrder.{ArePeersRenewing, AreOfTwoEndsWi
 use Rattle.macsec_restarts.specs.RenewingOrder.{IsSameEndWith, NoIvAtBothRenewing, delivered_by_all}
 use Rattle.macsec_restarts.specs.RenewingRuns.{AgreeOnKeysWith, KeepsUsedWith, sent_by_all}
 use Rattle.macsec_restarts.specs.Used.{seal_of}
-use Rattle.macsec_c_calls.specs.GivenUp.{Call, after_call, after_calls, command}
+use Rattle.macsec_c_calls.specs.GivenUp.{Call, after_call, after_calls}
 use Rattle.macsec_c_runs.proofs.AsRenewals.{as_input, as_inputs, as_run, delivered_same, used_same}
 use Rattle.macsec_c_runs.proofs.OverRuns.{agree_as_run, all_sent, all_sound, both_as_run, keeps_as_run, pairs_as_run}
 use Rattle.macsec_c_runs.specs.Runs.{AgreeOnKeys, CallRun, IsRun, KeepsUsed, opening, sent_in_all}
@@ -235,9 +234,6 @@ run_less r xs rest is it = record {
   sound = λ n.
       let at = first_moments n xs rest in
       subst (λ cs. IsSound (after_calls (opening r) cs).k.secy) (ap (take at.0) is ∙ sym at.1) (it.sound at.0);
-  usable = λ key there.
-      it.usable key (subst (λ cs. Contains cs (command (Key key))) (sym is)
-      (Contains-append_left xs rest (command (Key key)) there));
 }
 
 pub calls_less : (e : End) (before more : List CallHappening) →

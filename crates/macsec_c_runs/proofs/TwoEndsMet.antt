@@ -17,7 +17,7 @@ use Rattle.macsec_counterexamples.proofs.Link.WorkedEnds.{bytes, gcm_a, gcm_b, n
 use Rattle.macsec_counterexamples.proofs.Restarts.Journals.{journal, salt}
 use Rattle.macsec_counterexamples.proofs.Restarts.Receivers.{name_of}
 use Rattle.macsec_counterexamples.proofs.Restarts.Senders.{kept}
-use Rattle.macsec_link.proofs.Members.{IsMember, member}
+use Rattle.macsec_link.proofs.Members.{member}
 use Rattle.macsec_link.specs.Genuine.{use_opened}
 use Rattle.macsec_reserve.proofs.Pairs.{one_alone}
 use Rattle.macsec_reserve.specs.Journal.{highest, sending_name}
@@ -25,7 +25,7 @@ use Rattle.macsec_reserve.specs.Keeping.{Keeping}
 use Rattle.macsec_restarts.proofs.Examples.Histories.{one}
 use Rattle.macsec_restarts.proofs.Examples.Tags.{octets_1}
 use Rattle.macsec_restarts.proofs.Examples.Told.{IsGood, IsKeyOf, Kind, newly_none, on, short, Told, told_end}
-use Rattle.macsec_restarts.proofs.Examples.TwoRunsEach.{f1, is_free, low_none, none_is, opens_1, reads, reserved_2, t}
+use Rattle.macsec_restarts.proofs.Examples.TwoRunsEach.{f1, is_free, none_is, opens_1, reads, reserved_2, t}
 use Rattle.macsec_restarts.proofs.Examples.TwoRunsEach.{told_1, use_1}
 use Rattle.macsec_restarts.proofs.Examples.Without.{NoPremise, Premise}
 use Rattle.macsec_restarts.specs.AheadRuns.{newly_delivered_with}
@@ -40,7 +40,7 @@ use Rattle.macsec_secy.specs.State.{State}
 use Rattle.macsec_suite.specs.CipherUses.{CipherUse}
 use Rattle.macsec_suite.specs.declared.key_row.NewKey.{NewKey}
 use Rattle.macsec_tag.specs.declared.identifiers.Sci.{Sci}
-use Rattle.std.proofs.Common.{[], ◌++◌, ◌<◌, ◌∙◌, ◌∷◌, ◌≡◌, All, AllPairs, ap, arith, Contains, false, IfSome, inl, inr}
+use Rattle.std.proofs.Common.{[], ◌++◌, ◌<◌, ◌∙◌, ◌∷◌, ◌≡◌, All, AllPairs, ap, arith, Contains, false, IfSome}
 use Rattle.std.proofs.Common.{length, List, map, refl, subst, suc, sym, take, zero, ℕ}
 use Rattle.std.proofs.lemmas.List.Elements.{All-contains}
 use Rattle.macsec_restarts.proofs.Examples.Receivers as receiver
@@ -110,17 +110,9 @@ goes {kind} r of_sci plain told = record {
   ends = sym (ends_same r.calls (opening r) plain) ∙ told.ends;
 }
 
-none_installs : (calls : List Call) → ArePlain calls → (key : NewKey) → IsMember calls (command (Key key)) → ⊥
-none_installs [] plain key there = absurd there
-none_installs (call ∷ calls) plain key (inl here) = subst IsPlain here plain.0
-none_installs (call ∷ calls) plain key (inr later) = none_installs calls plain.1 key later
-
 is_run : {kind : Kind} {sci : Sci} {xs : List SentIn} {ds : List Delivery} {last : Ahead} (r : CallRun) →
-    length kind.salt ≡ 12 → ArePlain r.calls → Goes kind sci r xs ds last → IsRun r
-is_run r long plain it = record {
-  sound = λ n. (it.good n).sound long;
-  usable = λ key there. absurd (none_installs r.calls plain key (member r.calls (command (Key key)) there));
-}
+    length kind.salt ≡ 12 → Goes kind sci r xs ds last → IsRun r
+is_run r long it = record { sound = λ n. (it.good n).sound long }
 
 agree : {kind other : Kind} {sci sci' : Sci} {xs xs' : List SentIn} {ds ds' : List Delivery} {last last' : Ahead}
     (r r' : CallRun) → kind.suite ≡ other.suite → kind.salt ≡ other.salt → Goes kind sci r xs ds last →
@@ -167,7 +159,7 @@ abbrev last_a : Ahead
 last_a = on (kept (salt false) (reads []) (reserved_2 ∷ []) (sender.at_end false))
 
 a_told : Told (short 1) NoPremise [] (opening run_a) (map input_of run_a.calls) (sender.sent false) [] last_a
-a_told = sender.told (salt false) (reads []) false low_none
+a_told = sender.told (salt false) (reads []) false
     (is_free [] (sending_name (salt false) bytes) 1 none_is (omega arith))
 
 a_goes : Goes (short 1) sci_a run_a (sender.sent false) [] last_a
@@ -182,7 +174,7 @@ k_b s = receiver.at (salt false) (reads []) s
 -- before the frame, and after it
 ready_told : Told (short 2) NoPremise [] (opening (run_of set_up_b)) (map input_of set_up_b) [] []
     (on (k_b (receiver.ready false)))
-ready_told = receiver.told (salt false) (reads []) false low_none free_b
+ready_told = receiver.told (salt false) (reads []) false free_b
     (told_end (on (k_b (receiver.ready false))) (receiver.ready_good false))
 
 ready_goes : Goes (short 2) sci_b (run_of set_up_b) [] [] (on (k_b (receiver.ready false)))
@@ -190,7 +182,7 @@ ready_goes = goes (run_of set_up_b) refl plain_set_up ready_told
 
 b_told : Told (short 2) NoPremise (use_1 ∷ []) (opening run_b) (map input_of run_b.calls) [] (receiver.delivery 1 ∷ [])
     (on (k_b (receiver.heard_1 t)))
-b_told = receiver.told (salt false) (reads []) false low_none free_b
+b_told = receiver.told (salt false) (reads []) false free_b
     (told_1 (reads []) (λ d. (0, omega arith, refl))
     (told_end (on (k_b (receiver.heard_1 t))) (receiver.heard_1_good t opens_1)))
 
@@ -307,5 +299,5 @@ meets_all = record {
 }
   where
     by_end : (f : End) → All IsRun (runs_of f events)
-    by_end A = one IsRun run_a (is_run run_a refl plain_a a_goes)
-    by_end B = one IsRun run_b (is_run run_b refl plain_b b_goes)
+    by_end A = one IsRun run_a (is_run run_a refl a_goes)
+    by_end B = one IsRun run_b (is_run run_b refl b_goes)

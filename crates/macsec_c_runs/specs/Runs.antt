@@ -1,9 +1,7 @@
 -- Several runs of an endpoint of the library for C beside one journal. A run is a list of calls (`Call`), and loads are
 -- such lists too. A call `renewal` installs a key that may take the row of a retired one.
-use Rattle.std.specs.Prelude.{◌≡◌, ◌≢◌, ◌<◌, ◌≤◌, ℕ, List, [], ◌∷◌, ◌++◌, map, take, Bool, true, false, Contains}
+use Rattle.std.specs.Prelude.{◌≡◌, ◌≢◌, ◌<◌, ◌≤◌, ℕ, List, [], ◌∷◌, ◌++◌, map, take, Bool, true, Contains}
 use Rattle.std.specs.List.{All, AllPairs}
-use Rattle.macsec_aes.specs.Keys.{key_bytes}
-use Rattle.macsec_suite.specs.declared.key_row.NewKey.{NewKey}
 use Rattle.macsec_commands.specs.declared.command.Command.TheVariants.{Key}
 use Rattle.macsec_commands.specs.declared.config.EndConfig.{EndConfig}
 use Rattle.macsec_secy.specs.Sound.{IsSound}
@@ -12,7 +10,6 @@ use Rattle.macsec_secy.specs.Step.{client_frame, link_frame, operator_command}
 use Rattle.macsec_reserve.specs.declared.reservation.Reservation.{Reservation}
 use Rattle.macsec_reserve.specs.Journal.{highest, reservations, salt_of, sending_name}
 use Rattle.macsec_reserve.specs.Keeping.{KeepingInput, endpoint_input, now_durable}
-use Rattle.macsec_reserve.specs.Renewing.{is_given_up}
 use Rattle.macsec_reserve.specs.Unique.{HasOtherIv}
 use Rattle.macsec_ahead.specs.Ahead.{Ahead, opened_with}
 use Rattle.macsec_restarts.specs.AheadRuns.{AreOfOneSa, delivery_name, newly_accepted}
@@ -68,19 +65,9 @@ accepted r = accepted_by (opening r) r.calls
 
 -- ---- the premises
 
--- the endpoint is sound at each moment, as each call leaves it. A command installs no octets that the journal gives up:
--- all packet numbers are reserved under their name, or under the name of their fingerprint
+-- the endpoint is sound at each moment, as each call leaves it
 pub record IsRun (r : CallRun) : Type 0 where
   pub sound : (n : ℕ) → IsSound (states r n)
-  pub usable : (key : NewKey) → Contains r.calls (command (Key key)) →
-      is_given_up (opening r).k (key_bytes key.bytes) ≡ false
-
--- no more is asked of a run that installs each key as a renewal than that the endpoint is sound
-abbrev pub HasNoKeyCommand : CallRun → Type 0
-HasNoKeyCommand r = (key : NewKey) → Contains r.calls (command (Key key)) → ⊥
-
-abbrev pub IsRunOfRenewals : CallRun → Type 0
-IsRunOfRenewals r = ((n : ℕ) → IsSound (states r n)) → HasNoKeyCommand r → IsRun r
 
 -- of the keys that SAs use in two runs, those with the same octets agree
 abbrev pub AgreeOnKeys : CallRun → CallRun → Type 0

@@ -5,7 +5,7 @@ ghost use Rattle.macsec_tag.specs.declared.identifiers.Sci.{Sci};
 ghost use Rattle.macsec_rx.specs.declared.RxRow.{RxRow};
 ghost use Rattle.macsec_ahead.specs.Ahead.{Ahead};
 ghost use Rattle.macsec_c_calls.specs.GivenUp.{Call};
-ghost use Rattle.macsec_c_runs.specs.Runs.{AcceptsAboveOverCalls, AcceptsOnceOverCalls, CallRun, IsRunOfRenewals};
+ghost use Rattle.macsec_c_runs.specs.Runs.{AcceptsAboveOverCalls, AcceptsOnceOverCalls, CallRun};
 ghost use Rattle.macsec_c_runs.specs.Runs.{IsWeaker, IsWeakerToAccept, NoIvOverCalls, NumbersRiseOverCalls};
 ghost use Rattle.macsec_c_runs.specs.SingleCalls.{BeginsAboveItsEnd, DeliversEachListed, DeliversFromSas, KeepsEnds};
 ghost use Rattle.macsec_c_runs.specs.SingleCalls.{NeverDeliversAgain, NeverDeliversAgainUnder, RefusesBelowEnd};
@@ -20,15 +20,10 @@ use macsec_restarts::laws::{
     seals_each_frame_renewing,
 };
 
-/// A run in which each key is installed as a renewal is one (`IsRun`), if its endpoint is sound at each moment.
-pub fn renewals_make_runs()
-    ensures { (r : CallRun) → IsRunOfRenewals r }
-{}
-
 /// No IV twice over several runs of calls: `no_iv_if_used_is_kept_renewing` of `macsec_restarts`, for callers in C. A
-/// key may also be installed by a command. Premises: each run is one (`IsRun`: sound, and no command installs octets
-/// that the journal gives up); keys that SAs use in two runs and that have the same octets agree; and each later run
-/// reads what was used before, under the names under which it sends.
+/// key may also be installed by a command. Premises: each run is one (`IsRun`: its endpoint is sound at each moment);
+/// keys that SAs use in two runs and that have the same octets agree; and each later run reads what was used before,
+/// under the names under which it sends.
 pub fn no_iv_over_calls()
     ensures { (runs : List CallRun) → NoIvOverCalls runs }
 {

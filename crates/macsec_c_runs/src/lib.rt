@@ -2,7 +2,7 @@
 //! law is the contract of a function that does nothing.
 //!
 //! Proved, over all runs and crashes of endpoints whose keys are installed by commands and as renewals (`laws`). Each
-//! run is one (`IsRun`): its endpoint is sound, and commands install no octets that the journal gives up.
+//! run is one (`IsRun`): its endpoint is sound at each moment, as each call leaves it.
 //! - `no_iv_over_calls`, `no_iv_at_both_over_calls`: no two frames that an end, or two ends, send have the same key
 //!   octets and the same IV.
 //! - `numbers_rise_over_calls`: the packet numbers that are used under the octets of a key rise.
@@ -15,7 +15,6 @@
 //!   higher packet numbers from it.
 //! - `begins_above_its_end_over_calls`: an SA that is deleted begins above its end.
 //! - `lists_each_delivery_over_calls`, `seals_each_frame_over_calls`: what is delivered and sealed is listed.
-//! - `renewals_make_runs`: of a run that installs each key as a renewal, only soundness is asked.
 //!
 //! The calls are those of `macsec_c_calls`. A command can come as a call of its own, a line, a struct or an answer; the
 //! commands of the text of `macsec_reserve_configure` are the first calls; a frame is sent or planned, received or

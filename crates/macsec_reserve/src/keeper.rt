@@ -423,7 +423,7 @@ impl Keeper {
     /// Carries out a management command, as `Secy::command`. If an association would begin at a packet number that an
     /// earlier run may have used, the command is refused with `PnFloor`, before any other refusal.
     ///
-    /// Octets that are given up are not refused: once `renew_forgetting` has installed a key, install none by this call.
+    /// Octets that are given up are not refused: install no key by this call once `renew_forgetting` installed one.
     pub fn command(&mut self, command: &Command) -> Result<(), Refusal>
         ensures output { endpoint_output (output_of_command result)
             ≡ (keeping_step self.old (endpoint_input (operator_command command.now))).0 }

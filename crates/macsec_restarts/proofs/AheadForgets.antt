@@ -4,9 +4,9 @@ use Rattle.macsec_restarts.{
   proofs.{
     AheadInside.{stays_by, takes_by},
     Names.{◌∙◌, ◌≡◌, Ahead, ahead_by, ahead_forgetting_step, Answer, before_stays, begins_again, Bool, endpoint_input},
-    Names.{false, forgetting, forgetting_step, given_up_stays, if◌then◌else◌, Input, Keeping, keeping_step, KeepingInput, lets_through},
-    Names.{None, now_durable, operator_command, Option, refl, retired_by, salt_stays, Some, standing, taken},
-    Names.{then_forget, true, ℕ},
+    Names.{false, forgetting, forgetting_step, given_up_stays, if◌then◌else◌, Input, Keeping, keeping_step},
+    Names.{KeepingInput, lets_through, None, now_durable, operator_command, Option, refl, retired_by, salt_stays},
+    Names.{Some, standing, taken, then_forget, true, ℕ},
   },
   specs.AheadForgetting.{StepsForgetting, TakesTheForgettingStep},
 }
