@@ -36,6 +36,7 @@ static macsec_slot slots[SLOTS];
 static macsec_journal files[FILES];
 static bool made[HANDLES];   /* whether they hold an endpoint */
 static int blocks[HANDLES];  /* and of how many blocks */
+static bool renews[HANDLES]; /* is one of them for the names of keys whose place a new key took? */
 static bool loaded[HANDLES]; /* and is it a copy, which may have others? */
 static char line[LONGEST_LINE];
 
@@ -180,10 +181,10 @@ void __wrap_free(void *block) {
     __real_free(block);
 }
 
-/* An endpoint has 15 blocks, and one more with a journal that has records, or once it has renewed a key; a key has one,
- * a slot three, and the file of a journal five. A load leaves a copy of the endpoint, which can have some more. Only
- * the calls that make one, load or renew a key, a line and a journal ask for blocks; one that answers MACSEC_E_TAKEN or
- * MACSEC_E_EMPTY does not. */
+/* An endpoint has 15 blocks, one more with a journal that has records, and one more once it was to renew a key; a key
+ * has one, a slot three, and the file of a journal five. A load leaves a copy of the endpoint, which can have some
+ * more. Only the calls that make one, load or renew a key, a line and a journal ask for blocks; one that answers
+ * MACSEC_E_TAKEN or MACSEC_E_EMPTY does not. */
 enum { BLOCKS = 15 };
 
 static void check_blocks(const char *name, unsigned handle, bool held_before, uint32_t status) {
@@ -194,7 +195,8 @@ static void check_blocks(const char *name, unsigned handle, bool held_before, ui
     for (size_t i = 0; i < sizeof reading / sizeof reading[0]; i++)
         may_ask = may_ask || strcmp(name, reading[i]) == 0;
     int changed = made[handle] == held_before ? 0 : held_before ? -blocks[handle] : held;
-    int names = strcmp(name, "renew_key") == 0 && held == 1 && (blocks[handle] == BLOCKS || loaded[handle]);
+    int names = strcmp(name, "renew_key") == 0 && held == 1 && (!renews[handle] || loaded[handle]);
+    renews[handle] = changed == 0 && (renews[handle] || names == 1);
     if (strcmp(name, "load") == 0 && status == MACSEC_OK) {
         names = held;
         loaded[handle] = true;
@@ -212,8 +214,8 @@ static void check_blocks(const char *name, unsigned handle, bool held_before, ui
 }
 #else
 static void check_blocks(const char *name, unsigned handle, bool held_before, uint32_t status) {
-    (void)name, (void)handle, (void)held_before, (void)status, (void)blocks, (void)loaded, (void)refused_after,
-        (void)for_jobs;
+    (void)name, (void)handle, (void)held_before, (void)status, (void)blocks, (void)renews, (void)loaded,
+        (void)refused_after, (void)for_jobs;
 }
 #endif
 

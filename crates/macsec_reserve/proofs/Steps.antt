@@ -17,7 +17,15 @@ stays_itself s = record {
   keys = λ key there. record {
     later = key;
     there = there;
-    is_later = record { number = refl; suite = refl; bytes = refl; salt = refl; ssci = refl; offset = refl; first_unused = omega arith };
+    is_later = record {
+      number = refl;
+      suite = refl;
+      bytes = refl;
+      salt = refl;
+      ssci = refl;
+      offset = refl;
+      first_unused = omega arith;
+    };
   };
 }
 
@@ -47,27 +55,32 @@ stays_on s t u first second = record {
 -- the step, by the two tests
 abbrev pub by_tests : Bool → Bool → Keeping → Output × State → KeepingOutput × Keeping
 by_tests below go k answer =
-    if below then (endpoint_output (refused PnFloor), k) else if go then with_step k answer else (dropped_no_reservation, k)
+    if below then (endpoint_output (refused PnFloor), k)
+    else if go then with_step k answer else (dropped_no_reservation, k)
 
 or_true : (b : Bool) → b || true ≡ true
 or_true true = refl
 or_true false = refl
 
 -- a frame from the link is the machine's step
-pub received_step : (k : Keeping) (frame : List ℕ) → keeping_step k (endpoint_input (link_frame frame)) ≡ with_step k (step k.secy (link_frame frame))
+pub received_step : (k : Keeping) (frame : List ℕ) →
+    keeping_step k (endpoint_input (link_frame frame)) ≡ with_step k (step k.secy (link_frame frame))
 received_step k frame = ap (λ (b : Bool). by_tests false b k (step k.secy (link_frame frame))) (or_true (not k.keeps))
 
-keys_by_tests : (below go : Bool) (k : Keeping) (answer : Output × State) → KeysStay k.secy answer.1 → KeysStay k.secy (by_tests below go k answer).1.secy
+keys_by_tests : (below go : Bool) (k : Keeping) (answer : Output × State) → KeysStay k.secy answer.1 →
+    KeysStay k.secy (by_tests below go k answer).1.secy
 keys_by_tests true go k answer stay = stays_itself k.secy
 keys_by_tests false true k answer stay = stay
 keys_by_tests false false k answer stay = stays_itself k.secy
 
-pub keys_stay : Laws → (k : Keeping) (input : KeepingInput) → IsSound k.secy → KeysStay k.secy (keeping_step k input).1.secy
+pub keys_stay : Laws → (k : Keeping) (input : KeepingInput) → IsSound k.secy →
+    KeysStay k.secy (keeping_step k input).1.secy
 keys_stay laws k (now_durable r) sound = stays_itself k.secy
 keys_stay laws k (endpoint_input input) sound =
     keys_by_tests (is_below_floor k input) (may_go k input) k (step k.secy input) (laws.keys_stay k.secy input sound)
 
-before_by_tests : (below go : Bool) (k : Keeping) (answer : Output × State) → (by_tests below go k answer).1.before ≡ k.before
+before_by_tests : (below go : Bool) (k : Keeping) (answer : Output × State) →
+    (by_tests below go k answer).1.before ≡ k.before
 before_by_tests true go k answer = refl
 before_by_tests false true k answer = refl
 before_by_tests false false k answer = refl
@@ -76,33 +89,40 @@ pub before_stays : (k : Keeping) (input : KeepingInput) → (keeping_step k inpu
 before_stays k (now_durable r) = refl
 before_stays k (endpoint_input input) = before_by_tests (is_below_floor k input) (may_go k input) k (step k.secy input)
 
-given_up_by_tests : (below go : Bool) (k : Keeping) (answer : Output × State) → (by_tests below go k answer).1.given_up ≡ k.given_up
+given_up_by_tests : (below go : Bool) (k : Keeping) (answer : Output × State) →
+    (by_tests below go k answer).1.given_up ≡ k.given_up
 given_up_by_tests true go k answer = refl
 given_up_by_tests false true k answer = refl
 given_up_by_tests false false k answer = refl
 
 pub given_up_stays : (k : Keeping) (input : KeepingInput) → (keeping_step k input).1.given_up ≡ k.given_up
 given_up_stays k (now_durable r) = refl
-given_up_stays k (endpoint_input input) = given_up_by_tests (is_below_floor k input) (may_go k input) k (step k.secy input)
+given_up_stays k (endpoint_input input) =
+    given_up_by_tests (is_below_floor k input) (may_go k input) k (step k.secy input)
 
-granted_by_tests : (below go : Bool) (k : Keeping) (answer : Output × State) (name : List ℕ) → highest k.granted name ≤ highest (by_tests below go k answer).1.granted name
+granted_by_tests : (below go : Bool) (k : Keeping) (answer : Output × State) (name : List ℕ) →
+    highest k.granted name ≤ highest (by_tests below go k answer).1.granted name
 granted_by_tests true go k answer name = omega arith
 granted_by_tests false true k answer name = omega arith
 granted_by_tests false false k answer name = omega arith
 
-pub granted_grows : (k : Keeping) (input : KeepingInput) (name : List ℕ) → highest k.granted name ≤ highest (keeping_step k input).1.granted name
+pub granted_grows : (k : Keeping) (input : KeepingInput) (name : List ℕ) →
+    highest k.granted name ≤ highest (keeping_step k input).1.granted name
 granted_grows k (now_durable r) name =
     let raised = raised_reserves r (for_each_key k.salt k.granted k.secy.keys) name in
     omega (arith, raised.0, for_each_key_reserves k.salt k.granted k.secy.keys name)
-granted_grows k (endpoint_input input) name = granted_by_tests (is_below_floor k input) (may_go k input) k (step k.secy input) name
+granted_grows k (endpoint_input input) name =
+    granted_by_tests (is_below_floor k input) (may_go k input) k (step k.secy input) name
 
 -- what is reserved was reserved before, or reported since
-same_by_tests : (below go : Bool) (k : Keeping) (answer : Output × State) (name : List ℕ) → highest (by_tests below go k answer).1.granted name ≡ highest k.granted name
+same_by_tests : (below go : Bool) (k : Keeping) (answer : Output × State) (name : List ℕ) →
+    highest (by_tests below go k answer).1.granted name ≡ highest k.granted name
 same_by_tests true go k answer name = refl
 same_by_tests false true k answer name = refl
 same_by_tests false false k answer name = refl
 
-pub granted_reported : (inputs : List KeepingInput) (k : Keeping) (name : List ℕ) → highest (keeping_after k inputs).granted name ≤ max (highest k.granted name) (highest (reported_in inputs) name)
+pub granted_reported : (inputs : List KeepingInput) (k : Keeping) (name : List ℕ) →
+    highest (keeping_after k inputs).granted name ≤ max (highest k.granted name) (highest (reported_in inputs) name)
 granted_reported [] k name = omega arith
 granted_reported (now_durable r ∷ inputs) k name =
     let raised = raised_reserves r (for_each_key k.salt k.granted k.secy.keys) name in
@@ -114,9 +134,14 @@ granted_reported (now_durable r ∷ inputs) k name =
       highest-append (r ∷ []) (reported_in inputs) name,
     )
 granted_reported (endpoint_input input ∷ inputs) k name =
-    omega (arith, granted_reported inputs (keeping_step k (endpoint_input input)).1 name, same_by_tests (is_below_floor k input) (may_go k input) k (step k.secy input) name)
+    omega (
+      arith,
+      granted_reported inputs (keeping_step k (endpoint_input input)).1 name,
+      same_by_tests (is_below_floor k input) (may_go k input) k (step k.secy input) name,
+    )
 
-keeps_by_tests : (below go : Bool) (k : Keeping) (answer : Output × State) → (by_tests below go k answer).1.keeps ≡ k.keeps
+keeps_by_tests : (below go : Bool) (k : Keeping) (answer : Output × State) →
+    (by_tests below go k answer).1.keeps ≡ k.keeps
 keeps_by_tests true go k answer = refl
 keeps_by_tests false true k answer = refl
 keeps_by_tests false false k answer = refl

@@ -1,6 +1,7 @@
 -- A keeping endpoint: the endpoint of the machine, with what earlier runs may have used and what this run has reserved.
 -- Without a journal it keeps nothing, and is the machine.
-use Rattle.std.specs.Prelude.{ℕ, ◌+◌, ◌-◌, ◌/◌, ◌^◌, min, option_map, List, [], ◌∷◌, ◌++◌, map, drop, length, replicate, nat_lt, nat_le, not, ◌&&◌, ◌||◌, Bool, true, false, if◌then◌else◌, Option, Some, None}
+use Rattle.std.specs.Prelude.{ℕ, ◌+◌, ◌-◌, ◌/◌, ◌^◌, min, option_map, List, [], ◌∷◌, ◌++◌, map, drop, length, replicate}
+use Rattle.std.specs.Prelude.{nat_lt, nat_le, not, ◌&&◌, ◌||◌, Bool, true, false, if◌then◌else◌, Option, Some, None}
 use Rattle.std.specs.List.{list_any}
 use Rattle.macsec_suite.specs.KeyRows.{InstalledKey, key_row, the_key}
 use Rattle.macsec_tag.specs.declared.identifiers.Sci.{Sci}
@@ -29,12 +30,19 @@ pub record Keeping : Type 0 where
 
 -- a keeping endpoint opened with a journal: nothing is reserved, and no name is given up
 abbrev pub opened : EndConfig → List ℕ → Keeping
-opened config journal =
-    record { secy = start config; keeps = true; salt = salt_of journal; before = reduced (reservations journal); granted = []; given_up = [] }
+opened config journal = record {
+  secy = start config;
+  keeps = true;
+  salt = salt_of journal;
+  before = reduced (reservations journal);
+  granted = [];
+  given_up = [];
+}
 
 -- a keeping endpoint made without a journal
 abbrev pub alone : EndConfig → Keeping
-alone config = record { secy = start config; keeps = false; salt = replicate 24 0; before = []; granted = []; given_up = [] }
+alone config =
+    record { secy = start config; keeps = false; salt = replicate 24 0; before = []; granted = []; given_up = [] }
 
 -- the name of the key of this number for sending
 abbrev pub key_name : List ℕ → List InstalledKey → ℕ → List ℕ
@@ -54,7 +62,9 @@ for_each_key salt granted keys = granted ++ map (nothing_yet salt) (drop (length
 
 -- a packet number may be used under a key if no earlier run may have used it, and if this run has reserved it
 abbrev pub may_use : Keeping → UsedNumber → Bool
-may_use k u = let name = key_name k.salt k.secy.keys u.0 in nat_lt (highest k.before name) u.1 && nat_le u.1 (highest k.granted name)
+may_use k u =
+    let name = key_name k.salt k.secy.keys u.0 in
+    nat_lt (highest k.before name) u.1 && nat_le u.1 (highest k.granted name)
 
 -- the endpoint may use every packet number that the machine would use for this input
 abbrev pub uses_reserved : Keeping → Input → Bool
@@ -83,12 +93,14 @@ is_below_floor k input = false
 -- the highest packet number that an earlier run may have used under the key of this number in frames that the endpoint
 -- sent, if there is such a key
 abbrev pub tx_floor : Keeping → ℕ → Option ℕ
-tx_floor k key = option_map (λ (row : InstalledKey). highest k.before (sending_name k.salt row.bytes)) (key_row k.secy.keys key)
+tx_floor k key = option_map (λ (row : InstalledKey). highest k.before (sending_name k.salt row.bytes))
+    (key_row k.secy.keys key)
 
 -- the same for frames from this SCI that the receive SA of this number accepted
 abbrev pub rx_floor : Sci → ℕ → Keeping → ℕ → Option ℕ
 rx_floor sci an k key =
-    option_map (λ (row : InstalledKey). highest k.before (receiving_name (sending_name k.salt row.bytes) sci an)) (key_row k.secy.keys key)
+    option_map (λ (row : InstalledKey). highest k.before (receiving_name (sending_name k.salt row.bytes) sci an))
+    (key_row k.secy.keys key)
 
 -- ---- steps
 
@@ -105,8 +117,8 @@ pub data KeepingOutput : Type 0 where
 abbrev pub with_step : Keeping → Output × State → KeepingOutput × Keeping
 with_step k answer = (endpoint_output answer.0, record k { secy = answer.1 })
 
--- the machine's step, with two exceptions, in which nothing changes: no SA begins at a number that an earlier run may have
--- used, and no packet number is used which is not reserved
+-- the machine's step, with two exceptions, in which nothing changes: no SA begins at a number that an earlier run may
+-- have used, and no packet number is used which is not reserved
 abbrev pub keeping_step : Keeping → KeepingInput → KeepingOutput × Keeping
 keeping_step k (now_durable r) =
     (noted, record k { granted = map (raised_by r) (for_each_key k.salt k.granted k.secy.keys) })
@@ -122,8 +134,8 @@ keeping_after k (input ∷ inputs) = keeping_after (keeping_step k input).1 inpu
 
 -- ---- what to reserve next
 
--- the last number to reserve, if fewer than half of `amount` numbers are left: `amount` above the next number, and at most
--- 2^64 - 1
+-- the last number to reserve, if fewer than half of `amount` numbers are left: `amount` above the next number, and at
+-- most 2^64 - 1
 abbrev pub wanted_last : ℕ → ℕ → ℕ → Option ℕ
 wanted_last reserved next amount =
     if nat_le (2 ^ 64) next then None

@@ -1,5 +1,6 @@
 -- A keeping endpoint that takes a new key under the number of a retired one.
-use Rattle.std.specs.Prelude.{◌≡◌, ◌⊎◌, ℕ, ◌+◌, ◌==◌, List, [], ◌∷◌, ◌++◌, set, ◌||◌, Bool, true, false, if◌then◌else◌, Option, Some, None}
+use Rattle.std.specs.Prelude.{◌≡◌, ◌⊎◌, ℕ, ◌+◌, ◌==◌, List, [], ◌∷◌, ◌++◌, set, ◌||◌, Bool, true, false}
+use Rattle.std.specs.Prelude.{if◌then◌else◌, Option, Some, None}
 use Rattle.std.specs.List.{list_any}
 use Rattle.macsec_aes.specs.Keys.{key_bytes}
 use Rattle.macsec_suite.specs.declared.key_row.NewKey.{NewKey}
@@ -19,18 +20,20 @@ abbrev pub place_of : List InstalledKey → ℕ → ℕ
 place_of [] n = 0
 place_of (row ∷ rows) n = if row.number == n then 0 else place_of rows n + 1
 
--- what was reported durable: the entry at the place of the key that had the number, if there is one, is of the new key, with
--- nothing reserved. The entry of a forgotten key has the name of its octets, so the place decides, and not the name
+-- what was reported durable: the entry at the place of the key that had the number, if there is one, is of the new key,
+-- with nothing reserved. The entry of a forgotten key has the name of its octets, so the place decides, not the name
 abbrev pub entries_renewed : List ℕ → NewKey → List InstalledKey → List Reservation → List Reservation
 entries_renewed salt key keys granted =
-    if is_number_used keys key.number then set granted (place_of keys key.number) (record { name = sending_name salt (key_bytes key.bytes); last = 0 }) else granted
+    if is_number_used keys key.number
+    then set granted (place_of keys key.number) (record { name = sending_name salt (key_bytes key.bytes); last = 0 })
+    else granted
 
 -- the names that are given up: the name of the key that had the number, if there is one, is one more
 abbrev pub names_renewed : List ℕ → NewKey → List InstalledKey → List (List ℕ) → List (List ℕ)
 names_renewed salt key keys given_up =
     if is_number_used keys key.number then given_up ++ key_name salt keys key.number ∷ [] else given_up
 
--- with the new key. What earlier runs reserved stays under every name, and so does what this run reserved for other keys
+-- with the new key. What earlier runs reserved stays, and so does what this run reserved for other keys
 abbrev pub keeping_renewed : NewKey → Keeping → Keeping
 keeping_renewed key k = record k {
   secy = renewing key k.secy;
@@ -57,10 +60,11 @@ is_name_given_up k name = has_name k.given_up name
 
 -- a new key took the row of the key with these octets, or with their fingerprint
 abbrev pub is_given_up : Keeping → List ℕ → Bool
-is_given_up k bytes = is_name_given_up k (sending_name k.salt bytes) || is_name_given_up k (sending_name k.salt (fingerprint k.salt bytes))
+is_given_up k bytes = is_name_given_up k (sending_name k.salt bytes)
+    || is_name_given_up k (sending_name k.salt (fingerprint k.salt bytes))
 
--- why a new key is refused, if it is, by an endpoint that forgets retired keys: octets that are given up are refused before
--- any other refusal
+-- why a new key is refused, if it is, by an endpoint that forgets retired keys: octets that are given up are refused
+-- before any other refusal
 abbrev pub refusal_if : Bool → Option Refusal → Option Refusal
 refusal_if true r = Some KeyRepeated
 refusal_if false r = r
@@ -77,7 +81,8 @@ forgetting_after_renewing k key = unless_refused (forgetting_refusal k key) (as_
 abbrev pub GivesUpOctets : Keeping → NewKey → List ℕ → Type 0
 GivesUpOctets k key bytes =
     is_number_used k.secy.keys key.number ≡ true →
-    ((the_key k.secy.keys key.number).bytes ≡ bytes) ⊎ ((the_key k.secy.keys key.number).bytes ≡ fingerprint k.salt bytes) →
+    ((the_key k.secy.keys key.number).bytes ≡ bytes)
+    ⊎ ((the_key k.secy.keys key.number).bytes ≡ fingerprint k.salt bytes) →
     is_given_up (keeping_renewed key k) bytes ≡ true
 
 -- and other renewals keep it so
@@ -91,7 +96,8 @@ StaysGivenUpBy k input bytes = is_given_up k bytes ≡ true → is_given_up (for
 -- such a key is refused as a repeated one, and nothing changes
 abbrev pub RefusesGivenUp : Keeping → NewKey → Type 0
 RefusesGivenUp k key =
-    is_given_up k (key_bytes key.bytes) ≡ true → (forgetting_refusal k key ≡ Some KeyRepeated) × (forgetting_after_renewing k key ≡ k)
+    is_given_up k (key_bytes key.bytes) ≡ true →
+    (forgetting_refusal k key ≡ Some KeyRepeated) × (forgetting_after_renewing k key ≡ k)
 
 -- no floor changes: what an earlier run may have used stays refused, and nothing else is
 abbrev pub KeepsFloors : Keeping → NewKey → Type 0
