@@ -1,3 +1,4 @@
+pub mod CounterLanes
 pub mod Iterations
 pub mod KeyStreams
 pub mod Opening

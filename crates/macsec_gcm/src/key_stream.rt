@@ -6,7 +6,7 @@ ghost use Rattle.macsec_gcm.specs.Gcm.{inc32};
 ghost use Rattle.macsec_gcm.specs.Octets.{sum_with_stream};
 ghost use Rattle.macsec_gcm.specs.Streams.{IsSumBelow, key_stream};
 
-use crate::counter_blocks::{blocks_from, inc32};
+use crate::counter_blocks::{block_after, blocks_by_vectors, blocks_from, inc32};
 use macsec_aes_lanes::{LaneSchedule, encrypt6, encrypt8, encrypt16};
 use std::simd::{u8x16, u8x32};
 
@@ -16,8 +16,8 @@ fn write_sixteen(schedule: &LaneSchedule, first: [u8; 16], octets: &mut [u8]) ->
     ensures stream { (k : ℕ) → k < 256 → slice_index octets.new k ≡ key_stream schedule.now first k }
     ensures next { result ≡ iterate inc32 16 first }
 {
-    let mut blocks = blocks_from::<16>(first);
-    let next = inc32(blocks[15]);
+    let mut blocks = blocks_by_vectors::<16>(first);
+    let next = block_after(blocks[15]);
     encrypt16(schedule, &mut blocks);
     octets.copy_from_slice(blocks.as_flattened());
     next
@@ -30,8 +30,8 @@ fn write_eight(schedule: &LaneSchedule, first: [u8; 16], octets: &mut [u8]) -> [
     ensures stream { (k : ℕ) → k < 128 → slice_index octets.new k ≡ key_stream schedule.now first k }
     ensures next { result ≡ iterate inc32 8 first }
 {
-    let mut blocks = blocks_from::<8>(first);
-    let next = inc32(blocks[7]);
+    let mut blocks = blocks_by_vectors::<8>(first);
+    let next = block_after(blocks[7]);
     encrypt8(schedule, &mut blocks);
     octets.copy_from_slice(blocks.as_flattened());
     next
