@@ -94,7 +94,7 @@
  *
  * In the calls for keys, frames and jobs no branch and no address depends on a key or on data, except the verdict, the
  * refusal KeyRepeated (is the key one of the endpoint's, or its fingerprint a retired key's?), whether a key that is
- * installed has the 64-bit checksum of one that the endpoint has, and MACSEC_E_OTHER_KEY (is it the key of the job?).
+ * installed has the 32-bit checksum of one that the endpoint has, and MACSEC_E_OTHER_KEY (is it the key of the job?).
  * The digits of a key in a line or a text decide two branches more, in the same way for every key: does an octet end
  * the word or the line, and are all of them hex digits? With a journal, and once a key is renewed, names of keys decide
  * branches too: they are digests, which the journal shows. This is measured on the libraries by

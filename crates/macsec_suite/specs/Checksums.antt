@@ -6,7 +6,7 @@ use Rattle.macsec_suite.specs.KeyRows.{InstalledKey}
 
 -- the checksum after one more octet
 unfoldable pub checksum_next : ℕ → ℕ → ℕ
-checksum_next checksum octet = ((checksum * 1099511628211) % 2 ^ 64 + octet) % 2 ^ 64
+checksum_next checksum octet = ((checksum * 16777619) % 2 ^ 32 + octet) % 2 ^ 32
 
 -- the checksum of a key's octets
 abbrev pub checksum_of : List ℕ → ℕ

@@ -64,7 +64,7 @@ pub struct KeyTable {
     /// For each key number, the index of its row.
     places: Vec<u16>,
     /// For each row, the checksum of its key's octets.
-    checksums: Vec<u64>,
+    checksums: Vec<u32>,
     /// Whether a key was ever retired.
     retires: bool,
     /// How many keys have extended packet numbers and are not retired.
@@ -509,7 +509,7 @@ fn append_clones(rows: &mut Vec<StoredKey>, more: &[StoredKey]) -> Result<(), Al
 }
 
 /// A copy of these checksums, with space for those of 4,096 keys.
-fn clone_of(alloc: Global, checksums: &[u64]) -> Result<Vec<u64>, AllocError>
+fn clone_of(alloc: Global, checksums: &[u32]) -> Result<Vec<u32>, AllocError>
     ensures items { IfOk result (λ copy. copy.items ≡ checksums.now) }
     ensures space { IfOk result (λ copy. max_key_count ≤ vec_capacity copy) }
 {
