@@ -1,7 +1,5 @@
 //! Failing devices. Shared by the tests: a script, and a capture in each direction with its configuration.
 
-mod ends;
-mod records;
 mod runs;
 
 /// A script without a fault.

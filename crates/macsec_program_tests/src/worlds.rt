@@ -1,6 +1,5 @@
-//! Two ends over a link. Shared by the tests: the ends, and worlds that carried out the events of a script.
+//! Two ends over a link. Shared by the tests: worlds that carried out the events of a script.
 
-mod limits;
 mod logs;
 
 use macsec_link::{EndConfig, Sci, Suite, TagForm, World};
@@ -10,7 +9,7 @@ use std::process::Abort;
 use std::test::Fail;
 
 /// End A, with the SCI 12153524c0895e81.
-pub const A: EndConfig = EndConfig {
+const A: EndConfig = EndConfig {
     suite: Suite::Gcm128,
     sci: Sci([0x12, 0x15, 0x35, 0x24, 0xc0, 0x89, 0x5e, 0x81]),
     max_frame: 1518,
@@ -18,7 +17,7 @@ pub const A: EndConfig = EndConfig {
 };
 
 /// End B.
-pub const B: EndConfig = EndConfig {
+const B: EndConfig = EndConfig {
     sci: Sci([0, 0, 0, 0, 0, 0, 0, 2]),
     form: TagForm::Auto,
     ..A

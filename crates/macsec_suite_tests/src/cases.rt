@@ -1,7 +1,7 @@
-//! Test cases of AES-GCM with keys of 128 and 256 bits, sealed, opened, and refused with another tag.
+//! Test cases of AES-GCM with keys of 128 and 256 bits, sealed.
 
 use macsec_aes::Key;
-use macsec_gcm::{GcmKey, inc32};
+use macsec_gcm::GcmKey;
 
 /// A key, an IV, additional authenticated data, a plaintext, its ciphertext, and the tag.
 type Case = (
@@ -83,7 +83,7 @@ const CASES: [Case; 5] = [
     ),
 ];
 
-/// Whether a plaintext of at most 60 octets is sealed as its ciphertext, stays so with another tag, and opens again.
+/// Whether a plaintext of at most 60 octets is sealed as its ciphertext and tag.
 fn is_as_known(case: &Case) -> bool {
     let (key, iv, aad, plaintext, ciphertext, tag) = case;
     let mut octets = [0; 60];
@@ -94,13 +94,7 @@ fn is_as_known(case: &Case) -> bool {
         return false;
     }
     text.copy_from_slice(plaintext);
-    let key = GcmKey::new(*key);
-    key.seal(iv, aad, text) == tag.to_be_bytes()
-        && &*text == *ciphertext
-        && !key.open(iv, aad, text, &(*tag ^ 1).to_be_bytes())
-        && &*text == *ciphertext
-        && key.open(iv, aad, text, &tag.to_be_bytes())
-        && &*text == *plaintext
+    GcmKey::new(*key).seal(iv, aad, text) == tag.to_be_bytes() && &*text == *ciphertext
 }
 
 #[test]
@@ -108,5 +102,4 @@ fn cases_of_gcm(rt: HostRuntime) {
     for case in &CASES {
         assert!(rt; is_as_known(case));
     }
-    assert!(rt; inc32([0xff; 16]) == (u128::MAX << 32).to_be_bytes());
 }

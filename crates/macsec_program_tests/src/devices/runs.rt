@@ -67,8 +67,8 @@ type Stop = (usize, usize);
 type Device = (Place, Answer, &'static [(usize, Stop)]);
 
 /// A read returns at most 16 octets, and the last one none. The header of a file is written by one call, a record by
-/// two, and a line of a script by one. In a line of a capture each piece (such as `3` and ` done`) and each octet in hex
-/// is one call. The stops of a capture are after the configuration, the header, and each record.
+/// two, and a line of a script by one. In a line of a capture each piece (such as `3` and ` done`) and each octet in
+/// hex is one call. The stops of a capture are after the configuration, the header, and each record.
 const DEVICES_OF_SCRIPT: [Device; 2] = [
     (Place::Source, ("script", "Read"), &[(13, (0, 0))]),
     (Place::Text, ("script", "Write"), &[(4, (0, 0))]),
@@ -136,8 +136,8 @@ fn devices_of(alloc: Global, run: &Run, place: Place, fails: Fails) -> Devices<'
     Devices {
         source: FailingReader::new(source, 16, if_at(place, Place::Source, fails)),
         input: FailingReader::new(run.input, 16, if_at(place, Place::Input, fails)),
-        output: FailingWriter::new(alloc, if_at(place, Place::Output, fails), false),
-        text: FailingWriter::new(alloc, if_at(place, Place::Text, fails), false),
+        output: FailingWriter::new(alloc, if_at(place, Place::Output, fails)),
+        text: FailingWriter::new(alloc, if_at(place, Place::Text, fails)),
     }
 }
 

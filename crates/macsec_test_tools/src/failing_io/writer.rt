@@ -1,6 +1,6 @@
 //! A writer that fails.
 
-ghost use Rattle.std.specs.Prelude.{◌≡◌, [], IfOk, Some, false, is_err};
+ghost use Rattle.std.specs.Prelude.{◌≡◌, [], IfOk, Some, false};
 ghost use Rattle.std.specs.Io.KnownBytes.{Keeps, WriteAppends};
 ghost use Rattle.std.specs.Io.{WritesAtMost};
 ghost use Rattle.macsec_test_tools.specs.Calls.{fails_at};
@@ -9,37 +9,31 @@ use super::Fails;
 use std::alloc::Global;
 use std::io::{self, Write};
 
-/// A writer to memory, whose flush can fail too. It counts its calls, the calls after it failed, and its flushes.
+/// A writer to memory. It counts its calls, and the calls after it failed.
 #[derive(Drop)]
 pub struct FailingWriter {
     written: Vec<u8>,
     fails: Fails,
-    flush_fails: bool,
     calls: usize,
     has_failed: bool,
     calls_after: usize,
-    flushes: usize,
 }
 
 impl FailingWriter {
     /// A writer that has written nothing.
-    pub fn new(alloc: Global, fails: Fails, flush_fails: bool) -> FailingWriter
+    pub fn new(alloc: Global, fails: Fails) -> FailingWriter
         ensures written { result.written.items ≡ [] }
         ensures fails { result.fails ≡ fails }
-        ensures flush_fails { result.flush_fails ≡ flush_fails }
         ensures calls { result.calls ≡ 0 }
         ensures has_failed { result.has_failed ≡ false }
         ensures calls_after { result.calls_after ≡ 0 }
-        ensures flushes { result.flushes ≡ 0 }
     {
         FailingWriter {
             written: Vec::new(alloc),
             fails,
-            flush_fails,
             calls: 0,
             has_failed: false,
             calls_after: 0,
-            flushes: 0,
         }
     }
 
@@ -62,13 +56,6 @@ impl FailingWriter {
         ensures { result ≡ self.now.calls_after }
     {
         self.calls_after
-    }
-
-    /// The number of flushes.
-    pub fn flushes(&self) -> usize
-        ensures { result ≡ self.now.flushes }
-    {
-        self.flushes
     }
 }
 
@@ -95,12 +82,7 @@ impl Write for FailingWriter {
 
     fn flush(&mut self) -> io::Result<()>
         ensures bytes { Keeps (Some self.old.written.items) (Some self.new.written.items) }
-        ensures fails { is_err result ≡ self.old.flush_fails }
     {
-        self.flushes = self.flushes.saturating_add(1);
-        if self.flush_fails {
-            return Err(io::Error::from(io::ErrorKind::Other));
-        }
         Ok(())
     }
 }
