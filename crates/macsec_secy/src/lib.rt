@@ -426,7 +426,8 @@ impl Secy {
 
     /// Receives a link frame as `receive` does, with what `open_frame` gave for it, if anything. The delivered frame is
     /// in `out`, which has `MAX_FRAME_LEN` octets or more, and was not changed since. If the frame is now to be opened
-    /// under another key or IV, or not at all, what was opened is not used.
+    /// under another key or IV, or not at all, what was opened is not used. The octets of `out` that are not delivered
+    /// mean nothing afterwards, nor do any after a fault.
     pub fn finish_receive<'a>(
         &mut self,
         frame: &'a [u8],
@@ -474,6 +475,7 @@ impl Secy {
         requires opened { OpensFrame opened.now self.old.keys frame.now out.old }
         ensures after { self.new ≡ (limited_step self.old limits.now frame.now).1 }
         ensures output { output_of_placed result frame.now out.new ≡ (limited_step self.old limits.now frame.now).0 }
+        ensures unwritten { OnErr result (out.new ≡ out.old) }
         ensures within { IsPlacedWithin result (length out.new) }
         ensures before { IsSound self.old }
         ensures sound { IsSound self.new }

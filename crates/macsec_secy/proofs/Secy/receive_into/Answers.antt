@@ -10,7 +10,8 @@ use Rattle.macsec_secy.{
 use Rattle.macsec_secy.proofs.Secy.receive_into.Goals as goal
 
 stepped : (c : After-receive_frame_within-outcome) →
-    IsLimitedStep (the_view c.self.inside) c.args.limits.now c.args.frame.now c.receive_frame_within-outcome.new.out c.receive_frame_within-outcome.result c.receive_frame_within-outcome.new.channels
+    IsLimitedStep (the_view c.self.inside) c.args.limits.now c.args.frame.now c.receive_frame_within-outcome.new.out
+    c.receive_frame_within-outcome.result c.receive_frame_within-outcome.new.channels
     c.receive_frame_within-outcome.new.rx_counters.items c.receive_frame_within-outcome.new.counters
 stepped c = c.receive_frame_within-outcome.ensures.step (the_view c.self.inside) (record {
   same_options = c.rx_options-options.ensures ∙ ap rx_options (sym c.self.view_is);
@@ -21,20 +22,28 @@ stepped c = c.receive_frame_within-outcome.ensures.step (the_view c.self.inside)
 })
 
 sound : (c : After-receive_frame_within-outcome) →
-    IsSound (with_received (the_view c.self.inside) c.receive_frame_within-outcome.new.channels c.receive_frame_within-outcome.new.rx_counters.items c.receive_frame_within-outcome.new.counters)
+    IsSound (with_received (the_view c.self.inside) c.receive_frame_within-outcome.new.channels
+    c.receive_frame_within-outcome.new.rx_counters.items c.receive_frame_within-outcome.new.counters)
 sound c =
     let o = c.receive_frame_within-outcome in
-    limited_sound (the_view c.self.inside) c.args.limits.now c.args.frame.now o.new.out o.result o.new.channels o.new.rx_counters.items o.new.counters c.self.invariant.sound (stepped c) o.ensures.channels
+    limited_sound (the_view c.self.inside) c.args.limits.now c.args.frame.now o.new.out o.result o.new.channels
+    o.new.rx_counters.items o.new.counters c.self.invariant.sound (stepped c) o.ensures.channels
 
 left : (c : After-receive_frame_within-outcome) →
-    with_received (the_view c.self.inside) c.receive_frame_within-outcome.new.channels c.receive_frame_within-outcome.new.rx_counters.items c.receive_frame_within-outcome.new.counters ≡
+    with_received (the_view c.self.inside) c.receive_frame_within-outcome.new.channels
+    c.receive_frame_within-outcome.new.rx_counters.items c.receive_frame_within-outcome.new.counters ≡
     (limited_step (the_view c.self.inside) c.args.limits.now c.args.frame.now).1
 left c =
     let o = c.receive_frame_within-outcome in
-    after_is (the_view c.self.inside) c.args.limits.now c.args.frame.now o.new.out o.result o.new.channels o.new.rx_counters.items o.new.counters (stepped c)
+    after_is (the_view c.self.inside) c.args.limits.now c.args.frame.now o.new.out o.result o.new.channels
+    o.new.rx_counters.items o.new.counters (stepped c)
 
 pub invariant_of-self : goal.invariant_of-self
-invariant_of-self c = record { sound = sound (goal.at.invariant_of-self c).After-receive_frame_within-outcome; room = c.self.invariant.room }
+invariant_of-self c = record {
+  sound = sound (goal.at.invariant_of-self c).After-receive_frame_within-outcome;
+  room =
+      c.self.invariant.room;
+}
 
 pub returns : goal.returns
 returns c =
@@ -45,8 +54,10 @@ returns c =
     let after = (goal.at.returns c).After-receive_frame_within-outcome in
     record {
       after = left after ∙ ap (λ t. (limited_step t limits frame).1) s.view_is;
-      output = output_is (the_view s.inside) limits frame o.new.out o.result o.new.channels o.new.rx_counters.items o.new.counters (stepped after)
+      output = output_is (the_view s.inside) limits frame o.new.out o.result o.new.channels o.new.rx_counters.items
+          o.new.counters (stepped after)
           ∙ ap (λ t. (limited_step t limits frame).0) s.view_is;
+      unwritten = tt;
       within = placed_within o.result (length o.new.out) o.ensures.within;
       before = subst IsSound s.view_is s.invariant.sound;
       sound = sound after;
