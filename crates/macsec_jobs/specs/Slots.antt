@@ -17,10 +17,19 @@ use Rattle.macsec_jobs.specs.declared.work.Work.{Work}
 use Rattle.macsec_jobs.specs.declared.work.Work.TheVariants.{Nothing, Seal, Open, Finish}
 use Rattle.macsec_jobs.specs.PlannedKeys.{IsGone, is_installed, key_of, same_key}
 
+-- the work, its key, the frame, what is behind it in its buffer, and the buffer that a job writes
 pub record SlotState : Type 0 where
   pub work : Work
   pub key : PlannedKey
   pub frame : List ℕ
+  pub rest : List ℕ
+  pub out : List ℕ
+
+-- neither buffer is written
+pub record LeavesBuffers (s t : SlotState) : Type 0 where
+  pub frame : t.frame ≡ s.frame
+  pub rest : t.rest ≡ s.rest
+  pub out : t.out ≡ s.out
 
 -- ---- the work
 

@@ -6,13 +6,15 @@
 //! Proved: `plan_send` is the step of `AheadKeeper::send`, and `frame_planned` of the slot is the frame of the
 //! step's output. `seal` writes that frame and nothing behind it, if the key is the one of the plan
 //! (`specs/Slots.antt`, `seal_fault`), and leaves the slot without a frame: so a job is sealed at most once. A slot
-//! without a frame has no octet of a key (`IsGone`, an invariant). `finish_receive` is the step of
-//! `AheadKeeper::receive` for the frame of the slot, with any endpoint, whatever was opened before and with
-//! whatever key. Only these functions write a slot, so only what the step delivers is delivered: a slot with an
-//! opened frame keeps the key with which the frame was opened, and the endpoint uses what was opened only if it has
-//! the same key under the same number. By their types only `Slot::new` takes an allocator.
+//! without a frame has no key (`IsGone`, an invariant), and `clear` and `seal` write neither of its buffers
+//! (`LeavesBuffers`). `finish_receive` is the step of `AheadKeeper::receive` for the frame of the slot, with any
+//! endpoint, whatever was opened before and with whatever key. Only these functions write a slot, so only what the
+//! step delivers is delivered: a slot with an opened frame keeps the key with which the frame was opened, and the
+//! endpoint uses what was opened only if it has the same key under the same number. By their types only `Slot::new`
+//! takes an allocator.
 //!
-//! What a slot saves is tested, not proved: no clause says that `finish_receive` does not open a frame again.
+//! Tested, not proved: what a slot saves (no clause says that `finish_receive` does not open a frame again), and that
+//! `open` and `finish_receive` leave nothing of a key in its buffers.
 #![tactic(auto)]
 
 mod answers;

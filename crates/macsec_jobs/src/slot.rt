@@ -16,7 +16,7 @@ ghost use Rattle.macsec_jobs.specs.Answers.{output_of_finished, output_of_plan};
 ghost use Rattle.macsec_jobs.specs.declared.work.Work.TheVariants.{Seal};
 ghost use Rattle.macsec_jobs.specs.PlannedKeys.{IsGone, is_installed, key_of};
 ghost use Rattle.macsec_jobs.specs.Slots.{frame_planned, is_idle, is_opening, is_received, is_sealing, open_fault};
-ghost use Rattle.macsec_jobs.specs.Slots.{seal_fault, usable};
+ghost use Rattle.macsec_jobs.specs.Slots.{LeavesBuffers, seal_fault, usable};
 
 use crate::{Finished, JobFault, JobKey, PlannedKey, Reception, SendPlan, Work};
 use macsec_ahead::{AheadKeeper, LimitedReceived, OutsidePn};
@@ -29,8 +29,8 @@ use std::alloc::{AllocError, Global};
 use std::marker::Model;
 use std::mem;
 
-/// A frame, the job that was planned for it, and the buffer that the job writes. Contracts see the job with its key,
-/// and the frame.
+/// A frame, the job that was planned for it, and the buffer that the job writes. Contracts see all of it, and where
+/// the frame ends in its buffer.
 #[derive(Drop)]
 pub struct Slot {
     work: Work,
@@ -44,12 +44,18 @@ pub struct Slot {
 }
 
 impl Model for Slot {
-    ghost use Rattle.std.specs.Prelude.{take, vec_len};
+    ghost use Rattle.std.specs.Prelude.{drop, take, vec_len};
     ghost use Rattle.macsec_jobs.specs.Slots.{IsSlot, SlotState};
 
     ghost Value = { SlotState };
 
-    ghost view = { λ s. record { work = s.work; key = s.key; frame = take s.frame_length s.frame.items } };
+    ghost view = { λ s. record {
+      work = s.work;
+      key = s.key;
+      frame = take s.frame_length s.frame.items;
+      rest = drop s.frame_length s.frame.items;
+      out = s.out.items;
+    } };
 
     // The buffers hold the longest frame. The job fits the frame and the key. An opened frame was opened with the key.
     ghost invariant = { λ s. IsSlot s.work s.key s.frame_length s.frame.items s.out.items (vec_len s.frame)
@@ -99,10 +105,11 @@ impl Slot {
     }
 
     /// Gives up the frame. The packet number of a frame that was to be sealed is used, and a link frame is not
-    /// received. Nothing of the key stays.
+    /// received. Nothing of the key stays, and the buffers are not written.
     pub fn clear(&mut self)
         ensures idle { is_idle self.new.work ≡ true }
         ensures gone { IsGone self.new.key }
+        ensures buffers { LeavesBuffers self.old self.new }
     {
         self.work = Work::Nothing;
         self.key = PlannedKey::none();
@@ -150,7 +157,8 @@ impl Slot {
     }
 
     /// Writes the protected frame to the start of `out` and returns its length. What is behind it stays. The slot is
-    /// then without a frame, and nothing of the key stays. The key must be the one of the plan.
+    /// then without a frame, nothing of the key stays, and its buffers are not written. The key must be the one of the
+    /// plan.
     ///
     /// Errors: `NoJob`, `OtherKey`, then `Space`. Then the slot and `out` are unchanged.
     pub fn seal(&mut self, key: &JobKey, out: &mut [u8]) -> Result<usize, JobFault>
@@ -161,6 +169,7 @@ impl Slot {
         ensures rest { IfOk result (λ n. drop n out.new ≡ drop n out.old) }
         ensures spent { OnOk result (is_idle self.new.work ≡ true) }
         ensures gone { OnOk result (IsGone self.new.key) }
+        ensures buffers { LeavesBuffers self.old self.new }
         ensures kept { OnErr result (self.new ≡ self.old) }
         ensures unwritten { OnErr result (out.new ≡ out.old) }
     {
