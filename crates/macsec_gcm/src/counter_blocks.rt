@@ -1,6 +1,20 @@
 //! The counter blocks of a text (SP 800-38D, 6.2 and 7.1).
 
-ghost use Rattle.std.specs.Prelude.{◌≡◌, ℕ, ◌+◌, ◌-◌, ◌/◌, ◌%◌, ◌^◌, ◌<◌, [], drop, length, slice_index, slice_index_or};
+ghost use Rattle.std.specs.Prelude.{
+  ◌≡◌,
+  ℕ,
+  ◌+◌,
+  ◌-◌,
+  ◌/◌,
+  ◌%◌,
+  ◌^◌,
+  ◌<◌,
+  [],
+  drop,
+  length,
+  slice_index,
+  slice_index_or,
+};
 ghost use Rattle.std.specs.Fn.{iterate};
 ghost use Rattle.std.specs.Int.{w32, from_le_bytes};
 ghost use Rattle.macsec_gcm.specs.Gcm.{inc32, pre_counter_block};

@@ -150,8 +150,8 @@ impl<'k> KeyStream<'k> {
         }
     }
 
-    /// Computes the first batch, in place. Returns the key stream of its first counter block. The next octets are the key
-    /// stream of the counter block after it.
+    /// Computes the first batch, in place. Returns the key stream of its first counter block. The next octets are the
+    /// key stream of the counter block after it.
     #[inline(always)]
     pub fn begin(&mut self) -> [u8; 16]
         ensures stream { IsStreamAt self.new self.old.schedule.now (inc32 self.old.counter) 0 }
@@ -194,8 +194,8 @@ impl<'k> KeyStream<'k> {
         count
     }
 
-    /// If all octets are used, computes the next batch: 16 blocks if more than 192 octets are `wanted`, eight for seven or
-    /// eight blocks, otherwise six. Twice six take less than 16.
+    /// If all octets are used, computes the next batch: 16 blocks if more than 192 octets are `wanted`, eight for
+    /// seven or eight blocks, otherwise six. Twice six take less than 16.
     fn refill(&mut self, wanted: usize)
         ensures some { self.new.used < 256 }
         ensures same { (key icb : List ℕ) (n : ℕ) → IsStreamAt self.old key icb n → IsStreamAt self.new key icb n }

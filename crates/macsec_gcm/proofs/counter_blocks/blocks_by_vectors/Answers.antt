@@ -13,7 +13,8 @@ loop-i-preserved g c =
     let last : i - 1 + 1 ≡ i = omega arith in
     let later : i + 1 - 1 ≡ i = omega arith in
     let next : c.next_block-next.result ≡ iterate inc32 i first =
-    c.next_block-next.ensures ∙ ap inc32 c.loop-i.invariant.last ∙ sym (iterate_more inc32 (i - 1) first) ∙ ap (λ (n : ℕ). iterate inc32 n first) last in
+    c.next_block-next.ensures ∙ ap inc32 c.loop-i.invariant.last ∙ sym (iterate_more inc32 (i - 1) first) ∙ ap (λ
+    (n : ℕ). iterate inc32 n first) last in
     record {
       count = search rules;
       made = rw next (fill_by_more (λ k. iterate inc32 k first) _ i [] (omega arith) c.loop-i.invariant.made);

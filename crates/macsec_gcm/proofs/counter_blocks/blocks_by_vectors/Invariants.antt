@@ -1,4 +1,7 @@
-use Rattle.{std.{proofs.Common.{◌≡◌, ◌-◌, ℕ, ◌<◌, [], length, slice_index_or}, specs.Fn.iterate}, macsec_gcm.specs.Gcm.inc32}
+use Rattle.{
+  std.{proofs.Common.{◌≡◌, ◌-◌, ℕ, ◌<◌, [], length, slice_index_or}, specs.Fn.iterate},
+  macsec_gcm.specs.Gcm.inc32,
+}
 use Rattle.macsec_gcm.proofs.counter_blocks.blocks_by_vectors.Given as goal
 
 -- the first i of the N blocks are computed

@@ -1,7 +1,28 @@
 use Rattle.{
   std.{
     proofs.{
-      Common.{◌≡◌, ◌++◌, ◌+◌, ◌-◌, ◌/◌, ◌%◌, ◌^◌, ◌<◌, List, ℕ, length, get_or, drop, take, ap, sym, ◌∙◌, arith, inl, inr},
+      Common.{
+        ◌≡◌,
+        ◌++◌,
+        ◌+◌,
+        ◌-◌,
+        ◌/◌,
+        ◌%◌,
+        ◌^◌,
+        ◌<◌,
+        List,
+        ℕ,
+        length,
+        get_or,
+        drop,
+        take,
+        ap,
+        sym,
+        ◌∙◌,
+        arith,
+        inl,
+        inr,
+      },
       Common.{get_or-drop, get_or-take, length-append, length-take-le},
       lemmas.{Bool.cases_lt, Grind.same_number_lists, List.{get_or_append_left, get_or-append_right}},
     },
@@ -44,7 +65,8 @@ returns c =
     let place : 12 + (3 - j) ≡ 15 - j = omega arith in
     let sum : get_or next (15 - j) 0 ≡ (from_le_bytes w32 (drop 12 low) + 1) % 2 ^ 32 / 256 ^ (3 - j) % 256 =
     ap (λ (k : ℕ). get_or next k 0) (sym place) ∙ c.add_one-next.ensures.counts (3 - j) (omega arith) in
-    c.turned.ensures.reversed j lt ∙ sum ∙ ap (λ (n : ℕ). (n + 1) % 2 ^ 32 / 256 ^ (3 - j) % 256) number ∙ highest_first count j lt in
+    c.turned.ensures.reversed j lt ∙ sum ∙ ap (λ (n : ℕ). (n + 1) % 2 ^ 32 / 256 ^ (3 - j) % 256) number ∙
+    highest_first count j lt in
     same_number_lists last (take 12 block ++ octets) (c.turned.ensures.sixteen ∙ sym all)
     (λ k lt. elim (cases_lt k 12) [
       | inl below ↦
