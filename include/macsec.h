@@ -40,21 +40,21 @@
  * MEMORY     macsec_new allocates 15 blocks by malloc, 19.1 MB in all: five for 4,096 keys, two for a frame, eight for
  *            the rest. macsec_free frees them. macsec_configure allocates the same, and so do macsec_reserve_open and
  *            macsec_reserve_configure, with one more for a journal that has records. macsec_key_take allocates one
- *            block, macsec_slot_new three, and macsec_journal_begin five. macsec_renew_key allocates one for names, and
- *            makes it larger from time to time. macsec_load allocates a copy of the endpoint, and frees the endpoint or
- *            the copy before it returns. It and macsec_configure, macsec_reserve_configure, macsec_command_line,
- *            macsec_parse_line, macsec_parse_end and macsec_answer also allocate while they read commands or a text,
- *            macsec_answer while it composes counters and packet numbers, and macsec_journal_compacted and
- *            macsec_journal_begin while they work, and free that before they return. No other call allocates, so no
- *            other call runs out of memory. malloc must align a block to each power of two up to 16 that divides its
- *            size, as all C libraries do. It must return: no exception may be thrown through the library, which has no
- *            unwinding tables. The library overwrites a block before it frees it. For blocks of 1 MB or more, of which
- *            less than half is in memory (mincore), it asks the kernel for new pages (madvise), and overwrites them if
- *            the kernel refuses. The calls that take a key, a text or an association overwrite the stack that they
- *            used. An endpoint overwrites a key when it retires it (macsec_retire_key). A macsec_key, and a slot with a
- *            job, keep the octets of their key also after that. Registers, swap, core dumps and the caller's own copies
- *            are not covered. Give each call 96 KB of stack: the calls that create an endpoint and macsec_load took 66
- *            KB on x86-64, and the others 33 KB or less (measured, not proved).
+ *            block, macsec_slot_new three, and macsec_journal_begin five. macsec_renew_key allocates one for names when
+ *            it first takes a place, and makes it larger from time to time. macsec_load allocates a copy of the
+ *            endpoint, and frees the endpoint or the copy before it returns. It and macsec_configure,
+ *            macsec_reserve_configure, macsec_command_line, macsec_parse_line, macsec_parse_end and macsec_answer also
+ *            allocate while they read commands or a text, macsec_answer while it composes counters and packet numbers,
+ *            and macsec_journal_compacted and macsec_journal_begin while they work, and free that before they return.
+ *            No other call allocates, so no other call runs out of memory. malloc must align a block to each power of
+ *            two up to 16 that divides its size, as all C libraries do. It must return: no exception may be thrown
+ *            through the library, which has no unwinding tables. The library overwrites a block before it frees it. For
+ *            blocks of 1 MB or more, of which less than half is in memory (mincore), it asks the kernel for new pages
+ *            (madvise), and overwrites them if the kernel refuses. The calls that take a key, a text or an association
+ *            overwrite the stack that they used. An endpoint overwrites a key when it retires it (macsec_retire_key). A
+ *            macsec_key, and a slot with a job, keep the octets of their key also after that. Registers, swap, core
+ *            dumps and the caller's own copies are not covered. Give each call 96 KB of stack: the calls that create an
+ *            endpoint and macsec_load took 66 KB on x86-64, and the others 33 KB or less (measured, not proved).
  * PROCESSOR  An x86-64 processor with SSSE3 (every x86-64-v2 has it). The library does not test for it: on another one
  *            the process ends with SIGILL.
  * HANDLES    A handle is the caller's memory, initialized with MACSEC_ENDPOINT_INIT (all zero). Do not copy, move or

@@ -1,7 +1,7 @@
 //! The endpoint for callers in C: a static library, whose header is `include/macsec.h`. An export refuses a handle
 //! without an endpoint, and leaves the rest to `macsec_c_values`, `macsec_c_calls` and `macsec_c_journals`.
 //!
-//! Proved: each export creates or frees an endpoint, a key, a slot or a journal, does a job, or is one step of the
+//! Proved: each export creates or gives up an endpoint, a key, a slot or a journal, does a job, or is one step of the
 //! machine of `macsec_ahead` or one reader of its state, for the arguments that C gave. Without a journal that is the
 //! machine of `macsec_secy`, except that it forgets the keys that it retires (`command_forgetting`). `macsec_renew_key`
 //! is no step of it: a new key takes the place of a retired one, whose octets every later call refuses.

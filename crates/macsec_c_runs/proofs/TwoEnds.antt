@@ -169,7 +169,7 @@ runs_same B (makes B call ∷ events) more at = runs_same B events more (put B (
 runs_same A (makes B call ∷ events) more at = runs_same A events more (put B (after_call (at B) call) at)
 runs_same B (makes A call ∷ events) more at = runs_same B events more (put A (after_call (at A) call) at)
 
--- ---- the endpoint of an end is that of its last run
+-- ---- the endpoint of an end is the one of its last run
 
 abbrev of_last : Option CallRun → Ahead → Ahead
 of_last None x = x

@@ -89,7 +89,7 @@ states_same (suc n) (call ∷ calls) e plain =
     ap (λ a. ahead_renewing_after a (take n (map input_of calls))) (step_same e call plain.0)
     ∙ states_same n calls (after_call e call) plain.1
 
--- ---- a run that goes as it is told
+-- ---- a run that sends and delivers what its lists have
 
 record Goes (kind : Kind) (sci : Sci) (r : CallRun) (xs : List SentIn) (ds : List Delivery)
     (last : Ahead) : Type 0 where

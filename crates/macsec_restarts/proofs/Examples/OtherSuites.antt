@@ -1,7 +1,7 @@
 -- Runs that meet all premises of order but one: the octets of a key have two suites, GCM-AES-128 and
 -- GCM-AES-XPN-128, at the two ends, or at B in two runs. Under GCM-AES-128 a frame is sent with packet number 1, by A
 -- or by B itself. B receives it under the other suite, with the salt under which the IV of packet number 2^32 + 1 is
--- that of the frame. So B delivers it with a packet number that A never used.
+-- the frame's IV. So B delivers it with a packet number that A never used.
 use Rattle.macsec_counterexamples.proofs.Link.WorkedEnds.{xpn_b}
 use Rattle.macsec_restarts.proofs.Examples.Blocks.{blocks, sealed_in}
 use Rattle.macsec_restarts.proofs.Examples.Histories.{breaks, delivered_by_two, Facts, facts_of, is_sound, IsRunOf}
@@ -151,7 +151,7 @@ own_does = facts_of refl (set_up_told config_own receiver.key own_sa (salt false
     receiver_good : {s : State} (unused : ℕ) → s.keys ≡ key_row 2 unused ∷ [] → IsSound s → IsGood (short 2) s
     receiver_good unused keys sound = good (short 2) unused keys (λ long. sound)
 
--- ---- B's key under GCM-AES-XPN-128, and its IV: that of A's frame, or of B's own
+-- ---- B's key under GCM-AES-XPN-128, and its IV: the IV of A's frame, or of B's own
 
 abbrev key_salt : End → List ℕ
 key_salt A = 2 ∷ 0 ∷ 0 ∷ 1 ∷ 0 ∷ 1 ∷ replicate 6 0

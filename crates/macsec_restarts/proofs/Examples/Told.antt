@@ -42,7 +42,7 @@ pub record IsKeyOf (kind : Kind) (key : InstalledKey) : Type 0 where
   pub salt : key.salt ≡ kind.salt
   pub ssci : key.ssci ≡ kind.ssci
 
--- and it is sound, if the salt has as many octets as that of a key has
+-- and it is sound, if the salt has as many octets as a key's salt has
 pub record IsGood (kind : Kind) (s : State) : Type 0 where
   pub sound : length kind.salt ≡ 12 → IsSound s
   pub keys : All (IsKeyOf kind) s.keys
