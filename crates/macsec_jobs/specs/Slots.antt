@@ -17,7 +17,7 @@ use Rattle.macsec_jobs.specs.declared.work.Work.{Work}
 use Rattle.macsec_jobs.specs.declared.work.Work.TheVariants.{Nothing, Seal, Open, Finish}
 use Rattle.macsec_jobs.specs.PlannedKeys.{IsGone, is_installed, key_of, same_key}
 
--- the work, its key, the frame, what is behind it in its buffer, and the buffer that a job writes
+-- the work, its key, the frame, the rest of its buffer, and the buffer that a job writes
 pub record SlotState : Type 0 where
   pub work : Work
   pub key : PlannedKey
