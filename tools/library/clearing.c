@@ -78,11 +78,22 @@ MAKES(MAKING, macsec_reserve_configure_raw,
       (e, text, text_length, journal, journal_length, ahead, line))
 
 /* A build without proofs calls functions where the proved ones have their code in place, and passes them round keys on
- * the stack: there the calls for frames overwrite it too. */
+ * the stack: there the calls for frames, jobs and what these hold overwrite it too. */
 #ifdef UNPROVED
 CLEARS(FRAMES)
 CALL(FRAMES, macsec_send_raw, (macsec_endpoint * e, const uint8_t *frame, size_t length, macsec_sent *out),
      (e, frame, length, out))
 CALL(FRAMES, macsec_receive_raw, (macsec_endpoint * e, const uint8_t *frame, size_t length, macsec_received *out),
      (e, frame, length, out))
+CALL(FRAMES, macsec_seal_job_raw, (macsec_slot * slot, macsec_key *key, uint8_t *out, size_t length, size_t *written),
+     (slot, key, out, length, written))
+CALL(FRAMES, macsec_open_job, (macsec_slot * slot, macsec_key *key), (slot, key))
+#define FREES(name, type)                                                                                              \
+    void uncleared_##name(type *freed);                                                                                \
+    void name(type *freed) {                                                                                           \
+        uncleared_##name(freed);                                                                                       \
+        clear_FRAMES();                                                                                                \
+    }
+FREES(macsec_key_free_raw, macsec_key)
+FREES(macsec_slot_free_raw, macsec_slot)
 #endif
