@@ -12,8 +12,7 @@ use Rattle.macsec_field128.specs.{
 }
 use Rattle.macsec_ghash.{
   proofs.{
-    MovedSums.{moved_lt, moved_of_sum, moved_of_sums, moved_turned, moved_under, octet_lt, octets_joined, octets_keep},
-    MovedSums.same_moved,
+    MovedSums.{moved_lt, moved_of_sum, moved_of_sums, moved_turned, moved_under, octets_joined, octets_keep, same_moved},
     Sums.{KeepsSums, moves_keep, parts, same_sums, sum_lt, sum_of_first, sum_of_sums, sum_under},
   },
   specs.Tables.{AreTables, moved_sum, sum_by_octets},
@@ -76,12 +75,6 @@ module _ (laws : CarrylessLaws) where
             ∙ sym (laws.adds_first (moved_sum n f * 2 ^ 8) (f n) p),
       )
 
-  -- the product with a number of 16 octets
-  block_by_octets : (x p : ℕ) → x < 2 ^ 128 → moved_sum 16 (λ i. carryless (byte_at (15 - i) x) p) ≡ carryless x p
-  block_by_octets x p lt =
-      (moved_products p (λ i. byte_at (15 - i) x) (λ i. octet_lt (15 - i) x) 16 (omega arith)).1
-      ∙ ap (λ (y : ℕ). carryless y p) (octets_joined 15 x lt)
-
 -- ---- eight products at once
 
 -- the sum of the products of eight nibbles in one lane with eight numbers
@@ -111,36 +104,43 @@ module _ (nibbles : ℕ → ℕ → ℕ) (small : (k : ℕ) → k < 8 → (i : �
       let moved : moved_sum 16 (sum_at nibbles p) * 2 ^ 8 < 2 ^ 259 = moved_lt 131 16 (sum_at nibbles p) (λ i h. sum_at_lt i) in
       rw octets_are (omega (arith, moved))
 
--- the sum of eight products, from the products of the left and right nibbles of the first factors
-pub sum_by_nibbles : CarrylessLaws → (x p : ℕ → ℕ) → ((k : ℕ) → k < 8 → x k < 2 ^ 128) → ((k : ℕ) → k < 8 → p k < 2 ^ 128)
-    → bit_xor (by_octets (λ k i. byte_at (15 - i) (x k) / 2 ^ 4) p * 2 ^ 4) (by_octets (λ k i. byte_at (15 - i) (x k) % 2 ^ 4) p)
-    ≡ sum_below 8 (λ k. carryless (x k) (p k))
+-- the sum of eight products, from the products of the left and right nibbles of the octets of the first factors
+pub sum_by_nibbles : CarrylessLaws → (o : ℕ → ℕ → ℕ) (p : ℕ → ℕ)
+    → ((k : ℕ) → k < 8 → (i : ℕ) → o k i < 2 ^ 8) → ((k : ℕ) → k < 8 → p k < 2 ^ 128)
+    → bit_xor (by_octets (λ k i. o k i / 2 ^ 4) p * 2 ^ 4) (by_octets (λ k i. o k i % 2 ^ 4) p)
+    ≡ sum_below 8 (λ k. carryless (moved_sum 16 (o k)) (p k))
 unfolding sum_at
-sum_by_nibbles laws x p x_lt p_lt =
-    let left : ℕ → ℕ → ℕ = λ k i. byte_at (15 - i) (x k) / 2 ^ 4 in
-    let right : ℕ → ℕ → ℕ = λ k i. byte_at (15 - i) (x k) % 2 ^ 4 in
-    let left_lt : (k : ℕ) → k < 8 → (i : ℕ) → left k i < 16 = λ k h i. let lt = octet_lt (15 - i) (x k) in omega (arith, lt) in
+sum_by_nibbles laws o p o_lt p_lt =
+    let left : ℕ → ℕ → ℕ = λ k i. o k i / 2 ^ 4 in
+    let right : ℕ → ℕ → ℕ = λ k i. o k i % 2 ^ 4 in
+    let left_lt : (k : ℕ) → k < 8 → (i : ℕ) → left k i < 16 = λ k h i. let lt = o_lt k h i in omega (arith, lt) in
     let right_lt : (k : ℕ) → k < 8 → (i : ℕ) → right k i < 16 = λ k h i. omega arith in
-    let product : ℕ → ℕ → ℕ = λ k i. carryless (byte_at (15 - i) (x k)) (p k) in
+    let product : ℕ → ℕ → ℕ = λ k i. carryless (o k i) (p k) in
     let move : ℕ → ℕ = λ a. a * 2 ^ 4 in
     let moves : (a : ℕ) → a * 2 ^ 8 * 2 ^ 4 ≡ a * 2 ^ 4 * 2 ^ 8 = λ a. omega arith in
     ap₂ (λ (a b : ℕ). bit_xor (a * 2 ^ 4) b) (octets_are left left_lt p p_lt) (octets_are right right_lt p p_lt)
-    ∙ ap (λ (a : ℕ). bit_xor a (moved_sum 16 (sum_at right p))) (sym (moved_under move (moves_keep 4) moves 16 (sum_at left p)))
+    ∙ ap (λ (a : ℕ). bit_xor a (moved_sum 16 (sum_at right p)))
+    (sym (moved_under move (moves_keep 4) moves 16 (sum_at left p)))
     ∙ sym (moved_of_sums 16 (λ i. sum_at left p i * 2 ^ 4) (sum_at right p))
     ∙ same_moved 16 _ _ (λ i h.
-    ap (λ (a : ℕ). bit_xor a (sum_at right p i)) (sym (sum_under move (moves_keep 4) 8 (λ k. carryless (left k i) (p k))))
+    ap (λ (a : ℕ). bit_xor a (sum_at right p i))
+    (sym (sum_under move (moves_keep 4) 8 (λ k. carryless (left k i) (p k))))
     ∙ sym (sum_of_sums 8 (λ k. carryless (left k i) (p k) * 2 ^ 4) (λ k. carryless (right k i) (p k)))
-    ∙ same_sums 8 _ _ (λ k g. octet_product laws (byte_at (15 - i) (x k)) (p k) (octet_lt (15 - i) (x k))))
+    ∙ same_sums 8 _ _ (λ k g. octet_product laws (o k i) (p k) (o_lt k g i)))
     ∙ moved_of_sum 8 16 product
-    ∙ same_sums 8 _ _ (λ k g. block_by_octets laws (x k) (p k) (x_lt k g))
+    ∙ same_sums 8 _ _ (λ k g. (moved_products laws (p k) (o k) (o_lt k g) 16 (omega arith)).1)
 
 -- the residue of that sum
-pub residue_by_nibbles : CarrylessLaws → ResidueAdds → ProductIsResidue → (x p : ℕ → ℕ) → ((k : ℕ) → k < 8 → x k < 2 ^ 128) → ((k : ℕ) → k < 8 → p k < 2 ^ 128)
-    → residue (bit_xor (by_octets (λ k i. byte_at (15 - i) (x k) / 2 ^ 4) p * 2 ^ 4) (by_octets (λ k i. byte_at (15 - i) (x k) % 2 ^ 4) p))
-    ≡ sum_below 8 (λ k. block_product (x k) (p k))
-residue_by_nibbles laws adds is_residue x p x_lt p_lt =
+pub residue_by_nibbles : CarrylessLaws → ResidueAdds → ProductIsResidue → (o : ℕ → ℕ → ℕ) (p : ℕ → ℕ)
+    → ((k : ℕ) → k < 8 → (i : ℕ) → o k i < 2 ^ 8) → ((k : ℕ) → k < 8 → p k < 2 ^ 128)
+    → residue (bit_xor (by_octets (λ k i. o k i / 2 ^ 4) p * 2 ^ 4) (by_octets (λ k i. o k i % 2 ^ 4) p))
+    ≡ sum_below 8 (λ k. block_product (moved_sum 16 (o k)) (p k))
+residue_by_nibbles laws adds is_residue o p o_lt p_lt =
     let keeps : KeepsSums residue = record { adds = adds; none = adds 0 0 ∙ xor_self (residue 0) } in
-    ap residue (sum_by_nibbles laws x p x_lt p_lt)
+    let x : ℕ → ℕ = λ k. moved_sum 16 (o k) in
+    let x_lt : (k : ℕ) → k < 8 → x k < 2 ^ 128 =
+    λ k g. (moved_products laws (p k) (o k) (o_lt k g) 16 (omega arith)).0 in
+    ap residue (sum_by_nibbles laws o p o_lt p_lt)
     ∙ sym (sum_under residue keeps 8 (λ k. carryless (x k) (p k)))
     ∙ same_sums 8 _ _ (λ k g. is_residue (x k) (p k) (x_lt k g) (p_lt k g))
 

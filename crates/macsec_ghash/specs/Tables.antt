@@ -1,5 +1,6 @@
 -- Products of nibbles with eight numbers, kept octet by octet. Octets are counted from the right.
-use Rattle.std.specs.Prelude.{◌≡◌, ℕ, zero, suc, ◌+◌, ◌-◌, ◌*◌, ◌/◌, ◌%◌, ◌^◌, ◌<◌, List, [], slice_index, slice_index_or, bit_xor}
+use Rattle.std.specs.Prelude.{◌≡◌, ℕ, zero, suc, ◌+◌, ◌-◌, ◌*◌, ◌/◌, ◌%◌, ◌^◌, ◌<◌, List, [], map, bit_xor}
+use Rattle.std.specs.Prelude.{slice_index, slice_index_or}
 use Rattle.std.specs.Int.{bit_at, byte_at}
 use Rattle.macsec_field128.specs.Carryless.{carryless}
 use Rattle.macsec_field128.specs.Field.{sum_below}
@@ -39,6 +40,14 @@ IsMoved from left right sums new_left new_right =
 -- lane k of vector p of an array of vectors
 abbrev pub lane_at : List (List ℕ) → ℕ → ℕ → ℕ
 lane_at vs p k = slice_index (slice_index_or vs p []) k
+
+-- block p of an array of blocks, each a vector of octets
+abbrev pub block_at : List (List ℕ) → ℕ → ℕ
+block_at vs p = number_from 0 (slice_index_or vs p [])
+
+-- the blocks of such an array
+abbrev pub blocks_in : List (List ℕ) → List ℕ
+blocks_in vs = map (number_from 0) vs
 
 -- an octet of the carryless product of a nibble and a number, from this octet of the number and the one on its right
 abbrev pub octet_of_product : ℕ → ℕ → ℕ

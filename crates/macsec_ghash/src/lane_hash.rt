@@ -1,47 +1,60 @@
 //! GHASH of eight blocks at a time, with powers of the key.
 
 ghost use Rattle.std.specs.Prelude.{◌≡◌, ◌≤◌, ◌+◌, ℕ, List, [], ◌∷◌, ◌++◌, ◌^◌, ◌<◌, length, take, drop};
-ghost use Rattle.macsec_ghash.specs.Ghash.{block_of, blocks_of, ghash, hash_after, hash_next, pad};
+ghost use Rattle.std.specs.Prelude.{set, slice_index, bit_xor};
+ghost use Rattle.macsec_ghash.specs.Ghash.{blocks_of, ghash, hash_after, hash_next, pad};
 ghost use Rattle.macsec_ghash.specs.Powers.{weighted};
+ghost use Rattle.macsec_ghash.specs.Tables.{blocks_in};
 
-use crate::lanes::sum_of_products;
+use crate::lanes::{octets_at, octets_of, sum_of_blocks, sum_of_products};
 use crate::powers::KeyPowers;
 use crate::{Hash128, block_of};
 use macsec_field128::Block;
 use macsec_field128::laws::{product_adds, product_associates, product_is_block};
+use std::simd::u8x16;
 
 /// The sum of the products of eight blocks with powers of the key.
-fn weighted(powers: &KeyPowers, blocks: &[u128; 8]) -> Block
-    ensures { result.0 ≡ weighted powers.now blocks.now }
+#[inline(always)]
+fn weighted(powers: &KeyPowers, blocks: &[u8x16; 8]) -> Block
+    ensures { result.0 ≡ weighted powers.now (blocks_in blocks.now) }
 {
     sum_of_products(blocks, powers)
 }
 
-/// The first eight blocks of a text.
+/// The first eight blocks of a text, with a sum added to the first of them.
 #[inline(always)]
-fn first_eight(text: &[u8]) -> [u128; 8]
+fn first_eight(text: &[u8], sum: Block) -> [u8x16; 8]
     requires { 128 ≤ length text.now }
-    ensures { result ≡ blocks_of 8 text.now }
+    ensures { blocks_in result
+        ≡ set (blocks_of 8 text.now) 0 (bit_xor (slice_index (blocks_of 8 text.now) 0) sum.0) }
 {
     [
-        block_at(text, 0),
-        block_at(text, 16),
-        block_at(text, 32),
-        block_at(text, 48),
-        block_at(text, 64),
-        block_at(text, 80),
-        block_at(text, 96),
-        block_at(text, 112),
+        sum_of_blocks(octets_at(text, 0), octets_of(sum.0)),
+        octets_at(text, 16),
+        octets_at(text, 32),
+        octets_at(text, 48),
+        octets_at(text, 64),
+        octets_at(text, 80),
+        octets_at(text, 96),
+        octets_at(text, 112),
     ]
 }
 
-/// The block of 16 octets of a text.
+/// The octets of eight blocks.
 #[inline(always)]
-fn block_at(text: &[u8], start: usize) -> u128
-    requires { start + 16 ≤ length text.now }
-    ensures { result ≡ block_of (take 16 (drop start text.now)) }
+fn octets_of_eight(blocks: &[u128; 8]) -> [u8x16; 8]
+    ensures { blocks_in result ≡ blocks.now }
 {
-    block_of(&text[start..start + 16]).0
+    [
+        octets_of(blocks[0]),
+        octets_of(blocks[1]),
+        octets_of(blocks[2]),
+        octets_of(blocks[3]),
+        octets_of(blocks[4]),
+        octets_of(blocks[5]),
+        octets_of(blocks[6]),
+        octets_of(blocks[7]),
+    ]
 }
 
 /// A hash that uses eight powers of a key, which the caller keeps. Eight blocks take one sum of eight products.
@@ -132,9 +145,7 @@ impl RunningHash {
         product_associates();
         product_is_block();
         let _powers = &powers.tables;
-        let mut blocks = first_eight(bytes);
-        blocks[0] ^= self.sum.0;
-        self.sum = weighted(powers, &blocks);
+        self.sum = weighted(powers, &first_eight(bytes, self.sum));
     }
 
     /// The hash of all blocks so far.
@@ -162,7 +173,7 @@ impl RunningHash {
         let mut lanes = [0; 8];
         lanes[start..].copy_from_slice(blocks);
         lanes[start] ^= self.sum.0;
-        weighted(powers, &lanes)
+        weighted(powers, &octets_of_eight(&lanes))
     }
 
     /// Hashes the eight waiting blocks.
@@ -175,7 +186,7 @@ impl RunningHash {
         product_is_block();
         let _powers = &powers.tables;
         self.waiting[0] ^= self.sum.0;
-        self.sum = weighted(powers, &self.waiting);
+        self.sum = weighted(powers, &octets_of_eight(&self.waiting));
         self.waiting_count = 0;
     }
 

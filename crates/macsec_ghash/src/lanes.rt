@@ -1,11 +1,14 @@
 //! Products of eight blocks with eight numbers. Products of nibbles are looked up in tables held in vectors, one octet
 //! of each product at a time.
 
-ghost use Rattle.std.specs.Prelude.{◌≡◌, ℕ, suc, ◌+◌, ◌-◌, ◌*◌, ◌/◌, ◌%◌, ◌^◌, ◌<◌, slice_index, bit_xor};
+ghost use Rattle.std.specs.Prelude.{◌≡◌, ℕ, suc, ◌+◌, ◌-◌, ◌*◌, ◌/◌, ◌%◌, ◌^◌, ◌<◌, ◌≤◌, slice_index, bit_xor};
+ghost use Rattle.std.specs.Prelude.{length, take, drop};
 ghost use Rattle.std.specs.Int.{byte_at};
 ghost use Rattle.macsec_field128.specs.Field.{block_product, sum_below};
+ghost use Rattle.macsec_ghash.specs.Ghash.{block_of};
 ghost use Rattle.macsec_ghash.specs.Powers.{power};
-ghost use Rattle.macsec_ghash.specs.Tables.{IsMoved, lane_at, number_from, number_in, octet_of_sum, sum_by_octets};
+ghost use Rattle.macsec_ghash.specs.Tables.{IsMoved, block_at, lane_at, number_from, number_in, octet_of_sum};
+ghost use Rattle.macsec_ghash.specs.Tables.{sum_by_octets};
 
 use crate::powers::{KeyPowers, OCTETS, TABLES_LEN};
 use macsec_field128::laws::{carryless_laws, product_is_block, product_is_residue, residue_adds};
@@ -50,7 +53,7 @@ fn right_nibbles(octets: u8x16) -> u8x16
 
 /// The octets of a block, starting at the right.
 #[inline(always)]
-fn octets_of(block: u128) -> u8x16
+fn octets_from_right(block: u128) -> u8x16
     ensures { (i : ℕ) → i < 16 → slice_index result i ≡ byte_at i block }
 {
     let right = (block & 0xffff_ffff_ffff_ffff) as u64;
@@ -66,14 +69,39 @@ fn turned(a: u8x16) -> u8x16
     a.swizzle([15, 14, 13, 12, 11, 10, 9, 8, 7, 6, 5, 4, 3, 2, 1, 0])
 }
 
-/// The left nibbles of the octets of a block, followed by the right ones.
+/// The octets of a block.
 #[inline(always)]
-fn nibbles_of(block: u128) -> u8x32
-    ensures left { (i : ℕ) → i < 16 → slice_index result (0 + i) ≡ byte_at (15 - i) block / 2 ^ 4 }
-    ensures right { (i : ℕ) → i < 16 → slice_index result (16 + i) ≡ byte_at (15 - i) block % 2 ^ 4 }
-    ensures small { (k : ℕ) → k < 32 → slice_index result k < 16 }
+pub fn octets_of(block: u128) -> u8x16
+    ensures { number_from 0 result ≡ block }
 {
-    let octets = turned(octets_of(block));
+    turned(octets_from_right(block))
+}
+
+/// The octets of the block of 16 octets of a text.
+#[inline(always)]
+pub fn octets_at(text: &[u8], start: usize) -> u8x16
+    requires { start + 16 ≤ length text.now }
+    ensures { number_from 0 result ≡ block_of (take 16 (drop start text.now)) }
+{
+    u8x16::from_slice(&text[start..start + 16])
+}
+
+/// The octets of the sum of two blocks.
+#[inline(always)]
+pub fn sum_of_blocks(a: u8x16, b: u8x16) -> u8x16
+    ensures { number_from 0 result ≡ bit_xor (number_from 0 a) (number_from 0 b) }
+{
+    a ^ b
+}
+
+/// The left nibbles of octets, followed by the right ones.
+#[inline(always)]
+fn nibbles_of(octets: u8x16) -> u8x32
+    ensures left { (i : ℕ) → i < 16 → slice_index result (0 + i) ≡ slice_index octets (0 + i) / 2 ^ 4 }
+    ensures right { (i : ℕ) → i < 16 → slice_index result (16 + i) ≡ slice_index octets (0 + i) % 2 ^ 4 }
+    ensures small { (k : ℕ) → k < 32 → slice_index result k < 16 }
+    ensures octets { (i : ℕ) → slice_index octets i < 2 ^ 8 }
+{
     side_by_side(left_nibbles(octets), right_nibbles(octets))
 }
 
@@ -169,10 +197,12 @@ fn moved_sums(tables: &[u8; TABLES_LEN], nibbles: &[u8x32; 8]) -> (u8x32, u8x32)
     (left, right)
 }
 
-/// The sum of the products of eight blocks with the powers of a key, from the eighth power down. The products of the
-/// blocks' nibbles are looked up and added, and one residue is computed for all of them.
-pub fn sum_of_products(blocks: &[u128; 8], powers: &KeyPowers) -> Block
-    ensures { result.0 ≡ sum_below 8 (λ p. block_product (slice_index blocks.now p) (power powers.now (7 - p))) }
+/// The sum of the products of eight blocks with the powers of a key, from the eighth power down. The blocks are given as
+/// vectors of octets. The products of their nibbles are looked up and added, and one residue is computed for all of
+/// them.
+#[inline(always)]
+pub fn sum_of_products(blocks: &[u8x16; 8], powers: &KeyPowers) -> Block
+    ensures { result.0 ≡ sum_below 8 (λ p. block_product (block_at blocks.now p) (power powers.now (7 - p))) }
 {
     // The proof cites these laws: the residue of a sum is the sum of the residues, and powers are blocks.
     carryless_laws();

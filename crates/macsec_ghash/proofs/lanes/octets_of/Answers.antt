@@ -1,14 +1,13 @@
-use Rattle.std.{
-  proofs.Common.{◌≡◌, ℕ, ◌+◌, ◌-◌, ◌*◌, ◌/◌, ◌%◌, ◌^◌, bit_and, slice_index, sym, ap, ◌∙◌, arith},
-  proofs.lemmas.Nat.and_mask,
-  specs.Simd.Lanes.digits_l,
+use Rattle.{
+  std.proofs.Common.{◌≡◌, ◌+◌, ◌-◌, ◌^◌, ◌<◌, slice_index, ap, ◌∙◌, arith},
+  macsec_ghash.proofs.MovedSums.{octets_joined, same_moved},
 }
-use Rattle.macsec_ghash.proofs.{MovedSums.octet_is, Octets.digit_is}
 use Rattle.macsec_ghash.proofs.lanes.octets_of.Goals as goal
 
 pub returns : goal.returns
-returns c i lt =
-    let block : ℕ = c.args.block in
-    let mask : bit_and block (2 ^ 64 - 1) ≡ block % 2 ^ 64 = and_mask block 64 in
-    let words : bit_and block (2 ^ 64 - 1) + 2 ^ 64 * (block / 2 ^ 64 + 0) ≡ block = omega (arith, mask) in
-    ap (λ (n : ℕ). slice_index (digits_l 256 16 n) i) words ∙ digit_is 16 i block lt ∙ sym (octet_is i block)
+returns c =
+    let small : c.args.block < 2 ^ 128 = omega arith in
+    same_moved 16 _ _ (λ i lt.
+    let same : 0 + i ≡ i = omega arith in
+    ap (slice_index c.turned.result) same ∙ c.turned.ensures i lt ∙ c.octets_from_right.ensures (15 - i) (omega arith))
+    ∙ octets_joined 15 c.args.block small

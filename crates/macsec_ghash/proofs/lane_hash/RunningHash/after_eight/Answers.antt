@@ -1,4 +1,7 @@
-use Rattle.{std.proofs.Common.{◌≡◌, ◌^◌, ◌<◌, length, arith, rules, ◌∙◌}, macsec_ghash.proofs.Tails.weighted-first}
+use Rattle.{
+  std.proofs.Common.{◌≡◌, ◌^◌, ◌<◌, ap, length, arith, rules, ◌∙◌},
+  macsec_ghash.{proofs.Tails.weighted-first, specs.Powers.weighted},
+}
 use Rattle.macsec_ghash.proofs.lane_hash.RunningHash.after_eight.Goals as goal
 
 pub returns-clause-hash : goal.returns-clause-hash
@@ -8,4 +11,6 @@ returns-clause-hash c =
     let some : 0 < length s.waiting = omega arith in
     let h_lt : c.args.powers.now < 2 ^ 128 = rw c.powers.view_is at c.powers.invariant.0 in
     c.weighted-self.ensures
-    ∙ weighted-first c.product_adds.ensures.first c.product_associates.ensures c.product_is_block.ensures c.args.powers.now s.sum.0 h_lt s.waiting some
+    ∙ ap (weighted c.args.powers.now) c.octets_of_eight.ensures
+    ∙ weighted-first c.product_adds.ensures.first c.product_associates.ensures c.product_is_block.ensures
+    c.args.powers.now s.sum.0 h_lt s.waiting some
