@@ -19,9 +19,15 @@ unfoldable pub moved_sum : ℕ → (ℕ → ℕ) → ℕ
 moved_sum zero f = 0
 moved_sum (suc n) f = bit_xor (moved_sum n f * 2 ^ 8) (f n)
 
--- the sum of the products of eight nibbles with eight numbers, over the nibbles of 16 lanes, added up octet by octet
+-- the sums of the products of eight nibbles with eight numbers, over the nibbles of 16 lanes, added up octet by octet,
+-- after so many turns: the first turn is for octet 16, the next one for octet 15
+abbrev pub sum_of_turns : ℕ → List ℕ → (ℕ → ℕ → ℕ) → ℕ
+sum_of_turns turns tables nibbles =
+    moved_sum turns (λ t. moved_sum 16 (λ i. octet_of_sum tables (16 - t) (λ p. nibbles p i)))
+
+-- the same after all octets
 abbrev pub sum_by_octets : List ℕ → (ℕ → ℕ → ℕ) → ℕ
-sum_by_octets tables nibbles = moved_sum 17 (λ t. moved_sum 16 (λ i. octet_of_sum tables (16 - t) (λ p. nibbles p i)))
+sum_by_octets tables nibbles = sum_of_turns 17 tables nibbles
 
 -- 16 lanes of a vector from the index `from` on, as the octets of a number
 abbrev pub number_from : ℕ → List ℕ → ℕ
@@ -40,6 +46,11 @@ IsMoved from left right sums new_left new_right =
 -- lane k of vector p of an array of vectors
 abbrev pub lane_at : List (List ℕ) → ℕ → ℕ → ℕ
 lane_at vs p k = slice_index (slice_index_or vs p []) k
+
+-- the number in two vectors is the sum after so many turns
+abbrev pub IsAfter : ℕ → ℕ → List ℕ → List (List ℕ) → List ℕ → List ℕ → Type 0
+IsAfter turns from tables nibbles left right =
+    number_in from left right ≡ sum_of_turns turns tables (λ p i. lane_at nibbles p (from + i))
 
 -- block p of an array of blocks, each a vector of octets
 abbrev pub block_at : List (List ℕ) → ℕ → ℕ

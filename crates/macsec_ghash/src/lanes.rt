@@ -7,7 +7,7 @@ ghost use Rattle.std.specs.Int.{byte_at};
 ghost use Rattle.macsec_field128.specs.Field.{block_product, sum_below};
 ghost use Rattle.macsec_ghash.specs.Ghash.{block_of};
 ghost use Rattle.macsec_ghash.specs.Powers.{power};
-ghost use Rattle.macsec_ghash.specs.Tables.{IsMoved, block_at, lane_at, number_from, number_in, octet_of_sum};
+ghost use Rattle.macsec_ghash.specs.Tables.{IsAfter, IsMoved, block_at, lane_at, number_from, number_in, octet_of_sum};
 ghost use Rattle.macsec_ghash.specs.Tables.{sum_by_octets};
 
 use crate::powers::{KeyPowers, OCTETS, TABLES_LEN};
@@ -179,6 +179,47 @@ fn number_of(octets: u8x16) -> u128
     u128::from_be_bytes(octets.to_array())
 }
 
+/// One more turn of `moved_sums`: the numbers so far are shifted left by one octet, and the sums of the next octet of the
+/// products are added.
+#[inline(always)]
+fn after_turn(
+    tables: &[u8; TABLES_LEN],
+    nibbles: &[u8x32; 8],
+    turn: usize,
+    left: u8x32,
+    right: u8x32,
+) -> (u8x32, u8x32)
+    requires turn { turn < 17 }
+    requires small { (p : ℕ) → p < 8 → (k : ℕ) → k < 32 → lane_at nibbles.now p k < 16 }
+    requires first { IsAfter turn 0 tables.now nibbles.now left right }
+    requires second { IsAfter turn 16 tables.now nibbles.now left right }
+    ensures first { IsAfter (turn + 1) 0 tables.now nibbles.now result.0 result.1 }
+    ensures second { IsAfter (turn + 1) 16 tables.now nibbles.now result.0 result.1 }
+{
+    let sums = octets_of_sums(tables, OCTETS - 1 - turn, nibbles);
+    moved(left, right, sums)
+}
+
+/// Two more turns of `moved_sums`.
+#[inline(always)]
+fn after_two_turns(
+    tables: &[u8; TABLES_LEN],
+    nibbles: &[u8x32; 8],
+    turn: usize,
+    left: u8x32,
+    right: u8x32,
+) -> (u8x32, u8x32)
+    requires turn { turn + 1 < 17 }
+    requires small { (p : ℕ) → p < 8 → (k : ℕ) → k < 32 → lane_at nibbles.now p k < 16 }
+    requires first { IsAfter turn 0 tables.now nibbles.now left right }
+    requires second { IsAfter turn 16 tables.now nibbles.now left right }
+    ensures first { IsAfter (turn + 1 + 1) 0 tables.now nibbles.now result.0 result.1 }
+    ensures second { IsAfter (turn + 1 + 1) 16 tables.now nibbles.now result.0 result.1 }
+{
+    let (left, right) = after_turn(tables, nibbles, turn, left, right);
+    after_turn(tables, nibbles, turn + 1, left, right)
+}
+
 /// Two sums of products of nibbles with eight numbers: one over the lanes of the first halves of `nibbles`, one over
 /// the second halves. In each sum, the products of a lane are shifted one octet to the left of the products of the next
 /// lane. The sums are numbers of 32 octets. The first vector has their left halves, the second their right halves.
@@ -188,11 +229,11 @@ fn moved_sums(tables: &[u8; TABLES_LEN], nibbles: &[u8x32; 8]) -> (u8x32, u8x32)
     ensures first { number_in 0 result.0 result.1 ≡ sum_by_octets tables.now (λ p i. lane_at nibbles.now p (0 + i)) }
     ensures second { number_in 16 result.0 result.1 ≡ sum_by_octets tables.now (λ p i. lane_at nibbles.now p (16 + i)) }
 {
-    let mut left = u8x32::splat(0);
-    let mut right = u8x32::splat(0);
-    for turn in 0..OCTETS {
-        let sums = octets_of_sums(tables, OCTETS - 1 - turn, nibbles);
-        (left, right) = moved(left, right, sums);
+    let zeros = u8x32::splat(0);
+    // One turn alone, and then two at a time: with four, compiled code keeps entries of the tables on the stack.
+    let (mut left, mut right) = after_turn(tables, nibbles, 0, zeros, zeros);
+    for pair in 0..8usize {
+        (left, right) = after_two_turns(tables, nibbles, 2 * pair + 1, left, right);
     }
     (left, right)
 }
