@@ -12,7 +12,8 @@ use Rattle.macsec_field128.specs.{
 }
 use Rattle.macsec_ghash.{
   proofs.{
-    MovedSums.{moved_lt, moved_of_sum, moved_of_sums, moved_turned, moved_under, octets_joined, octets_keep, same_moved},
+    MovedSums.{moved_lt, moved_of_sum, moved_of_sums, moved_turned, moved_under, octets_joined, octets_keep},
+    MovedSums.same_moved,
     Sums.{KeepsSums, moves_keep, parts, same_sums, sum_lt, sum_of_first, sum_of_sums, sum_under},
   },
   specs.Tables.{AreTables, moved_sum, sum_by_octets},
@@ -41,7 +42,8 @@ moved_nibble_lt p (suc (suc (suc (suc b)))) lt few = absurd (omega arith)
 pub nibble_product_lt : (n p : ℕ) → n < 16 → p < 2 ^ 128 → carryless n p < 2 ^ 131
 nibble_product_lt n p nibble lt =
     rw (nibble_product n p nibble)
-    (sum_lt 131 4 (λ b. bit_at n b * (p * 2 ^ b)) (λ b few. bit_times_lt (bit_at n b) (p * 2 ^ b) (2 ^ 131) (bit_at-lt n b) (moved_nibble_lt p b lt few)))
+    (sum_lt 131 4 (λ b. bit_at n b * (p * 2 ^ b))
+    (λ b few. bit_times_lt (bit_at n b) (p * 2 ^ b) (2 ^ 131) (bit_at-lt n b) (moved_nibble_lt p b lt few)))
 
 -- ---- the product with a number, from its octets
 
@@ -50,12 +52,14 @@ module _ (laws : CarrylessLaws) where
   none p = laws.adds_first 0 0 p ∙ xor_self (carryless 0 p)
 
   -- the product with an octet, from its nibbles
-  octet_product : (o p : ℕ) → o < 2 ^ 8 → bit_xor (carryless (o / 2 ^ 4) p * 2 ^ 4) (carryless (o % 2 ^ 4) p) ≡ carryless o p
+  octet_product : (o p : ℕ) → o < 2 ^ 8
+      → bit_xor (carryless (o / 2 ^ 4) p * 2 ^ 4) (carryless (o % 2 ^ 4) p) ≡ carryless o p
   octet_product o p lt =
       let left_lt : o / 2 ^ 4 < 2 ^ 4 = omega arith in
       let right_lt : o % 2 ^ 4 < 2 ^ 4 = omega arith in
       let whole : o / 2 ^ 4 * 2 ^ 4 + o % 2 ^ 4 ≡ o = omega arith in
-      ap (λ (x : ℕ). bit_xor x (carryless (o % 2 ^ 4) p)) (sym (laws.moves_first 4 4 (o / 2 ^ 4) p (omega arith) left_lt))
+      ap (λ (x : ℕ). bit_xor x (carryless (o % 2 ^ 4) p))
+      (sym (laws.moves_first 4 4 (o / 2 ^ 4) p (omega arith) left_lt))
       ∙ sym (laws.adds_first (o / 2 ^ 4 * 2 ^ 4) (o % 2 ^ 4) p)
       ∙ ap (λ (x : ℕ). carryless x p) (sym (parts 4 (o / 2 ^ 4) (o % 2 ^ 4) right_lt) ∙ whole)
 
@@ -69,9 +73,11 @@ module _ (laws : CarrylessLaws) where
       let e : 8 * n + 8 ≡ 8 * suc n = omega arith in
       let wider : 2 ^ 8 ≤ 2 ^ (8 * n + 8) = pow-le-pow_right (pow_pos 1) {i = 8} {j = 8 * n + 8} (omega arith) in
       let last : f n < 2 ^ (8 * n + 8) = omega (arith, lt n) in (
-        subst (λ (m : ℕ). moved_sum (suc n) f < 2 ^ m) e (xor_lt (8 * n + 8) (moved_sum n f * 2 ^ 8) (f n) (shl_below (moved_sum n f) (8 * n) 8 before.0) last),
+        subst (λ (m : ℕ). moved_sum (suc n) f < 2 ^ m) e
+            (xor_lt (8 * n + 8) (moved_sum n f * 2 ^ 8) (f n) (shl_below (moved_sum n f) (8 * n) 8 before.0) last),
         ap (λ (x : ℕ). bit_xor (x * 2 ^ 8) (carryless (f n) p)) before.1
-            ∙ ap (λ (x : ℕ). bit_xor x (carryless (f n) p)) (sym (laws.moves_first (8 * n) 8 (moved_sum n f) p (omega arith) before.0))
+            ∙ ap (λ (x : ℕ). bit_xor x (carryless (f n) p))
+            (sym (laws.moves_first (8 * n) 8 (moved_sum n f) p (omega arith) before.0))
             ∙ sym (laws.adds_first (moved_sum n f * 2 ^ 8) (f n) p),
       )
 
@@ -83,25 +89,31 @@ sum_at nibbles p i = sum_below 8 (λ k. carryless (nibbles k i) (p k))
 
 -- these sums, added up octet by octet
 pub by_octets : (ℕ → ℕ → ℕ) → (ℕ → ℕ) → ℕ
-by_octets nibbles p = moved_sum 17 (λ t. moved_sum 16 (λ i. sum_below 8 (λ k. byte_at (16 - t) (carryless (nibbles k i) (p k)))))
+by_octets nibbles p =
+    moved_sum 17 (λ t. moved_sum 16 (λ i. sum_below 8 (λ k. byte_at (16 - t) (carryless (nibbles k i) (p k)))))
 
-module _ (nibbles : ℕ → ℕ → ℕ) (small : (k : ℕ) → k < 8 → (i : ℕ) → nibbles k i < 16) (p : ℕ → ℕ) (blocks : (k : ℕ) → k < 8 → p k < 2 ^ 128) where
+module _ (nibbles : ℕ → ℕ → ℕ) (small : (k : ℕ) → k < 8 → (i : ℕ) → nibbles k i < 16) (p : ℕ → ℕ)
+    (blocks : (k : ℕ) → k < 8 → p k < 2 ^ 128) where
   sum_at_lt : (i : ℕ) → sum_at nibbles p i < 2 ^ 131
   unfolding sum_at
-  sum_at_lt i = sum_lt 131 8 (λ k. carryless (nibbles k i) (p k)) (λ k h. nibble_product_lt (nibbles k i) (p k) (small k h i) (blocks k h))
+  sum_at_lt i =
+      sum_lt 131 8 (λ k. carryless (nibbles k i) (p k))
+      (λ k h. nibble_product_lt (nibbles k i) (p k) (small k h i) (blocks k h))
 
   octets_are : by_octets nibbles p ≡ moved_sum 16 (sum_at nibbles p)
   unfolding sum_at by_octets
   octets_are =
       let product : ℕ → ℕ → ℕ = λ i k. carryless (nibbles k i) (p k) in
       let wider : (i : ℕ) → sum_at nibbles p i < 2 ^ (8 * 17) = λ i. let lt = sum_at_lt i in omega (arith, lt) in
-      same_moved 17 _ _ (λ t h. same_moved 16 _ _ (λ i g. sum_under (byte_at (16 - t)) (octets_keep (16 - t)) 8 (product i)))
+      same_moved 17 _ _ (λ t h.
+      same_moved 16 _ _ (λ i g. sum_under (byte_at (16 - t)) (octets_keep (16 - t)) 8 (product i)))
       ∙ moved_turned 17 16 (λ t i. byte_at (16 - t) (sum_at nibbles p i))
       ∙ same_moved 16 _ _ (λ i g. octets_joined 16 (sum_at nibbles p i) (wider i))
 
   pub by_octets_lt : by_octets nibbles p < 2 ^ 251
   by_octets_lt =
-      let moved : moved_sum 16 (sum_at nibbles p) * 2 ^ 8 < 2 ^ 259 = moved_lt 131 16 (sum_at nibbles p) (λ i h. sum_at_lt i) in
+      let moved : moved_sum 16 (sum_at nibbles p) * 2 ^ 8 < 2 ^ 259 =
+      moved_lt 131 16 (sum_at nibbles p) (λ i h. sum_at_lt i) in
       rw octets_are (omega (arith, moved))
 
 -- the sum of eight products, from the products of the left and right nibbles of the octets of the first factors
@@ -155,7 +167,8 @@ by_tables tables p are found nibbles same small =
     same_moved 17 _ _ (λ t h.
     same_moved 16 _ _ (λ i g.
     same_sums 8 _ _ (λ k e.
-    ap (λ (n : ℕ). slice_index tables (128 * (16 - t) + 16 * k + n)) (same k e i g) ∙ are.at (16 - t) (omega arith) k e (nibbles k i) (small k e i))))
+    ap (λ (n : ℕ). slice_index tables (128 * (16 - t) + 16 * k + n)) (same k e i g)
+    ∙ are.at (16 - t) (omega arith) k e (nibbles k i) (small k e i))))
 
 -- computed as two halves of 128 bits
 pub halves_joined : (a b c d : ℕ) → b < 2 ^ 128 → d < 2 ^ 128 → (a * 2 ^ 128 + b) * 2 ^ 4 < 2 ^ 256

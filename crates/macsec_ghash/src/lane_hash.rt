@@ -70,7 +70,7 @@ pub struct RunningHash {
 }
 
 impl RunningHash {
-    ghost use Rattle.macsec_ghash.specs.Running.{HasRun};
+    ghost use Rattle.macsec_ghash.specs.Running.{HasRun, hash_so_far};
 
     /// Starts a hash of no blocks.
     #[inline(always)]
@@ -108,22 +108,23 @@ impl RunningHash {
     /// Hashes the blocks of `bytes` one by one. The last block is padded with zeros.
     #[inline(always)]
     fn absorb_rest(&mut self, powers: &KeyPowers, bytes: &[u8])
-        ensures { hash_after powers.now self.new.sum.0 (take self.new.waiting_count self.new.waiting)
-            ≡ hash_after powers.now (hash_after powers.now self.old.sum.0 (take self.old.waiting_count self.old.waiting)) (pad bytes.now) }
+        ensures { hash_so_far self.new powers.now
+            ≡ hash_after powers.now (hash_so_far self.old powers.now) (pad bytes.now) }
     {
         for chunk in bytes.chunks(16) {
             self.push(powers, block_of(chunk));
         }
     }
 
-    /// Hashes the first eight blocks of `bytes` if none are waiting, else the first. Returns the number of their octets.
+    /// Hashes the first eight blocks of `bytes` if none are waiting, else the first. Returns the number of their
+    /// octets.
     #[inline(always)]
     fn absorb_first(&mut self, powers: &KeyPowers, bytes: &[u8]) -> usize
         requires { 128 ≤ length bytes.now }
         ensures some { 0 < result }
         ensures within { result ≤ length bytes.now }
-        ensures hash { hash_after powers.now (hash_after powers.now self.new.sum.0 (take self.new.waiting_count self.new.waiting)) (pad (drop result bytes.now))
-            ≡ hash_after powers.now (hash_after powers.now self.old.sum.0 (take self.old.waiting_count self.old.waiting)) (pad bytes.now) }
+        ensures hash { hash_after powers.now (hash_so_far self.new powers.now) (pad (drop result bytes.now))
+            ≡ hash_after powers.now (hash_so_far self.old powers.now) (pad bytes.now) }
     {
         if self.waiting_count == 0 {
             self.absorb_eight(powers, bytes);
@@ -193,8 +194,7 @@ impl RunningHash {
     /// Hashes one block.
     #[inline(always)]
     fn push(&mut self, powers: &KeyPowers, block: Block)
-        ensures { hash_after powers.now self.new.sum.0 (take self.new.waiting_count self.new.waiting)
-            ≡ hash_next powers.now (hash_after powers.now self.old.sum.0 (take self.old.waiting_count self.old.waiting)) block.0 }
+        ensures { hash_so_far self.new powers.now ≡ hash_next powers.now (hash_so_far self.old powers.now) block.0 }
     {
         self.waiting[self.waiting_count] = block.0;
         if self.waiting_count < 7 {

@@ -26,7 +26,8 @@ fn add(a: u8x32, b: u8x32) -> u8x32
 /// The lanes of a vector, followed by the lanes of another one.
 #[inline(always)]
 fn side_by_side(a: u8x16, b: u8x16) -> u8x32
-    ensures { (i : ℕ) → i < 16 → (slice_index result (0 + i) ≡ slice_index a i) × (slice_index result (16 + i) ≡ slice_index b i) }
+    ensures { (i : ℕ) → i < 16
+        → (slice_index result (0 + i) ≡ slice_index a i) × (slice_index result (16 + i) ≡ slice_index b i) }
 {
     a.shuffle(
         b,
@@ -132,7 +133,9 @@ fn octets_of_sums(tables: &[u8; TABLES_LEN], octet: usize, nibbles: &[u8x32; 8])
 /// Each half of a vector without its first lane, followed by the first lane of the same half of another vector.
 #[inline(always)]
 fn moved_left(a: u8x32, b: u8x32) -> u8x32
-    ensures inner { (i : ℕ) → i < 15 → (slice_index result (0 + i) ≡ slice_index a (0 + suc i)) × (slice_index result (16 + i) ≡ slice_index a (16 + suc i)) }
+    ensures inner { (i : ℕ) → i < 15
+        → (slice_index result (0 + i) ≡ slice_index a (0 + suc i))
+        × (slice_index result (16 + i) ≡ slice_index a (16 + suc i)) }
     ensures last { (slice_index result 15 ≡ slice_index b 0) × (slice_index result 31 ≡ slice_index b 16) }
 {
     a.shuffle(
@@ -179,8 +182,8 @@ fn number_of(octets: u8x16) -> u128
     u128::from_be_bytes(octets.to_array())
 }
 
-/// One more turn of `moved_sums`: the numbers so far are shifted left by one octet, and the sums of the next octet of the
-/// products are added.
+/// One more turn of `moved_sums`: the numbers so far are shifted left by one octet, and the sums of the next octet of
+/// the products are added.
 #[inline(always)]
 fn after_turn(
     tables: &[u8; TABLES_LEN],
@@ -238,8 +241,8 @@ fn moved_sums(tables: &[u8; TABLES_LEN], nibbles: &[u8x32; 8]) -> (u8x32, u8x32)
     (left, right)
 }
 
-/// The sum of the products of eight blocks with the powers of a key, from the eighth power down. The blocks are given as
-/// vectors of octets. The products of their nibbles are looked up and added, and one residue is computed for all of
+/// The sum of the products of eight blocks with the powers of a key, from the eighth power down. The blocks are given
+/// as vectors of octets. The products of their nibbles are looked up and added, and one residue is computed for all of
 /// them.
 #[inline(always)]
 pub fn sum_of_products(blocks: &[u8x16; 8], powers: &KeyPowers) -> Block

@@ -19,7 +19,8 @@ use Rattle.macsec_ghash.proofs.lanes.sum_of_products.Goals as goal
 pub moved_sums-requires : goal.moved_sums-requires
 moved_sums-requires c =
     let vectors : List (List ℕ) = c.nibbles_of.result ∷ c.nibbles_of-2.result ∷ c.nibbles_of-3.result
-    ∷ c.nibbles_of-4.result ∷ c.nibbles_of-5.result ∷ c.nibbles_of-6.result ∷ c.nibbles_of-7.result ∷ c.nibbles_of-8.result ∷ [] in
+    ∷ c.nibbles_of-4.result ∷ c.nibbles_of-5.result ∷ c.nibbles_of-6.result
+    ∷ c.nibbles_of-7.result ∷ c.nibbles_of-8.result ∷ [] in
     below_eight (λ p. (k : ℕ) → k < 32 → lane_at vectors p k < 16)
     c.nibbles_of.ensures.small c.nibbles_of-2.ensures.small c.nibbles_of-3.ensures.small c.nibbles_of-4.ensures.small
     c.nibbles_of-5.ensures.small c.nibbles_of-6.ensures.small c.nibbles_of-7.ensures.small c.nibbles_of-8.ensures.small
@@ -40,7 +41,8 @@ returns c =
     (λ i. c.nibbles_of-5.ensures.octets (0 + i)) (λ i. c.nibbles_of-6.ensures.octets (0 + i))
     (λ i. c.nibbles_of-7.ensures.octets (0 + i)) (λ i. c.nibbles_of-8.ensures.octets (0 + i)) in
     let vectors : List (List ℕ) = c.nibbles_of.result ∷ c.nibbles_of-2.result ∷ c.nibbles_of-3.result
-    ∷ c.nibbles_of-4.result ∷ c.nibbles_of-5.result ∷ c.nibbles_of-6.result ∷ c.nibbles_of-7.result ∷ c.nibbles_of-8.result ∷ [] in
+    ∷ c.nibbles_of-4.result ∷ c.nibbles_of-5.result ∷ c.nibbles_of-6.result
+    ∷ c.nibbles_of-7.result ∷ c.nibbles_of-8.result ∷ [] in
     let left : ℕ → ℕ → ℕ = λ k i. octets k i / 2 ^ 4 in
     let right : ℕ → ℕ → ℕ = λ k i. octets k i % 2 ^ 4 in
     let left_lt : (k : ℕ) → k < 8 → (i : ℕ) → left k i < 16 = λ k g i. let lt = octets_lt k g i in omega (arith, lt) in
