@@ -14,6 +14,7 @@ pub mod RoundKeysAt
 pub mod WordSets
 pub mod WordLanes
 pub mod Halves
+pub mod Moved
 pub mod Places
 pub mod LookUps
 pub mod Represented

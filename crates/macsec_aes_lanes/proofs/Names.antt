@@ -22,10 +22,10 @@ pub use Rattle.macsec_aes.{
 }
 pub use Rattle.macsec_aes_lanes.specs.{
   AffineConstant.plus_constant,
-  Lanes.{columns_right, lane_at, lane_of, rows_below},
+  Lanes.{columns_right, lane_at, lane_of, rows_below, unmoved_rows_below},
   Nibbles.{block_in, byte_below, byte_shifted, entry, IsPlace, state_in, state_of},
   Planes.{AreAll, bit_of, block_of, byte_of, digit, octet, with_digit},
-  RoundKeys.planes_of,
+  RoundKeys.{AreAllMoved, moves_left, planes_of},
   Wide.{block_in_half, byte_in_half},
 }
 unfoldable pub use Rattle.macsec_aes.specs.{
@@ -34,6 +34,7 @@ unfoldable pub use Rattle.macsec_aes.specs.{
 }
 unfoldable pub use Rattle.macsec_aes_lanes.specs.{
   AffineConstant.{kept_round_key, with_constant},
+  Moved.rows_moved,
   Nibbles.represented,
   Planes.number,
   Tower.{linear, nibble_inverse, norm, products, sums},

@@ -1,5 +1,7 @@
 pub mod AffineConstant
+pub mod Expanded
 pub mod Lanes
+pub mod Moved
 pub mod Nibbles
 pub mod Planes
 pub mod RoundKeys

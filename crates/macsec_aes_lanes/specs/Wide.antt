@@ -1,6 +1,6 @@
--- Planes of 32 lanes. The first half of the lanes has the states of eight blocks, the second half the states of the next
--- eight.
-use Rattle.std.specs.Prelude.{◌≡◌, ℕ, ◌+◌, ◌*◌, ◌/◌, ◌%◌, ◌<◌, List, map, slice_index}
+-- Planes of 32 lanes. The first half of the lanes has the states of eight blocks, the second half the states of the
+-- next eight.
+use Rattle.std.specs.Prelude.{ℕ, ◌+◌, ◌*◌, ◌/◌, ◌%◌, List, map}
 use Rattle.std.specs.List.{range_with_len}
 use Rattle.macsec_aes_lanes.specs.Lanes.{lane_of}
 use Rattle.macsec_aes_lanes.specs.Planes.{octet}
@@ -15,7 +15,3 @@ byte_in_half p h k m = octet p (16 * h + lane_of m) k
 
 abbrev pub block_in_half : List (List ℕ) → ℕ → ℕ → List ℕ
 block_in_half p h k = map (byte_in_half p h k) (range_with_len 0 16)
-
--- each of sixteen blocks is this one
-abbrev pub AreAllInHalves : List (List ℕ) → List ℕ → Type 0
-AreAllInHalves p block = (h : ℕ) → h < 2 → (k : ℕ) → k < 8 → (m : ℕ) → m < 16 → byte_in_half p h k m ≡ slice_index block m

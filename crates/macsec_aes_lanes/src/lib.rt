@@ -8,8 +8,10 @@
 //! table whole.
 #![tactic(auto)]
 
-ghost use Rattle.std.specs.Prelude.{◌≡◌, ℕ, ◌<◌, [], length, map, slice_index_or};
+ghost use Rattle.std.specs.Prelude.{◌≡◌, ℕ, ◌<◌, [], false, length, map, slice_index_or, true};
 ghost use Rattle.macsec_aes.specs.Aes.{aes};
+ghost use Rattle.macsec_aes.specs.Keys.{key_bytes};
+ghost use Rattle.macsec_aes_lanes.specs.Expanded.{IsExpanded};
 
 mod lanes;
 mod nibble_state;
@@ -24,6 +26,7 @@ mod wide_state;
 mod words;
 
 use nibble_state::{both, first_round, last_round};
+use schedule::ExpandedKey;
 pub use schedule::LaneSchedule;
 use state::{add_round_key, blocks_of, mix_columns, shift_rows, states_of, sub_bytes_but_constant};
 
@@ -31,18 +34,21 @@ use state::{add_round_key, blocks_of, mix_columns, shift_rows, states_of, sub_by
 pub fn encrypt8(schedule: &LaneSchedule, blocks: &mut [[u8; 16]; 8])
     ensures { blocks.new ≡ map (aes schedule.now) blocks.old }
 {
-    if schedule.is_wide() {
+    let expanded = schedule.expanded();
+    if expanded.wide {
         encrypt8_by_look_ups(schedule, blocks);
     } else {
-        encrypt8_in_planes(schedule, blocks);
+        encrypt8_in_planes(expanded, blocks);
     }
 }
 
 /// The same in planes of 128 bits.
-fn encrypt8_in_planes(schedule: &LaneSchedule, blocks: &mut [[u8; 16]; 8])
-    ensures { blocks.new ≡ map (aes schedule.now) blocks.old }
+fn encrypt8_in_planes(schedule: &ExpandedKey, blocks: &mut [[u8; 16]; 8])
+    requires expanded { IsExpanded schedule.now }
+    requires narrow { schedule.now.wide ≡ false }
+    ensures { blocks.new ≡ map (aes (key_bytes schedule.now.key)) blocks.old }
 {
-    let rounds = schedule.rounds();
+    let rounds = schedule.rounds;
     let mut states = add_round_key(states_of(blocks), schedule.round_key(0));
     for round in 1..rounds {
         let shifted = shift_rows(sub_bytes_but_constant(states));
@@ -106,17 +112,20 @@ pub fn encrypt6(schedule: &LaneSchedule, blocks: &mut [[u8; 16]; 6])
 pub fn encrypt16(schedule: &LaneSchedule, blocks: &mut [[u8; 16]; 16])
     ensures { blocks.new ≡ map (aes schedule.now) blocks.old }
 {
-    if schedule.is_wide() {
-        encrypt16_at_once(schedule, blocks);
+    let expanded = schedule.expanded();
+    if expanded.wide {
+        encrypt16_at_once(expanded, blocks);
     } else {
-        encrypt16_in_halves(schedule, blocks);
+        encrypt16_in_halves(expanded, blocks);
     }
 }
 
 /// The same in planes of 128 bits, eight blocks after the other eight.
 #[inline(always)]
-fn encrypt16_in_halves(schedule: &LaneSchedule, blocks: &mut [[u8; 16]; 16])
-    ensures { blocks.new ≡ map (aes schedule.now) blocks.old }
+fn encrypt16_in_halves(schedule: &ExpandedKey, blocks: &mut [[u8; 16]; 16])
+    requires expanded { IsExpanded schedule.now }
+    requires narrow { schedule.now.wide ≡ false }
+    ensures { blocks.new ≡ map (aes (key_bytes schedule.now.key)) blocks.old }
 {
     let mut first = [[0; 16]; 8];
     let mut second = [[0; 16]; 8];
@@ -128,19 +137,25 @@ fn encrypt16_in_halves(schedule: &LaneSchedule, blocks: &mut [[u8; 16]; 16])
     blocks[8..].copy_from_slice(&second);
 }
 
-/// The same in planes of 256 bits.
+/// The same in planes of 256 bits, without ShiftRows in the rounds. Four times ShiftRows move no row. The rounds are
+/// two more than a multiple of four, and `blocks_of` moves the rows for these two.
 #[inline(always)]
-fn encrypt16_at_once(schedule: &LaneSchedule, blocks: &mut [[u8; 16]; 16])
-    ensures { blocks.new ≡ map (aes schedule.now) blocks.old }
+fn encrypt16_at_once(schedule: &ExpandedKey, blocks: &mut [[u8; 16]; 16])
+    requires expanded { IsExpanded schedule.now }
+    requires wide { schedule.now.wide ≡ true }
+    ensures { blocks.new ≡ map (aes (key_bytes schedule.now.key)) blocks.old }
 {
-    let rounds = schedule.rounds();
+    let rounds = schedule.rounds;
     let first = wide_state::states_of(blocks);
     let mut states = wide_state::add_round_key(first, schedule.round_key(0));
-    for round in 1..rounds {
-        let shifted = wide_state::shift_rows(wide_state::sub_bytes_but_constant(states));
-        let mixed = wide_state::mix_columns(shifted);
-        states = wide_state::add_round_key(mixed, schedule.round_key(round));
+    for four in 0..rounds / 4 {
+        let before = 4 * four;
+        let one = wide_state::round(states, schedule.round_key(before + 1), 1);
+        let two = wide_state::round(one, schedule.round_key(before + 2), 2);
+        let three = wide_state::round(two, schedule.round_key(before + 3), 3);
+        states = wide_state::round(three, schedule.round_key(before + 4), 4);
     }
-    let last = wide_state::shift_rows(wide_state::sub_bytes_but_constant(states));
+    let next = wide_state::round(states, schedule.round_key(rounds - 1), 1);
+    let last = wide_state::sub_bytes_but_constant(next);
     *blocks = wide_state::blocks_of(wide_state::add_round_key(last, schedule.round_key(rounds)));
 }

@@ -7,7 +7,7 @@ use Rattle.macsec_aes_lanes.proofs.{
 use Rattle.macsec_aes_lanes.proofs.wide_state.in_halves.Goals as goal
 
 pub returns : goal.returns
-returns c block all h lh k l m lt =
+returns c h lh k l m lt =
     let key = c.args.key in
     let j = lane_of m in
     let t = lane_of-lt m lt in
@@ -25,4 +25,3 @@ returns c block all h lh k l m lt =
     (ap (λ (x : ℕ). bit_at x k) (c.side_by_side-6.ensures h lh j t ∙ same _))
     (ap (λ (x : ℕ). bit_at x k) (c.side_by_side-7.ensures h lh j t ∙ same _))
     (ap (λ (x : ℕ). bit_at x k) (c.side_by_side-8.ensures h lh j t ∙ same _)))
-    ∙ all k l m lt

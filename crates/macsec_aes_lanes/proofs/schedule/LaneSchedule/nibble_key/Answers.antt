@@ -7,7 +7,9 @@ use Rattle.macsec_aes_lanes.proofs.schedule.LaneSchedule.nibble_key.Goals as goa
 
 pub returns : goal.returns
 returns c h lh =
-    let key : List ℕ = slice_index_or c.self.inside.nibble_keys c.args.round [] in
-    same_blocks (λ m. represented (slice_index c.side_by_side.result (16 * h + m))) (λ m. represented (slice_index key m))
-    (λ m t. ap represented (c.side_by_side.ensures h lh m t ∙ below_two (λ h. lane_at (key ∷ key ∷ []) h m ≡ slice_index key m) refl refl h lh))
-    ∙ rw c.self.view_is at (c.self.invariant.1.each c.args.round (rw c.self.view_is c.requires))
+    let key : List ℕ = slice_index_or c.self.inside.expanded.nibble_keys c.args.round [] in
+    same_blocks (λ m. represented (slice_index c.side_by_side.result (16 * h + m)))
+    (λ m. represented (slice_index key m))
+    (λ m t. ap represented (c.side_by_side.ensures h lh m t
+    ∙ below_two (λ h. lane_at (key ∷ key ∷ []) h m ≡ slice_index key m) refl refl h lh))
+    ∙ rw c.self.view_is at (c.self.invariant.nibbles.each c.args.round (rw c.self.view_is c.requires))
