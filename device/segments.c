@@ -6,6 +6,7 @@
  * headers are those that dividing would write, octet for octet: dividing gives back the same frames. */
 #include "frames.h"
 #include <arpa/inet.h>
+#include <emmintrin.h>
 
 /* EtherTypes. */
 enum { VLAN = 0x8100, PROVIDER_VLAN = 0x88a8, IPV4 = 0x0800, IPV6 = 0x86dd };
@@ -33,19 +34,29 @@ static uint32_t fold(uint64_t sum) {
     return (uint32_t)sum;
 }
 
-/* Adds octets to a sum of the Internet checksum. They begin at an even place of it. The order of octets in a word
- * changes only their order in the sum. */
+/* Adds octets to a sum of the Internet checksum. They begin at an even place of it. The order of octets in a number
+ * changes only their order in the sum. Two numbers of eight octets are in a vector, which every x86-64 processor has.
+ * They are added modulo 2^64, and their upper halves apart, so that no carry is lost. */
 static uint32_t add(uint32_t sum, const uint8_t *octets, size_t length) {
-    uint64_t all = 0, carry = 0, word;
-    for (; length >= sizeof word; octets += sizeof word, length -= sizeof word) {
-        memcpy(&word, octets, sizeof word);
-        all += word;
-        carry += all < word;
+    __m128i whole = _mm_setzero_si128(), upper = whole, a, b;
+    uint64_t parts[2], last;
+    for (; length >= sizeof a + sizeof b; octets += sizeof a + sizeof b, length -= sizeof a + sizeof b) {
+        memcpy(&a, octets, sizeof a);
+        memcpy(&b, octets + sizeof a, sizeof b);
+        whole = _mm_add_epi64(whole, _mm_add_epi64(a, b));
+        upper = _mm_add_epi64(upper, _mm_add_epi64(_mm_srli_epi64(a, 32), _mm_srli_epi64(b, 32)));
     }
-    word = 0;
-    memcpy(&word, octets, length);
-    all = fold((all >> 32) + (all & UINT32_MAX) + (word >> 32) + (word & UINT32_MAX) + carry);
-    return fold((uint64_t)sum + htons((uint16_t)all));
+    whole = _mm_add_epi64(upper, _mm_sub_epi64(whole, _mm_slli_epi64(upper, 32)));
+    memcpy(parts, &whole, sizeof parts);
+    parts[0] += parts[1];
+    for (; length >= sizeof last; octets += sizeof last, length -= sizeof last) {
+        memcpy(&last, octets, sizeof last);
+        parts[0] += (last >> 32) + (last & UINT32_MAX);
+    }
+    last = 0;
+    memcpy(&last, octets, length);
+    parts[0] += (last >> 32) + (last & UINT32_MAX);
+    return fold((uint64_t)sum + htons((uint16_t)fold(parts[0])));
 }
 
 struct unfinished segments_unfinished(const struct virtio_net_hdr *about, uint8_t *octets, size_t length) {
