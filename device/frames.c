@@ -111,17 +111,14 @@ enum outcome frames_receive(struct device *d, const struct frame *frame) {
     return outcome == GONE ? outcome : frames_present(d, frame);
 }
 
-/* With workers, one frame alone takes the path without them too. */
-enum outcome frames_from_link(struct device *d) {
+/* Reads a batch of LINK, and says how many frames it has. With workers, one frame alone takes the path without them
+ * too. */
+static enum outcome read_batch(struct device *d, unsigned *frames_read) {
     struct unfinished frames[BATCH];
     unsigned count;
-    enum outcome outcome = parallel_deliver(d);
-    bool alone;
-    if (outcome == DONE)
-        outcome = link_read(&d->link, frames, &count);
-    if (outcome != DONE)
-        return outcome;
-    alone = d->workers == NULL || (count == 1 && workers_under_way(d->workers, RECEIVING) == 0);
+    enum outcome outcome = link_read(&d->link, frames, &count);
+    bool alone = d->workers == NULL || (count == 1 && workers_under_way(d->workers, RECEIVING) == 0);
+    *frames_read = count;
     for (unsigned i = 0; i < count; i++) {
         struct segments s;
         struct frame frame;
@@ -131,6 +128,20 @@ enum outcome frames_from_link(struct device *d) {
                 return GONE;
     }
     floods_stop(d);
+    return outcome;
+}
+
+/* Without workers a batch takes so long that more frames have come meanwhile, which can be joined to what waits for
+ * TAP. A frame that comes alone does not wait for them. */
+enum outcome frames_from_link(struct device *d) {
+    enum outcome outcome = parallel_deliver(d);
+    unsigned count = BATCH, all = 0;
+    while (outcome == DONE && all < BATCH && count > 1 && (all == 0 || d->workers == NULL)) {
+        outcome = read_batch(d, &count);
+        all += count;
+    }
+    if (outcome == GONE || all == 0)
+        return outcome;
     outcome = parallel_deliver(d);
-    return tap_flush(&d->tap, &d->counts) == GONE ? GONE : outcome;
+    return parallel_flush(d) == GONE ? GONE : outcome;
 }

@@ -265,7 +265,7 @@ int64_t history_heard(const struct history *h, const uint8_t sci[8]);
 
 /* Reads a batch of frames from TAP, and sends what the endpoint makes of them. */
 enum outcome frames_from_client(struct device *d);
-/* Reads a batch of frames from LINK, and delivers what the endpoint makes of them. */
+/* Reads frames from LINK, less than two batches, and delivers what the endpoint makes of them. */
 enum outcome frames_from_link(struct device *d);
 /* The frames that were read of TAP in a batch; those that used a packet number, and those that had none reserved. */
 struct client_batch {

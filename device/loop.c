@@ -206,7 +206,7 @@ static int turn(struct device *d, bool *blocked) {
         RETURN_IF_FAILED(on_event(d, &events[i]));
     RETURN_IF_FAILED(end_of(d, held_frames_give(d)));
     RETURN_IF_FAILED(end_of(d, parallel_go_on(d)));
-    RETURN_IF_FAILED(end_of(d, tap_flush(&d->tap, &d->counts)));
+    RETURN_IF_FAILED(end_of(d, parallel_flush(d)));
     if (has_rest(d))
         RETURN_IF_FAILED(end_of(d, frames_from_client(d)));
     RETURN_IF_FAILED(send_answers(d));

@@ -160,6 +160,10 @@ enum outcome parallel_go_on(struct device *d) {
     return outcome == GONE || send_finished(d) == GONE ? GONE : DONE;
 }
 
+enum outcome parallel_flush(struct device *d) {
+    return workers_under_way(d->workers, RECEIVING) > 0 ? DONE : tap_flush(&d->tap, &d->counts);
+}
+
 enum outcome parallel_drain(struct device *d) {
     bool gone = false;
     if (d->workers == NULL)

@@ -117,6 +117,8 @@ enum outcome parallel_receive(struct device *d, const struct frame *frame, unsig
 enum outcome parallel_deliver(struct device *d);
 /* Sends and delivers the finished frames that are first. Does nothing without workers. */
 enum outcome parallel_go_on(struct device *d);
+/* Gives TAP what waits for it, unless frames of LINK are under way: these can be joined to it. */
+enum outcome parallel_flush(struct device *d);
 /* Waits until no job is under way. Then all frames that were read are counted by the endpoint. Those that LINK does not
  * take yet are sealed, and wait. Does nothing without workers. */
 enum outcome parallel_drain(struct device *d);

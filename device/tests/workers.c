@@ -18,6 +18,7 @@ static const uint8_t sender_sci[8] = { 2, 0, 0, 0, 0, 1, 0, 1 };
 
 static struct device a, b;
 static uint64_t to_send, sent, delivered, next_number, lost, waits, last_pn, keys;
+static unsigned unflushed; /* frames that were delivered since tap_flush */
 static unsigned burst;     /* client frames that come at once */
 static unsigned keys_last; /* how many turns there are between changes of keys, on average */
 static uint8_t wire[WIRE][MACSEC_FRAME_MAX];
@@ -83,12 +84,18 @@ enum outcome tap_write(struct tap *t, const uint8_t *octets, size_t length, stru
         wrong("frame %" PRIu64 " has other octets", number);
     next_number = number + 1;
     delivered++;
+    unflushed++;
     return DONE;
 }
 
-/* Nothing is joined. */
+/* Nothing is joined, but it could be. No frame is delivered by the other device. */
 enum outcome tap_flush(struct tap *t, struct counts *c) {
-    (void)t, (void)c;
+    (void)c;
+    if (t != &b.tap)
+        return DONE;
+    if (workers_under_way(b.workers, RECEIVING) > 0)
+        wrong("TAP gets what waits for it while frames of LINK are under way");
+    unflushed = 0;
     return DONE;
 }
 
@@ -271,8 +278,11 @@ static void turn(void) {
         wrong("the sender is gone");
     if (below(2) == 0)
         (void)link_flush(&a.link, &a.counts);
-    if (frames_from_link(&b) == GONE || parallel_go_on(&a) == GONE || parallel_go_on(&b) == GONE)
+    if (frames_from_link(&b) == GONE || parallel_go_on(&a) == GONE || parallel_go_on(&b) == GONE ||
+        parallel_flush(&b) == GONE)
         wrong("a device is gone");
+    if (unflushed > 0 && workers_under_way(b.workers, RECEIVING) == 0)
+        wrong("TAP does not get what waits for it");
     if (below(keys_last) == 0)
         change_key();
     if (below(4) == 0)
