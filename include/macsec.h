@@ -54,7 +54,7 @@
  *            overwrite the stack that they used. An endpoint overwrites a key when it retires it (macsec_retire_key). A
  *            macsec_key, and a slot with a job, keep the octets of their key also after that. Registers, swap, core
  *            dumps and the caller's own copies are not covered. Give each call 96 KB of stack: the calls that create an
- *            endpoint and macsec_load took 66 KB on x86-64, and the others 33 KB or less (measured, not proved).
+ *            endpoint and macsec_load took 66 KB on x86-64, and the others 43 KB or less (measured, not proved).
  * PROCESSOR  An x86-64 processor with SSSE3 (every x86-64-v2 has it). The library does not test for it: on another one
  *            the process ends with SIGILL.
  * HANDLES    A handle is the caller's memory, initialized with MACSEC_ENDPOINT_INIT (all zero). Do not copy, move or

@@ -4,12 +4,12 @@
 #include "../../include/macsec.h"
 #include <string.h>
 
-/* As much as these calls use, measured: 31 kilooctets, and 59 where an endpoint is made. A build without proofs keeps
+/* As much as these calls use, measured: 41 kilooctets, and 59 where an endpoint is made. A build without proofs keeps
  * more on the stack. */
 #ifdef UNPROVED
 enum { TAKING = 128 << 10, MAKING = 448 << 10, FRAMES = 32 << 10 };
 #else
-enum { TAKING = 32 << 10, MAKING = 64 << 10 };
+enum { TAKING = 42 << 10, MAKING = 64 << 10 };
 #endif
 #define CLEARS(depth)                                                                                                  \
     __attribute__((noinline)) static void clear_##depth(void) {                                                        \

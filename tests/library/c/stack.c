@@ -9,7 +9,7 @@
 #include <stdio.h>
 #include <string.h>
 
-enum { STACK = 96 * 1024, CREATING = 66 * 1024, OTHERS = 33 * 1024, MARK = 0x5a };
+enum { STACK = 96 * 1024, CREATING = 66 * 1024, OTHERS = 43 * 1024, MARK = 0x5a };
 
 static const uint8_t own_sci[8] = { 2, 0, 0, 0, 0, 1, 0, 1 }, sender_sci[8] = { 2, 0, 0, 0, 0, 2, 0, 1 };
 static const char lines[] = "end A gcm128 0200000000010001 9248 sci\nA key 0 2b2b2b2b2b2b2b2b2b2b2b2b2b2b2b2b 0\n"
