@@ -161,13 +161,15 @@ def kill_under(a: End, key: str, owns: bool) -> None:
     client.carry_out(*["own"] * owns)
     use_key(client, Packets(a.namespace, "macsec0"), 5, key)
     a.stop(signal.SIGKILL)
-    a.start()
+    start_silently(a)
 
 
 def check_killed(world: World) -> None:
     """Names of the owner's keys leave after a kill as those that were given up do. Those of keys stay that come again,
     or that another client has brought, even if their names had left before."""
-    world.start()
+    world.prepare()
+    for end in world.ends:
+        start_silently(end)  # a frame that IPv6 sends unasked would give a name
     a = world.ends[0]
     names = names_of(a)
     again, other, gone = (secrets.token_hex(16) for _ in range(3))
