@@ -1,11 +1,11 @@
-//! AES, the block cipher of FIPS 197, on 8 or 16 blocks at a time, in vector lanes and without tables.
+//! AES, the block cipher of FIPS 197, on six, eight or 16 blocks at a time, in vector lanes.
 //!
-//! Proved: `encrypt8` and `encrypt16` replace each of 8 or 16 blocks by its AES encryption under the key of a schedule.
+//! Proved: `encrypt6`, `encrypt8` and `encrypt16` replace each block by its AES encryption under the key of a schedule.
 //! AES is as `macsec_aes` defines it and as its `encrypt` computes it. Contracts see a `LaneSchedule` as its key's
 //! bytes, so round keys of another key cannot take its place.
 //!
-//! No contract is about time. No table is looked up by secret data. `macsec_aes`, which expands a schedule, reads its
-//! table whole.
+//! No contract is about time. Tables of 16 entries are held in vectors, so no address depends on secret data.
+//! `macsec_aes`, which expands a schedule, reads its table whole.
 #![tactic(auto)]
 
 ghost use Rattle.std.specs.Prelude.{◌≡◌, ℕ, ◌<◌, [], false, length, map, slice_index_or, true};

@@ -23,7 +23,7 @@ fn rows_shifted(a: u8x32) -> u8x32
     ])
 }
 
-/// Each byte of a state becomes the one that ShiftRows moves to the next row.
+/// Each byte of a state becomes the one below it after ShiftRows.
 #[inline(always)]
 fn next_shifted(a: u8x32) -> u8x32
     ensures { (h : ℕ) → h < 2 → (m : ℕ) → m < 16
@@ -35,7 +35,7 @@ fn next_shifted(a: u8x32) -> u8x32
     ])
 }
 
-/// Each byte of a state becomes the one that ShiftRows moves to the row before.
+/// Each byte of a state becomes the one above it after ShiftRows.
 #[inline(always)]
 fn last_shifted(a: u8x32) -> u8x32
     ensures { (h : ℕ) → h < 2 → (m : ℕ) → m < 16
@@ -75,8 +75,8 @@ pub fn first_round(blocks: u8x32, key: u8x32) -> u8x32
     add(representing(blocks), key)
 }
 
-/// A round (FIPS 197, 5.1) with a round key that includes the constant which SubBytes omits. For the bytes a, b, c and d
-/// from a row downwards, 02 a + b + d and 02 b + c are added.
+/// A round (FIPS 197, 5.1) with a round key that includes the constant which SubBytes omits. For the bytes a, b, c and
+/// d from a row downwards, 02 a + b + d and 02 b + c are added.
 #[inline(always)]
 pub fn round(x: u8x32, key: u8x32) -> u8x32
     ensures { (h : ℕ) → h < 2 → state_in result h

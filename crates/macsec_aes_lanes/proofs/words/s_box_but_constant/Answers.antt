@@ -11,7 +11,5 @@ pub returns : goal.returns
 returns c k l =
     let x = number (bits_at k (planes 8 c.args.x)) in
     let small = number-lt (planes 8 c.args.x) k in
-    let s = c.sums-sums.ensures k l in
-    let n = c.norm.ensures k l x small s in
-    let i = c.inverse-inverse_of_norm.ensures k l ∙ ap nibble_inverse n in
-    c.linear_of_products.ensures k l x small (c.products.ensures k l x small s i)
+    let i = c.inverse.ensures k l ∙ ap nibble_inverse (c.sums_and_norm.ensures.norm k l) in
+    c.linear_of_products.ensures k l x small (c.sums_and_norm.ensures.sums k l) i
