@@ -150,10 +150,36 @@ impl<'k> KeyStream<'k> {
         }
     }
 
-    /// Computes the first batch, in place. Returns the key stream of its first counter block. The next octets are the
-    /// key stream of the counter block after it.
+    /// Computes the first batch, in place, before a text of so many octets. Returns the key stream of its first counter
+    /// block. The next octets are the key stream of the counter block after it.
     #[inline(always)]
-    pub fn begin(&mut self) -> [u8; 16]
+    pub fn begin(&mut self, text_len: usize) -> [u8; 16]
+        ensures stream { IsStreamAt self.new self.old.schedule.now (inc32 self.old.counter) 0 }
+        ensures block { result ≡ gctr self.old.schedule.now self.old.counter (replicate 16 0) }
+    {
+        // For fewer octets, six blocks and the batches after them take less.
+        if text_len > 176 && self.schedule.is_wide() {
+            return self.begin_with_sixteen();
+        }
+        self.begin_with_six()
+    }
+
+    /// The same by 16 blocks.
+    #[inline(always)]
+    fn begin_with_sixteen(&mut self) -> [u8; 16]
+        ensures stream { IsStreamAt self.new self.old.schedule.now (inc32 self.old.counter) 0 }
+        ensures block { result ≡ gctr self.old.schedule.now self.old.counter (replicate 16 0) }
+    {
+        self.counter = write_sixteen(self.schedule, self.counter, &mut self.octets);
+        self.used = 16;
+        let mut block = [0; 16];
+        add_octets(&mut block, &self.octets);
+        block
+    }
+
+    /// The same by six blocks.
+    #[inline(always)]
+    fn begin_with_six(&mut self) -> [u8; 16]
         ensures stream { IsStreamAt self.new self.old.schedule.now (inc32 self.old.counter) 0 }
         ensures block { result ≡ gctr self.old.schedule.now self.old.counter (replicate 16 0) }
     {

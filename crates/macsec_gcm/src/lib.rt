@@ -92,7 +92,7 @@ impl GcmKey {
         requires aad_length { length aad.now ≤ max_aad_len }
         ensures { (text.new, result) ≡ seal_of self.now iv.now aad.now text.old }
     {
-        let mut sealer = Sealer::start(self, iv);
+        let mut sealer = Sealer::before_text(self, iv, text.len());
         sealer.aad(aad);
         sealer.data(text);
         sealer.finish()
@@ -115,7 +115,7 @@ impl GcmKey {
         ensures gives { open_of self.now iv.now aad.now text.old tag.now
             ≡ (if result then Some text.new else None) }
     {
-        let mut opener = Opener::start(self, iv);
+        let mut opener = Opener::before_text(self, iv, text.len());
         opener.aad(aad);
         opener.check(text);
         match opener.finish(tag) {

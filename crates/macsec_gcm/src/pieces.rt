@@ -25,8 +25,17 @@ impl<'k> Sealer<'k> {
     pub fn start(key: &'k GcmKey, iv: &[u8; 12]) -> Sealer<'k>
         ensures { HasSealed result key.now iv.now [] [] }
     {
+        Sealer::before_text(key, iv, 0)
+    }
+
+    /// The same before a text of about so many octets. The number changes no result: it says how many blocks of key
+    /// stream to make at first.
+    #[inline(always)]
+    pub fn before_text(key: &'k GcmKey, iv: &[u8; 12], text_len: usize) -> Sealer<'k>
+        ensures { HasSealed result key.now iv.now [] [] }
+    {
         let mut stream = KeyStream::before(&key.schedule, pre_counter_block(iv));
-        let mask = stream.begin();
+        let mask = stream.begin(text_len);
         let authenticator = Authenticator::start(&key.powers, mask);
         Sealer {
             stream,
@@ -88,8 +97,17 @@ impl<'k> Opener<'k> {
     pub fn start(key: &'k GcmKey, iv: &[u8; 12]) -> Opener<'k>
         ensures { HasChecked result key.now iv.now [] [] }
     {
+        Opener::before_text(key, iv, 0)
+    }
+
+    /// The same before a text of about so many octets. The number changes no result: it says how many blocks of key
+    /// stream to make at first.
+    #[inline(always)]
+    pub fn before_text(key: &'k GcmKey, iv: &[u8; 12], text_len: usize) -> Opener<'k>
+        ensures { HasChecked result key.now iv.now [] [] }
+    {
         let mut stream = KeyStream::before(&key.schedule, pre_counter_block(iv));
-        let mask = stream.begin();
+        let mask = stream.begin(text_len);
         let authenticator = Authenticator::start(&key.powers, mask);
         Opener {
             stream,

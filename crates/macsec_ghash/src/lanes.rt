@@ -78,7 +78,7 @@ pub fn octets_of(block: u128) -> u8x16
     turned(octets_from_right(block))
 }
 
-/// The octets of the block of 16 octets of a text.
+/// The 16 octets of a text from `start` on.
 #[inline(always)]
 pub fn octets_at(text: &[u8], start: usize) -> u8x16
     requires { start + 16 ≤ length text.now }

@@ -1,5 +1,5 @@
 use Rattle.macsec_gcm.specs.Gcm.{gctr}
-use Rattle.macsec_gcm.proofs.pieces.Sealer.start.Goals as goal
+use Rattle.macsec_gcm.proofs.pieces.Opener.before_text.Goals as goal
 
 pub returns : goal.returns
 unfolding gctr
@@ -8,5 +8,6 @@ returns c =
     let mask = rw (c.before-stream.ensures.key, c.before-stream.ensures.counter) at c.begin-mask.ensures.block in
     record {
       stream = rw (← c.pre_counter_block.ensures, ← c.key.view_is) stream;
-      authenticator = rw (← c.pre_counter_block.ensures, ← c.key.view_is) (c.start-authenticator.ensures _ c.pre_counter_block.result c.key.invariant mask);
+      authenticator = rw (← c.pre_counter_block.ensures, ← c.key.view_is)
+          (c.start-authenticator.ensures _ c.pre_counter_block.result c.key.invariant mask);
     }

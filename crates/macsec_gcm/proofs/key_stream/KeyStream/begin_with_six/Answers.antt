@@ -4,7 +4,7 @@ use Rattle.{
   macsec_gcm.proofs.{KeyStreams.sum_with_key_stream, States.{get_or-put_mid, stream_after_block}},
 }
 use borrow.Rule.Slice.PartMut.{put_mid}
-use Rattle.macsec_gcm.proofs.key_stream.KeyStream.begin.Goals as goal
+use Rattle.macsec_gcm.proofs.key_stream.KeyStream.begin_with_six.Goals as goal
 
 pub returns-clause-stream : goal.returns-clause-stream
 returns-clause-stream c =
