@@ -13,5 +13,6 @@ pub mod Extended
 pub mod OtherSuites
 pub mod Reserved
 pub mod OnDisk
+pub mod LongKeys
 pub mod Renews
 pub mod RenewsInOrder

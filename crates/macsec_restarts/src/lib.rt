@@ -33,9 +33,9 @@
 //! Proved of whole runs: `gives_out_what_is_listed`, the frames that a run gives out are those in the lists.
 //!
 //! `proofs/Examples/` has runs that meet all premises of `comes_in_order_if_kept_renewing`, with the lists of what was
-//! sent and delivered, also runs with a renewed key, and runs over two journals on disks that meet those of
-//! `comes_in_order_on_disk`. For each premise of the first, except that link frames are octets, it has runs that meet
-//! the others and break order. It uses the worked runs of `macsec_counterexamples`.
+//! sent and delivered, also runs with a renewed key of 32 octets, and runs over two journals on disks that meet those
+//! of `comes_in_order_on_disk`. For each premise of the first, except that link frames are octets, it has runs that
+//! meet the others and break order. It uses the worked runs of `macsec_counterexamples`.
 //!
 //! Trusted: a later run reads what was used, delivered or saved before, except over the journal of `macsec_journal`;
 //! and no ICV is forged.

@@ -18,12 +18,13 @@ use Rattle.macsec_restarts.proofs.Names.{is_new, is_through, IsSound, Judgement,
 use Rattle.macsec_restarts.proofs.Names.{KeepingInput, kept, Key, length, lets_through, link_frame, List, lt-leb, map}
 use Rattle.macsec_restarts.proofs.Names.{nat_le, nat_lt, newly_delivered, newly_delivered_with, newly_sent, no_ends}
 use Rattle.macsec_restarts.proofs.Names.{no_salt, None, none_refused, operator_command, Option, passes, refl}
-use Rattle.macsec_restarts.proofs.Names.{Reservation, Retire, RxRow, RxSa, SentIn, Some, Standing}
+use Rattle.macsec_restarts.proofs.Names.{replicate, Reservation, Retire, RxRow, RxSa, SentIn, Some, Standing}
 use Rattle.macsec_restarts.proofs.Names.{standing_by, standing_of, start, State, state_after_receiving, step, Strict}
 use Rattle.macsec_restarts.proofs.Names.{subst, suc, sym, tables_fit, take, true, use_opened, Uses, with_ends, zero, ℕ}
 use Rattle.macsec_restarts.specs.RenewingOrder.{delivered_from_renewing}
 use Rattle.macsec_restarts.specs.RenewingRuns.{ahead_renewing_after, ahead_renewing_step, sent_from_renewing}
 use Rattle.macsec_secy.specs.Renewing.{renewal_refusal}
+use Rattle.macsec_suite.specs.Suites.{key_length}
 use Rattle.macsec_suite.specs.declared.key_row.NewKey.{NewKey}
 use Rattle.macsec_suite.specs.declared.suite.Suite.{Suite}
 use Rattle.macsec_suite.specs.declared.suite.Suite.TheVariants.{Gcm128}
@@ -55,8 +56,11 @@ good_with {kind} key keys is sound = record {
   keys = subst (All (IsKeyOf kind)) (sym keys) (All-cons (IsKeyOf kind) key [] is (All-nil (IsKeyOf kind)));
 }
 
+-- all its octets are 7
 abbrev pub key_of : Kind → ℕ → InstalledKey
-key_of kind unused = installed_key kind.suite kind.salt kind.ssci unused
+key_of kind unused = record (installed_key kind.suite kind.salt kind.ssci unused) {
+  bytes = replicate (key_length kind.suite) 7;
+}
 
 pub good : {s : State} (kind : Kind) (unused : ℕ) → s.keys ≡ key_of kind unused ∷ [] →
     (length kind.salt ≡ 12 → IsSound s) → IsGood kind s
