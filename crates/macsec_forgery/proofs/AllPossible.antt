@@ -28,11 +28,16 @@ use Rattle.{
     Uses.iv_long,
   },
   macsec_secrecy.specs.Inputs.IsUse,
-  macsec_hash_keys.{proofs.UnderKey.under_key, specs.Forgeries.under},
-  macsec_link.proofs.{Forged.possible, SealedUses.ivs_apart},
-  macsec_forgery.proofs.{Lengths.the_key_has, Sealed.{HoldsOfSent, both_open, runs_have}},
+  macsec_hash_keys.{proofs.UnderKey.under_key, specs.Forgeries.{Opens, under}},
+  macsec_link.proofs.{Forged.{possible, tag_long}, SealedUses.ivs_apart},
+  macsec_forgery.proofs.{
+    Lengths.the_key_has,
+    OneFunction.hides_and_refuses,
+    Sealed.{HoldsOfSent, both_open, runs_have},
+  },
   macsec_forgery.specs.{
     Histories.{AllowsEveryKey, OfAllSealed, SaysNothingIfOctets, UsesNoInputTwice},
+    OneFunction.HidesAndRefusesIfOctets,
     Restarts.sealed_by_both,
   },
 }
@@ -108,3 +113,13 @@ link_says_nothing law ra rb a b two key octets are =
     says_nothing key (under key seals) octets (under_key key seals)
     (sealed_under_key key IsOwn seals (λ u is. is.own) (are_sealed ra rb a b))
     (ivs_apart key seals (law ra rb a b two)) are
+
+pub hidden_and_refused : Apart → OfAllSealed HidesAndRefusesIfOctets
+hidden_and_refused law ra rb a b two key n known tries octets blocks are within of_key ivs tries_within =
+    let seals = sealed_by_both ra rb in
+    hides_and_refuses n key known (under key seals) tries (link_says_nothing law ra rb a b two key octets are) blocks
+    (sealed_under_key key IsUse seals (λ u is. is.takes) (are_sealed ra rb a b))
+    (ivs_apart key seals (law ra rb a b two))
+    (All-weaker Opens (λ u. length u.tag ≡ 16) tag_long (under key seals)
+    (All-filter (λ u. same_octets u.key key) Opens seals (both_open ra rb)))
+    (under_key key seals) within of_key ivs tries_within

@@ -3,6 +3,7 @@
 
 ghost use Rattle.macsec_forgery.specs.Histories.{AllowsEveryKey, FewKeysForgeByLength, FewKeysForgeInAnyHistory};
 ghost use Rattle.macsec_forgery.specs.Histories.{OfAllSealed, SaysNothingIfOctets, UsesNoInputTwice};
+ghost use Rattle.macsec_forgery.specs.OneFunction.{HidesAndRefusesIfOctets};
 ghost use Rattle.macsec_forgery.specs.Restarts.{FewKeysForgeOverRestarts, ForgeryIsCountedOverRestarts};
 ghost use Rattle.macsec_forgery.specs.Restarts.{GenuineOrForgedOverRestarts, OrderOrForgedOverRestarts};
 ghost use Rattle.macsec_forgery.specs.Restarts.{OriginOrForgedOverRestarts};
@@ -51,11 +52,14 @@ pub fn few_keys_forge()
 
 /// What two ends sealed allows every hash key, no input of AES is used twice under a key, except the block of zeros,
 /// and the link says nothing of the encrypted octets but how many there are, if the function of blocks is not known.
-/// The premises are those of `no_iv_at_both_renewing`.
+/// Both are said of one function too (`both`): with each hash key some function shows of any other messages what the
+/// link shows, and with all but few it makes no tag right that was not sealed. The premises are those of
+/// `no_iv_at_both_renewing`.
 pub fn two_ends_renew()
     ensures possible { OfAllSealed AllowsEveryKey }
     ensures inputs { OfAllSealed UsesNoInputTwice }
     ensures hidden { OfAllSealed SaysNothingIfOctets }
+    ensures both { OfAllSealed HidesAndRefusesIfOctets }
 {
     // The proof cites this law.
     no_iv_at_both_renewing();

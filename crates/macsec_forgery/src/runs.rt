@@ -23,8 +23,9 @@ pub fn every_key_is_possible()
     promises();
 }
 
-/// Of the hash keys, at most that many for each frame that is tried in a run have a forgery among these frames. If a
-/// tag is forged, the key's own hash key is one of them. No frame is left out whose tag an end looks at.
+/// Of the hash keys, at most that many for each frame that is tried in a run have a forgery among these frames. If the
+/// first forged tag of the run is under this key, the key's own hash key is one of them. No frame is left out whose tag
+/// an end looks at.
 pub fn few_keys_forge_in_whole_run()
     ensures few { FewKeysForgeInWholeRun }
     ensures own { OwnKeyForgesInRun }
