@@ -7,6 +7,7 @@ mod TwoEnds
 mod Order
 mod Peers
 mod SingleCalls
+mod GivenOut
 mod Saved
 mod Examples
 mod TwoEndsMet

@@ -5,6 +5,8 @@ ghost use Rattle.macsec_tag.specs.declared.identifiers.Sci.{Sci};
 ghost use Rattle.macsec_rx.specs.declared.RxRow.{RxRow};
 ghost use Rattle.macsec_ahead.specs.Ahead.{Ahead};
 ghost use Rattle.macsec_c_calls.specs.GivenUp.{Call};
+ghost use Rattle.macsec_c_runs.specs.GivenOut.{AnswersAreOutputs, DeliversFromSasWhatIsListed, DeliversWhatIsListed};
+ghost use Rattle.macsec_c_runs.specs.GivenOut.{SendsWhatIsListed};
 ghost use Rattle.macsec_c_runs.specs.Runs.{AcceptsAboveOverCalls, AcceptsOnceOverCalls, CallRun};
 ghost use Rattle.macsec_c_runs.specs.Runs.{IsWeaker, IsWeakerToAccept, NoIvOverCalls, NumbersRiseOverCalls};
 ghost use Rattle.macsec_c_runs.specs.SingleCalls.{BeginsAboveItsEnd, DeliversEachListed, DeliversFromSas, KeepsEnds};
@@ -137,4 +139,23 @@ pub fn seals_each_frame_over_calls()
 {
     // The law that the proof cites; the call does nothing.
     seals_each_frame_renewing();
+}
+
+// ---- whole runs
+
+/// What a whole run of calls gives out. Its protected frames are those of the uses that are listed as sent (`sent`).
+/// The client frames that it delivers from SAs are those that are listed as delivered (`from_sas`). Each list has each
+/// frame once, in the order of the calls. If the mode is always Strict, no others are delivered at the controlled port
+/// (`strict`). If each key is installed as a renewal, the answers are the outputs of the endpoint of `macsec_restarts`
+/// (`outputs`).
+pub fn gives_out_over_calls()
+    ensures sent { (r : CallRun) → SendsWhatIsListed r }
+    ensures from_sas { (r : CallRun) → DeliversFromSasWhatIsListed r }
+    ensures strict { (r : CallRun) → DeliversWhatIsListed r }
+    ensures outputs { (r : CallRun) → AnswersAreOutputs r }
+{
+    // Laws that the proof cites; the calls do nothing.
+    seals_each_frame_over_calls();
+    seals_each_frame_renewing();
+    lists_each_delivery_over_calls();
 }

@@ -15,6 +15,7 @@
 //!   higher packet numbers from it.
 //! - `begins_above_its_end_over_calls`: an SA that is deleted begins above its end.
 //! - `lists_each_delivery_over_calls`, `seals_each_frame_over_calls`: what is delivered and sealed is listed.
+//! - `gives_out_over_calls`: the frames that a whole run gives out are those in the lists.
 //!
 //! The calls are those of `macsec_c_calls`. A command can come as a call of its own, a line, a struct or an answer; the
 //! commands of the text of `macsec_reserve_configure` are the first calls; a frame is sent or planned, received or
