@@ -13,8 +13,6 @@ void frames_sent(struct device *d, const macsec_sent *sent) {
     if (sent->fate == MACSEC_FATE_NO_RESERVATION)
         d->counts.no_reservation++;
     history_sent(&d->history, sent);
-    if (sent->length > 0)
-        link_append(&d->link, sent->frame, sent->length, &d->counts);
 }
 
 uint32_t frames_send(struct device *d, const struct frame *frame) {
@@ -25,6 +23,8 @@ uint32_t frames_send(struct device *d, const struct frame *frame) {
     }
     (void)macsec_send(d->endpoint, frame->octets, frame->length, &sent); /* the status is in the answer too */
     frames_sent(d, &sent);
+    if (sent.length > 0)
+        link_append(&d->link, sent.frame, sent.length, &d->counts);
     return sent.fate;
 }
 

@@ -49,10 +49,10 @@ struct link {
     bool up;             /* has it carrier? */
     uint64_t unreadable; /* frames that the system can't describe, since they were last counted */
     char name[IF_NAMESIZE];
-    /* The frames that wait, in a ring: so many from `first` on. */
+    /* The frames that wait, in a ring: so many from `first` on. Those that link_append has added are in `copies`. */
     unsigned first, waiting;
-    size_t lengths[BATCH];
-    uint8_t frames[BATCH][MACSEC_FRAME_MAX];
+    struct iovec frames[BATCH];
+    uint8_t copies[BATCH][MACSEC_FRAME_MAX];
     /* What frames are read into. The last headers, so many, are prepared for the next call. */
     unsigned prepared;
     struct mmsghdr headers[BATCH];
@@ -98,7 +98,9 @@ enum outcome link_read(struct link *l, struct unfinished frames[BATCH], unsigned
 void link_keep(struct link *l, unsigned index, struct received **spare);
 /* Adds a copy of a frame to those that wait to be sent. If BATCH frames wait, it is counted as refused. */
 void link_append(struct link *l, const uint8_t *octets, size_t length, struct counts *c);
-/* Sends the frames that link_append has added. BUSY: some still wait, until LINK can be written to. */
+/* Adds a frame without a copy, if fewer than BATCH wait. Its octets must stay as they are until it has left. */
+void link_lend(struct link *l, uint8_t *octets, size_t length);
+/* Sends the frames that were added. BUSY: some still wait, until LINK can be written to. */
 enum outcome link_flush(struct link *l, struct counts *c);
 /* Counts the frames that LINK's socket has lost since the last call. */
 void link_count_lost(struct link *l, struct counts *c);
@@ -282,7 +284,8 @@ uint32_t frames_send(struct device *d, const struct frame *frame);
 enum outcome frames_receive(struct device *d, const struct frame *frame);
 /* Judges a frame, and delivers it, or lets it wait for a reservation. */
 enum outcome frames_present(struct device *d, const struct frame *frame);
-/* Parts of frames_send and of frames_present: what follows from the answer of the endpoint about a frame. */
+/* Parts of frames_send and of frames_present: what follows from the answer of the endpoint about a frame. frames_sent
+ * does not send it. */
 void frames_sent(struct device *d, const macsec_sent *sent);
 enum outcome frames_judged(struct device *d, const macsec_received *got, const struct frame *frame);
 /* Delivers what the endpoint has accepted, while the controlled port is on. */

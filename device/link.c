@@ -167,9 +167,12 @@ void link_append(struct link *l, const uint8_t *octets, size_t length, struct co
         c->link_refused++;
         return;
     }
-    memcpy(l->frames[at], octets, length);
-    l->lengths[at] = length;
+    l->frames[at] = (struct iovec){ memcpy(l->copies[at], octets, length), length };
     l->waiting++;
+}
+
+void link_lend(struct link *l, uint8_t *octets, size_t length) {
+    l->frames[(l->first + l->waiting++) % BATCH] = (struct iovec){ octets, length };
 }
 
 /* When none waits, the next one gets the memory that was used last, while caches have it. */
@@ -184,9 +187,8 @@ static int send_waiting(struct link *l) {
     struct mmsghdr headers[BATCH]; /* only those that are used are written */
     struct iovec parts[BATCH][2];
     for (unsigned i = 0; i < l->waiting; i++) {
-        unsigned at = (l->first + i) % BATCH;
         parts[i][0] = (struct iovec){ &complete, sizeof complete };
-        parts[i][1] = (struct iovec){ l->frames[at], l->lengths[at] };
+        parts[i][1] = l->frames[(l->first + i) % BATCH];
         headers[i] = (struct mmsghdr){ .msg_hdr = { .msg_iov = parts[i], .msg_iovlen = 2 } };
     }
     return sendmmsg(l->socket, headers, l->waiting, MSG_DONTWAIT);

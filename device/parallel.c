@@ -6,6 +6,8 @@
  * endpoint was then. */
 #include "device.h"
 
+/* Sends the finished frames that are first, from the memory of their places. While one of them waits for LINK no client
+ * frame is read, so no other frame gets this memory. */
 static enum outcome send_finished(struct device *d) {
     struct ring *r = workers_ring(d->workers, SENDING);
     enum outcome outcome = DONE;
@@ -13,8 +15,11 @@ static enum outcome send_finished(struct device *d) {
         struct ring_place *p;
         while (d->link.waiting < BATCH && (p = ring_first(r)) != NULL) {
             macsec_sent sent = { p->memory->out, p->length, MACSEC_OK, p->fate, 0, { 0 } };
-            d->counts.link_refused += p->length == 0; /* its packet number is used */
             frames_sent(d, &sent);
+            if (p->length > 0)
+                link_lend(&d->link, p->memory->out, p->length);
+            else
+                d->counts.link_refused++; /* its packet number is used */
             workers_remove(d->workers, SENDING);
         }
         outcome = link_flush(&d->link, &d->counts);

@@ -92,7 +92,8 @@ unsigned workers_under_way(const struct workers *w, enum direction direction);
 struct copies *workers_copies(struct workers *w, const macsec_endpoint *e, uint16_t number);
 /* Waits for the jobs that are under way and frees all copies: to be called after a line, and with another endpoint. */
 void workers_forget(struct workers *w);
-/* The place for the next frame, with memory, or NULL if the ring is full. Removes the first one, which is finished. */
+/* The place for the next frame, with memory, or NULL if the ring is full. Removes the first one, which is finished: the
+ * next workers_free can give its memory to another frame. */
 struct ring_place *workers_free(struct workers *w, enum direction direction);
 void workers_remove(struct workers *w, enum direction direction);
 /* Puts the frame of the free place into the ring, with a job for a key, or without one if that is NULL. */
