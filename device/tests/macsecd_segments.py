@@ -8,6 +8,7 @@ import itertools
 import json
 import os
 import random
+import secrets
 import select
 import signal
 import struct
@@ -208,6 +209,8 @@ def check_divided(world: World, frames: list[bytes]) -> None:
     a, b = world.ends
     got = []
     for line in ("device segments off\n", ""):
+        # Other keys: after so many frames a receiver has reserved more packet numbers than the sender has used.
+        world.keys = [secrets.token_hex(16) for _ in world.keys]
         for end in (a, b):
             end.write_config(device=f"device link link0\n{line}")
             end.start()

@@ -26,6 +26,7 @@ from house.reporting import Failed, call, report, until
 
 LIBC = ctypes.CDLL(None, use_errno=True)
 SANITIZED = [*compiling.SANITIZED, "-O1", "-DMACSECD_UNFILTERED"]
+THREADS = ["-g", "-O1", "-fsanitize=thread", "-DMACSECD_UNFILTERED", "-Wno-error"]
 # As the Makefile links it. Else the first call of a function stores the vector registers on the stack of its thread. A
 # new thread has the registers of the thread that has made it, and they can have parts of a key.
 BOUND = ["-Wl,-z,relro", "-Wl,-z,now"]

@@ -107,9 +107,14 @@ void link_append(struct link *l, const uint8_t *octets, size_t length, struct co
         c->link_refused++;
         return;
     }
-    memcpy(l->frames[at], octets, length);
-    l->lengths[at] = length;
+    l->frames[at] = (struct iovec){ memcpy(l->copies[at], octets, length), length };
     l->waiting++;
+}
+
+void link_lend(struct link *l, uint8_t *octets, size_t length) {
+    if (l->waiting == BATCH)
+        wrong("LINK gets a frame that it has no space for");
+    l->frames[(l->first + l->waiting++) % BATCH] = (struct iovec){ octets, length };
 }
 
 /* Transmits a frame, or loses it. Packet numbers of a key have to rise by one each. */
@@ -137,8 +142,8 @@ enum outcome link_flush(struct link *l, struct counts *c) {
     if (taken > WIRE - wire_count)
         taken = WIRE - wire_count;
     for (unsigned i = 0; i < taken; i++) {
-        unsigned at = (l->first + i) % BATCH;
-        transmit(l->frames[at], l->lengths[at]);
+        struct iovec *it = &l->frames[(l->first + i) % BATCH];
+        transmit(it->iov_base, it->iov_len);
     }
     c->link_out += taken;
     l->first = (l->first + taken) % BATCH;
