@@ -7,14 +7,19 @@ import json
 import os
 import shutil
 import subprocess
+import sys
 import unittest
 from collections.abc import Iterator
+from types import FrameType
 
 from macsec import Suite, capture
 from macsec.cli.decrypt import main
 
 from .frames import altered, client_frames, protected, vlan, with_fcs
 from .helpers import CAPTURES, DATA, KEYS, LONG_KEY, OTHER, SALT, SENDER, START, InFolder, main_of
+
+# The most calls of functions that macsec-decrypt may make for a frame. Under Python 3.11 it makes 47.
+MOST_CALLS = 60
 
 
 def mixed(*parts: list[bytes]) -> Iterator[bytes]:
@@ -217,3 +222,27 @@ class Files(Opening):
         shown = subprocess.run(words, capture_output=True, text=True, check=True).stdout.splitlines()
         self.assertEqual(shown[2], "1700000000.001000000\t1\tmacsec: OK, SCI 0200000000010001, AN 0, PN 0x1f5, key 1")
         self.assertEqual(shown[5].split("\t")[2], "macsec: not protected")
+
+
+class Calls(Opening):
+    def calls(self, count: int) -> int:
+        """How many calls macsec-decrypt makes for a capture of so many frames."""
+        path, out, made = self.put("IN", protected(client_frames(count))), self.folder / "OUT", 0
+        out.unlink(missing_ok=True)
+
+        def note(_frame: FrameType, event: str, _what: object) -> None:
+            nonlocal made
+            made += event in ("call", "c_call")
+
+        sys.setprofile(note)
+        try:
+            ended, _, _ = main_of(main, path, out, *self.keys(0))
+        finally:
+            sys.setprofile(None)
+        self.assertEqual(ended, 0)
+        return made
+
+    def test_few_calls_are_made_for_a_frame(self) -> None:
+        """Calls take nearly all of its time, and their number is the same in each run."""
+        self.calls(1)  # some calls are made once in a process
+        self.assertLess((self.calls(250) - self.calls(50)) / 200, MOST_CALLS)

@@ -119,8 +119,9 @@ CHECKS: list[Check] = [
     Check("instructions",
           "counts the instructions of a frame and of a key through the library for C and the program, against limits",
           "tests/library/instructions", LIBRARY, 50,
-          "a limit below what is counted, one far above it; a record that is asked for with each frame, a job that is "
-          "left to the endpoint, other keys; libraries and a program without wide planes, or without vectors for them",
+          "a limit below what is counted, one far above it; a record asked for with each frame, a job left to the "
+          "endpoint, jobs of longer frames, other keys, a search before a late key; builds without wide planes or "
+          "their vectors",
           gate=f"{NARROWER}{LIBRARIES} {' '.join(BUILT_PROGRAMS)}"),
     Check("pages", "runs the examples of the pages, and checks their links", "tools/pages", LIBRARY, 10,
           "another output, file, table or list, links to nowhere", test=f"{BUILT} --library {{shared}}", gate=""),
