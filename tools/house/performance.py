@@ -101,7 +101,7 @@ def of_devices(found: dict[str, dict[str, list[float]]]) -> str:
     head = [
         "program",
         "TCP, 10^6 octets/s: median (best)",
-        "`macsecd` by it",
+        "`macsecd` ÷ this row",
         "processor s for 10^9 octets",
         "first thread, %: sender, receiver",
         "datagrams of 1,358 octets/s",
