@@ -11,6 +11,7 @@ import socket
 import stat
 import subprocess
 import termios
+import time
 
 from house.reporting import report, until
 from macsecd_world import End, World, connected, expect, ping, ping_again
@@ -102,21 +103,31 @@ STANDARD_ERRORS = (
 )
 
 
+def fill(writer: int) -> int:
+    """Writes as much as is taken at once. Returns how many octets."""
+    count = 0
+    with contextlib.suppress(BlockingIOError):
+        while True:
+            count += os.write(writer, b"x")
+    return count
+
+
 def full(kind: str) -> tuple[int, int]:
     """A standard error that takes no octet: the descriptor to read, and the one to write."""
     if kind == "a socket":
         pair = socket.socketpair()
-        with contextlib.suppress(BlockingIOError):
-            while True:
-                pair[1].send(b"x", socket.MSG_DONTWAIT)
+        pair[1].setblocking(False)
+        fill(pair[1].fileno())
+        pair[1].setblocking(True)
         return pair[0].detach(), pair[1].detach()
     reader, writer = os.pipe() if "pipe" in kind else os.openpty()
     if "stopped" in kind:
         termios.tcflow(writer, termios.TCOOFF)
     other = os.open(f"/proc/self/fd/{writer}", os.O_WRONLY | os.O_NONBLOCK)
-    with contextlib.suppress(BlockingIOError):
-        while True:
-            os.write(other, b"x")
+    fill(other)
+    # Linux moves what a terminal has to its reader later, on a busy machine much later, and then it takes more.
+    while "terminal" in kind and any([time.sleep(0.02) or fill(other) for _ in range(5)]):
+        pass
     os.close(other)
     if "user" in kind:
         os.fchmod(writer, 0)
