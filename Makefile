@@ -55,7 +55,7 @@ OVER_LIBRARY := axioms c-programs constant-time device-forged device-fuzz doctor
     isolated-controls isolated-unit journal keys-in-memory macsecd macsecd-controls macsecd-isolated macsecd-workers pages python readers \
     two-hosts workers
 CHECKS := $(OVER_PROGRAM) $(OVER_LIBRARY) against any-order c-header controls device-analyzed device-forged-linux \
-    device-installed device-kernel edits failures fuzz isolated-kinds kept-frames kernel-captures live mka needed \
+    device-installed device-kernel edits failures fuzz isolated-kinds kept-frames kernel-captures live mistakes mka needed \
     packages sizes style table version
 
 .PHONY: all try test run lib kept device device-of install install-device install-python dist check reference \
@@ -123,7 +123,7 @@ help:
 $(CHECKS):
 	@tools/check --inputs $(INPUTS) --seed $(SEED) $@
 
-kept-frames any-order: toolchain
+kept-frames mistakes any-order: toolchain
 $(OVER_PROGRAM): build/macsec
 fuzz: build/macsec build/macsec-rattle
 failures: build/macsec

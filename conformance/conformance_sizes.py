@@ -86,7 +86,7 @@ def size_table() -> str:
         ("definitions for the library for C", of_definitions(in_c), "a call does not do what the header says"),
         ("code in Rattle", code, "the prover refuses it, as far as its contracts say"),
         ("proofs", paths("crates/*/proofs/**/*.antt"), "the prover refuses it"),
-        ("must-fail edits", paths("crates/*/must-fail/*.edit"), "a weak contract is not noticed"),
+        ("must-fail edits", paths("crates/*/m*/*.edit"), "a weak contract is not noticed"),
         ("C in the library", paths("tools/library/*.c"), "a contract is false that the proofs assume"),
         ("C: header, device, examples", device, "anything that they do: tested, not proved"),
         ("Python: rules and searches", paths("fuzz/*.py"), "a search finds less"),

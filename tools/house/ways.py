@@ -37,6 +37,9 @@ WAYS: list[tuple[str, str, str]] = [
      "edits)"),
     ("edits-refused", "names what the edit took away", "make the same mistake in a text that keeps the goal's name"),
     ("edits-refused", "", "see the end of build/ci.log, and run the gate again without changes beside it"),
+    ("mistakes", "NOT REFUSED", "the contract of that function allows the mistake: strengthen it"),
+    ("mistakes", "NOT TRIED", "make the same mistake in a text that applies and compiles, in a function that has the "
+     "line fn FUNCTION of the prover"),
     ("kept-frames", "NOT REFUSED", "a caller may keep a frame: restore the lifetime of the result"),
     ("stored-runs", "runs are stored", "change COUNT there, or restore the run"),
     ("stored-runs", "", "decide by the rules, then change the code, or the stored text and the page"),
