@@ -1,5 +1,5 @@
 //! The counters that a run over a capture prints at its end, for frames whose data have 2 octets. The sender protects
-//! for integrity only; the receiver has one SC with one SA. `macsec_program_tests` compares its output with these.
+//! for integrity only; the receiver has one SC with one SA. `macsec_tests` compares its output with these.
 
 /// Two frames were sent.
 pub const COUNTERS_OF_TWO_SENT: &str = "end InPktsUntagged 0\n\
