@@ -6,6 +6,7 @@ pub mod Senders
 pub mod Receivers
 pub mod Tags
 pub mod TwoRunsEach
+pub mod Handover
 pub mod NotSent
 pub mod Replays
 pub mod Rewound

@@ -34,8 +34,9 @@
 //!
 //! `proofs/Examples/` has runs that meet all premises of `comes_in_order_if_kept_renewing`, with the lists of what was
 //! sent and delivered, also runs with a renewed key of 32 octets, and runs over two journals on disks that meet those
-//! of `comes_in_order_on_disk`. For each premise of the first, except that link frames are octets, it has runs that
-//! meet the others and break order. It uses the worked runs of `macsec_counterexamples`.
+//! of `comes_in_order_on_disk`. In `Handover.antt` the sender's second run reads all packet numbers that were sent, but
+//! not all that were reported durable. For each premise of the first, except that link frames are octets, it has runs
+//! that meet the others and break order. It uses the worked runs of `macsec_counterexamples`.
 //!
 //! Trusted: a later run reads what was used, delivered or saved before, except over the journal of `macsec_journal`;
 //! and no ICV is forged.

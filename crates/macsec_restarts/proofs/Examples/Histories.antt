@@ -4,18 +4,20 @@ use Rattle.macsec_restarts.proofs.Examples.Told.{IsGood, IsKeyOf, Kind, short, T
 use Rattle.macsec_restarts.proofs.Examples.Without.{AgreeAtBothBut, AgreeBut, AgreeInRunsBut, ArePeersBut}
 use Rattle.macsec_restarts.proofs.Examples.Without.{each_suffices, HasOneSalt, HasOneSuite, IsSameEndBut}
 use Rattle.macsec_restarts.proofs.Examples.Without.{KeepsDeliveredBut, KeepsSalt, KeepsSci, KeepsSentBut, KeepsSsci}
-use Rattle.macsec_restarts.proofs.Examples.Without.{KeepsSuite, LawWithout, NoPremise, Premise, PromiseIf}
-use Rattle.macsec_restarts.proofs.Examples.Without.{StaysSoundAlways}
+use Rattle.macsec_restarts.proofs.Examples.Without.{KeepsSuite, LawWithout, NoPremise, peers_suffice, Premise}
+use Rattle.macsec_restarts.proofs.Examples.Without.{PromiseIf, StaysSoundAlways}
 use Rattle.macsec_restarts.proofs.Names.{[], ◌++◌, ◌∙◌, ◌∷◌, ◌≡◌, ◌≢◌, ◌≤◌, A, Ahead, All, All-cons, All-contains}
 use Rattle.macsec_restarts.proofs.Names.{All-nil, All-weaker, AllPairs, AllPairs-cons, ap, append-nil, arith, AtEach, B}
 use Rattle.macsec_restarts.proofs.Names.{Bool, bytes, delivered_at, Delivery, End, false, highest, is_xpn}
 use Rattle.macsec_restarts.proofs.Names.{IsSubsequence, length, List, map, no_pairs, numbered_delivery, numbered_sent}
 use Rattle.macsec_restarts.proofs.Names.{one_alone, refl, reservations, Run, runs_at, RunWith, salt_of, Sci, sci_a}
 use Rattle.macsec_restarts.proofs.Names.{sci_b, sending_name, sent_under, SentIn, subst, sym, true, Uses, ℕ}
-use Rattle.macsec_restarts.specs.RenewingOrder.{AskedOfLast, delivered_at_by, delivered_by_all, delivered_by_run}
-use Rattle.macsec_restarts.specs.RenewingOrder.{IsFairAt, KeepsDeliveredWith, KeepsSentWith, saved_for_sa}
-use Rattle.macsec_restarts.specs.RenewingOrder.{sent_under_by}
-use Rattle.macsec_restarts.specs.RenewingRuns.{IsSoundRun, opening_of, sent_by_all, sent_by_run, states_of}
+use Rattle.macsec_restarts.specs.RenewingOrder.{AskedOfLast, ComesInOrderRenewing, delivered_at_by, delivered_by_all}
+use Rattle.macsec_restarts.specs.RenewingOrder.{delivered_by_run, IsFairAt, IsHistoryWith, KeepsDeliveredWith}
+use Rattle.macsec_restarts.specs.RenewingOrder.{KeepsSentWith, saved_for_sa, sent_under_by}
+use Rattle.macsec_restarts.specs.RenewingRuns.{AgreeOnKeysWith, IsSoundRun, KeepsUsedWith, opening_of, sent_by_all}
+use Rattle.macsec_restarts.specs.RenewingRuns.{sent_by_run, states_of}
+use Rattle.macsec_restarts.specs.Used.{Covers}
 
 -- no run reserves ahead of receiving
 abbrev pub never : End → ℕ → Bool
@@ -148,6 +150,11 @@ keeps_sent key r later is all x y here there =
     (λ zs. All (λ z. z.number ≤ highest (reservations later.run.journal)
     (sending_name (salt_of later.run.journal) key)) (sent_under key zs)) (sym is) all) here
 
+pub keeps_used : (r later : RunWith) {xs ys : List SentIn} → sent_by_run r ≡ xs → sent_by_run later ≡ ys →
+    All (λ x. All (Covers later.run x) ys) xs → KeepsUsedWith r later
+keeps_used r later {ys} is is' all = subst (λ zs. All (λ x. All (Covers later.run x) zs) (sent_by_run r)) (sym is')
+    (subst (All (λ x. All (Covers later.run x) ys)) (sym is) all)
+
 pub keeps_delivered : (r later : RunWith) {ds : List Delivery} → delivered_by_run r ≡ ds →
     All (λ d. d.number ≤ saved_for_sa bytes sci_a 0 later) (delivered_at bytes sci_a 0 ds) →
     KeepsDeliveredWith bytes sci_a 0 r later
@@ -264,4 +271,20 @@ module _ (ahead : End → ℕ → Bool) (its : List EndRun) where
     sends = ap (λ xs. map numbered_sent (sent_under key xs)) (ap sent_by_all (runs_at-blocks ahead A its) ∙ it.sent);
     delivers = ap (λ xs. map numbered_delivery (delivered_at key sci_a 0 xs))
         (ap delivered_by_all (runs_at-blocks ahead B its) ∙ it.delivered);
+  }
+
+  -- what B delivered comes in the order of sending, if the lists say so
+  pub in_order : {key : List ℕ} {sent delivered : List (List ℕ)} → MeetsAll key sent delivered →
+      IsSubsequence delivered sent → ComesInOrderRenewing ahead B key sci_a 0 (blocks its)
+  in_order {key} {delivered} it order = subst (λ ds. IsSubsequence ds (map numbered_sent (sent_under key
+      (sent_by_all (runs_at ahead A (blocks its)))))) (sym it.delivers)
+      (subst (IsSubsequence delivered) (sym it.sends) order)
+
+  -- A meets the premises of no IV
+  pub no_iv : {sends : List SentIn} {ds : List Delivery} → Meets NoPremise ahead its sends ds →
+      AllPairs KeepsUsedWith (runs_in ahead A its) → IsHistoryWith (runs_at ahead A (blocks its))
+  no_iv it reads = record {
+    sound = sounds_at (it.sounds (λ none. cc)) A;
+    agree = pairs_at AgreeOnKeysWith A (peers_suffice (runs_in ahead A its) (runs_in ahead B its) it.are_peers).agree_a;
+    keeps = pairs_at KeepsUsedWith A reads;
   }

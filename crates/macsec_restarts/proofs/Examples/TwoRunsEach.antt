@@ -1,10 +1,11 @@
 -- Two runs of each end that meet all premises of order. A sends the same client frame twice, with packet numbers (PNs)
 -- 1 and 2, and the second one is lost. B delivers the first, and drops its replay as late. Then both restart. A sends
 -- another client frame, with PN 3. B drops the first frame again, and delivers the one with PN 3.
-use Rattle.macsec_restarts.proofs.Examples.Blocks.{EndRun, sealed_in}
+use Rattle.macsec_restarts.proofs.Examples.Blocks.{blocks, EndRun, sealed_in}
 use Rattle.macsec_restarts.proofs.Examples.Histories.{both, delivered_by_two, Facts, facts_of, IsRunOf, keeps_delivered}
-use Rattle.macsec_restarts.proofs.Examples.Histories.{keeps_sent, Meets, meets_all, meets_by, MeetsAll, never, of_run}
-use Rattle.macsec_restarts.proofs.Examples.Histories.{one, pair, sent_by_two, short_agree, without_option}
+use Rattle.macsec_restarts.proofs.Examples.Histories.{keeps_sent, keeps_used, Meets, meets_all, meets_by, MeetsAll}
+use Rattle.macsec_restarts.proofs.Examples.Histories.{never, no_iv, of_run, one, pair, sent_by_two, short_agree}
+use Rattle.macsec_restarts.proofs.Examples.Histories.{without_option}
 use Rattle.macsec_restarts.proofs.Examples.Tags.{octets_1, octets_3}
 use Rattle.macsec_restarts.proofs.Examples.Told.{is_strict, on, short, Told, told_drop, told_end, told_link}
 use Rattle.macsec_restarts.proofs.Examples.Told.{told_next}
@@ -13,11 +14,12 @@ use Rattle.macsec_restarts.proofs.Names.{[], ◌++◌, ◌<◌, ◌∷◌, ◌�
 use Rattle.macsec_restarts.proofs.Names.{Bool, bytes, CipherUse, client, Contains, Delivery, false, gcm_a, gcm_b}
 use Rattle.macsec_restarts.proofs.Names.{genuine_at, highest, if◌then◌else◌, Inputs, IsReservation, iv, journal}
 use Rattle.macsec_restarts.proofs.Names.{Keeping, length-sha256, List, map, max, name_of, now_durable, Opens, opens}
-use Rattle.macsec_restarts.proofs.Names.{reduced, reduced_reserves, refl, Reservation, reservations, Run, salt, salt_of}
-use Rattle.macsec_restarts.proofs.Names.{same_octets-refl, says, sci_a, sci_b, seal_of, sending_name, SentIn, State}
-use Rattle.macsec_restarts.proofs.Names.{subst, sym, tag, true, use_of, Uses, ℕ}
-use Rattle.macsec_restarts.specs.RenewingOrder.{KeepsDeliveredWith, KeepsSentWith}
-use Rattle.macsec_restarts.specs.RenewingRuns.{sent_by_all}
+use Rattle.macsec_restarts.proofs.Names.{reduced, reduced_reserves, refl, Reservation, reservations, Run, runs_at, salt}
+use Rattle.macsec_restarts.proofs.Names.{salt_of, same_octets-refl, says, sci_a, sci_b, seal_of, sending_name, SentIn}
+use Rattle.macsec_restarts.proofs.Names.{State, subst, sym, tag, true, use_of, Uses, ℕ}
+use Rattle.macsec_restarts.specs.RenewingOrder.{IsHistoryWith, KeepsDeliveredWith, KeepsSentWith}
+use Rattle.macsec_restarts.specs.RenewingRuns.{KeepsUsedWith, sent_by_all}
+use Rattle.macsec_restarts.specs.Used.{Covers}
 use Rattle.macsec_restarts.proofs.Examples.Receivers as receiver
 use Rattle.macsec_restarts.proofs.Examples.Senders as sender
 
@@ -76,6 +78,14 @@ module _ (a a' b b' : Run) (first : Facts (short 1) sci_a NoPremise [] (without_
       (keeps_delivered (without_option b) (without_option b') b_does.told.delivers
       (one (λ (d : Delivery). d.number ≤ highest (reservations b'.journal) (name_of (salt_of b'.journal)))
       (receiver.delivery 1) reads_1)))
+
+  pub no_iv_at_a : (2 ≤ highest (reservations a'.journal) (sending_name (salt_of a'.journal) bytes)) →
+      IsHistoryWith (runs_at never A (blocks its))
+  no_iv_at_a reads_2 = no_iv never its it_meets (pair KeepsUsedWith (without_option a) (without_option a')
+      (keeps_used (without_option a) (without_option a') first.told.sends second.told.sends
+      (both (λ x. All (Covers a' x) (sender.sent true)) (sender.sent_at 1 1) (sender.sent_at 2 1)
+      (one (Covers a' (sender.sent_at 1 1)) (sender.sent_at 3 3) (λ same. omega (arith, reads_2)))
+      (one (Covers a' (sender.sent_at 2 1)) (sender.sent_at 3 3) (λ same. reads_2)))))
 
 -- ---- the journals
 
@@ -211,8 +221,22 @@ has_own r are =
     let own : highest (r ∷ []) r.name ≡ r.last = rw (same_octets-refl r.name, most) in
     omega (arith, says false (r ∷ []) are r.name, own)
 
+-- A's first run may be any that sends so
+abbrev pub from_first : Run → List EndRun
+from_first a = (A, a) ∷ (B, run_b false) ∷ (A, run_a true) ∷ (B, run_b true) ∷ []
+
+pub meets_from : (a : Run) → Facts (short 1) sci_a NoPremise [] (without_option a) (sender.sent false) [] →
+    MeetsAll never (from_first a) bytes ((1 ∷ client 1) ∷ (2 ∷ client 1) ∷ (3 ∷ client 3) ∷ [])
+    ((1 ∷ client 1) ∷ (3 ∷ client 3) ∷ [])
+meets_from a first = meets a (run_a true) (run_b false) (run_b true) first (facts_a true) facts_1 facts_3
+    (has_own reserved_2 reserved_is) (has_own saved_1 saved_is)
+
+pub no_iv_from : (a : Run) → Facts (short 1) sci_a NoPremise [] (without_option a) (sender.sent false) [] →
+    IsHistoryWith (runs_at never A (blocks (from_first a)))
+no_iv_from a first = no_iv_at_a a (run_a true) (run_b false) (run_b true) first (facts_a true) facts_1 facts_3
+    (has_own reserved_2 reserved_is)
+
 pub two_runs_each : MeetsAll never
     ((A, run_a false) ∷ (B, run_b false) ∷ (A, run_a true) ∷ (B, run_b true) ∷ []) bytes
     ((1 ∷ client 1) ∷ (2 ∷ client 1) ∷ (3 ∷ client 3) ∷ []) ((1 ∷ client 1) ∷ (3 ∷ client 3) ∷ [])
-two_runs_each = meets (run_a false) (run_a true) (run_b false) (run_b true) (facts_a false) (facts_a true) facts_1
-    facts_3 (has_own reserved_2 reserved_is) (has_own saved_1 saved_is)
+two_runs_each = meets_from (run_a false) (facts_a false)

@@ -129,7 +129,7 @@ ReadLawWithout left_out ahead events =
 
 -- ---- together they are the premises of the law
 
-peers_suffice : (ra rb : List RunWith) → ArePeersBut NoPremise ra rb → ArePeersRenewing ra rb
+pub peers_suffice : (ra rb : List RunWith) → ArePeersBut NoPremise ra rb → ArePeersRenewing ra rb
 peers_suffice ra rb is = record {
   agree_a = λ i j d less within. keys_suffice KeepsSuite KeepsSalt (λ none. cc) (λ none. cc) (get_or ra i d)
       (get_or ra j d) (is.agree_a i j d less within);
