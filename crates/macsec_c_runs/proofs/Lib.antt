@@ -11,3 +11,4 @@ mod GivenOut
 mod Saved
 mod Examples
 mod TwoEndsMet
+mod MadeCalls

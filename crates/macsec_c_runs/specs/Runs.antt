@@ -65,7 +65,7 @@ accepted r = accepted_by (opening r) r.calls
 
 -- ---- the premises
 
--- the endpoint is sound at each moment, as each call leaves it
+-- the endpoint is sound at each moment, as in each run that code makes (`make_run`)
 pub record IsRun (r : CallRun) : Type 0 where
   pub sound : (n : ℕ) → IsSound (states r n)
 

@@ -23,9 +23,9 @@ use macsec_restarts::laws::{
 };
 
 /// No IV twice over several runs of calls: `no_iv_if_used_is_kept_renewing` of `macsec_restarts`, for callers in C. A
-/// key may also be installed by a command. Premises: each run is one (`IsRun`: its endpoint is sound at each moment);
-/// keys that SAs use in two runs and that have the same octets agree; and each later run reads what was used before,
-/// under the names under which it sends.
+/// key may also be installed by a command. Premises: each run is one (`IsRun`: its endpoint is sound at each moment, as
+/// in each run that `make_run` makes); keys that SAs use in two runs and that have the same octets agree; and each
+/// later run reads what was used before, under the names under which it sends.
 pub fn no_iv_over_calls()
     ensures { (runs : List CallRun) → NoIvOverCalls runs }
 {

@@ -1,8 +1,9 @@
-//! Several runs of endpoints of the library for C, each a list of calls, beside their journals. There is no code: each
-//! law is the contract of a function that does nothing.
+//! Several runs of endpoints of the library for C, each a list of calls, beside their journals. Each law is the
+//! contract of a function that does nothing. `make_run` makes a run: it opens an endpoint and makes any calls of the
+//! library.
 //!
 //! Proved, over all runs and crashes of endpoints whose keys are installed by commands and as renewals (`laws`). Each
-//! run is one (`IsRun`): its endpoint is sound at each moment, as each call leaves it.
+//! run is one (`IsRun`): its endpoint is sound at each moment. Each run that `make_run` makes is one, by its contract.
 //! - `no_iv_over_calls`, `no_iv_at_both_over_calls`: no two frames that an end, or two ends, send have the same key
 //!   octets and the same IV.
 //! - `numbers_rise_over_calls`: the packet numbers that are used under the octets of a key rise.
@@ -28,4 +29,9 @@
 //! other as a renewal. A run of each end meets all premises of order (`proofs/TwoEndsMet.antt`).
 #![tactic(auto)]
 
+mod calling;
 pub mod laws;
+mod made;
+
+pub use calling::{MadeCall, make_call};
+pub use made::make_run;
