@@ -1,6 +1,6 @@
 -- A handover. A's first run reserves packet numbers (PNs) up to 100, and uses 1 and 2. The endpoint that takes over
 -- reads a journal with the PNs up to 2, and sends with PN 3. So it reads what was sent, but not what was reported
--- durable. The other runs are those of `TwoRunsEach`. All premises of order are met, and A meets those of no IV.
+-- durable. The other runs come from `TwoRunsEach`. All premises of order are met, and A meets all premises of no IV.
 use Rattle.macsec_restarts.proofs.Examples.Blocks.{blocks, EndRun, runs_at-blocks}
 use Rattle.macsec_restarts.proofs.Examples.Histories.{Facts, facts_of, in_order, MeetsAll, never, without_option}
 use Rattle.macsec_restarts.proofs.Examples.Told.{short}

@@ -1,4 +1,4 @@
--- Two ends whose runs go as they are told: what makes them peers, and what a history of them shows.
+-- Two ends with runs that go as they are told. The file shows when they are peers, and what their history shows.
 use Rattle.macsec_restarts.proofs.Examples.Blocks.{AreMet, blocks, each_fair, EndRun, runs_at-blocks, runs_in}
 use Rattle.macsec_restarts.proofs.Examples.Told.{IsGood, IsKeyOf, Kind, short, Told}
 use Rattle.macsec_restarts.proofs.Examples.Without.{AgreeAtBothBut, AgreeBut, AgreeInRunsBut, ArePeersBut}
