@@ -64,18 +64,20 @@ enum outcome frames_deliver(struct device *d, const uint8_t *octets, size_t leng
     return DONE;
 }
 
-/* Keeps a frame, or what the endpoint has accepted of it. */
-static bool keep(struct device *d, const macsec_received *got, const uint8_t *octets, size_t length) {
-    struct held_frame it = { .accepted = got->delivered, .length = (uint16_t)length };
+/* A frame that can wait, or what the endpoint has accepted of it. */
+static struct held_frame held_frame_of(const macsec_received *got, size_t length) {
+    struct held_frame it = { .an = got->an, .accepted = got->delivered, .length = (uint16_t)length };
     memcpy(it.sci, got->sci, sizeof it.sci);
-    return held_frames_keep(d, &it, octets);
+    return it;
 }
 
-/* Delivers an accepted frame, or keeps it while frames of its channel wait. If there is no space it overtakes none. */
+/* Delivers an accepted frame, or keeps it while frames wait that come before it. If there is no space it overtakes
+ * none. */
 static enum outcome deliver_in_order(struct device *d, const macsec_received *got) {
-    if (!got->has_sa || !held_frames_wait(d, got->sci))
+    const struct held_frame it = held_frame_of(got, got->length);
+    if (!got->has_sa || !held_frames_wait(d, &it))
         return frames_deliver(d, got->frame, got->length);
-    d->counts.tap_refused += !keep(d, got, got->frame, got->length);
+    d->counts.tap_refused += !held_frames_keep(d, &it, got->frame);
     return DONE;
 }
 
@@ -94,7 +96,8 @@ static enum outcome received(struct device *d, const macsec_received *got, const
 }
 
 enum outcome frames_judged(struct device *d, const macsec_received *got, const struct frame *frame) {
-    if (got->verdict != MACSEC_VERDICT_NO_RESERVATION || !keep(d, got, frame->octets, frame->length))
+    const struct held_frame it = held_frame_of(got, frame->length);
+    if (got->verdict != MACSEC_VERDICT_NO_RESERVATION || !held_frames_keep(d, &it, frame->octets))
         return received(d, got, frame);
     numbers_received(&d->numbers, d->endpoint, got, d->held_frames.again);
     return DONE;

@@ -302,16 +302,19 @@ struct held_frames {
     size_t used;
     struct held_frame {
         uint8_t sci[8]; /* its channel */
+        uint8_t an;     /* and its association */
         bool accepted;  /* is it what the endpoint has accepted, and not a frame that is to be judged again? */
         uint16_t length;
     } frames[HELD_FRAMES];
     uint8_t octets[HELD_OCTETS];
 };
 
-/* Keeps a copy of what this has. Returns false if there is no space. */
+/* Keeps a copy of what this has: an accepted frame before those of its association that lack a reservation, else after
+ * all. Returns false if there is no space. */
 bool held_frames_keep(struct device *d, const struct held_frame *about, const uint8_t *octets);
-/* Do frames of this channel wait? After a change of keys they can be of the association before. */
-bool held_frames_wait(const struct device *d, const uint8_t sci[8]);
+/* Do frames of its channel wait before this accepted one? After a change of keys they can be of the association before
+ * it. */
+bool held_frames_wait(const struct device *d, const struct held_frame *accepted);
 /* Gives the frames that are kept to the endpoint if a reservation was reported. To be called before a later frame is
  * given to it, and when a reservation may have been reported. Returns GONE if TAP is. */
 enum outcome held_frames_give(struct device *d);

@@ -1,31 +1,54 @@
 /* Frames of LINK that wait for a reservation: they are given to the endpoint again when one is on the disk, in their
  * order and before later frames of their channel. So a burst, or a peer that starts again, loses no frame. A later
- * frame of another association, which has a reservation, is accepted at once and delivered after them. */
+ * frame of another association, which has a reservation, is accepted at once and delivered after them. One of the same
+ * association has a lower packet number than those of it that lack a reservation, so it is delivered before these: the
+ * link has exchanged them. */
 #include "device.h"
 
 /* Frames wait until the clock has ticked so often since one of them passed: the first ones of an association can need
  * three records, with the one that is under way, and a disk can take more than a second for each. */
 enum { TICKS = 6 };
 
+static bool is_of_channel(const struct held_frame *it, const struct held_frame *other) {
+    return memcmp(it->sci, other->sci, sizeof it->sci) == 0;
+}
+
+/* How many of the frames that wait come before this one. */
+static unsigned before(const struct held_frames *h, const struct held_frame *it) {
+    unsigned count = 0;
+    while (count < h->count && !(it->accepted && !h->frames[count].accepted && h->frames[count].an == it->an &&
+                                 is_of_channel(it, &h->frames[count])))
+        count++;
+    return count;
+}
+
 bool held_frames_keep(struct device *d, const struct held_frame *about, const uint8_t *octets) {
     struct held_frames *h = &d->held_frames;
-    size_t length = about->length;
-    if (h->count == HELD_FRAMES || length > HELD_OCTETS - h->used)
+    uint8_t copy[MACSEC_FRAME_MAX]; /* the octets may be those of one of them */
+    size_t length = about->length, at = h->used;
+    unsigned index = before(h, about);
+    if (h->count == HELD_FRAMES || length > HELD_OCTETS - h->used || length > sizeof copy)
         return false;
     if (h->count == 0) {
         h->grants = d->numbers.grants;
         h->ticks = 0;
     }
-    memmove(h->octets + h->used, octets, length); /* it may be one of them */
-    h->frames[h->count++] = *about;
+    for (unsigned i = h->count; i > index; i--)
+        at -= h->frames[i - 1].length;
+    memcpy(copy, octets, length);
+    memmove(h->octets + at + length, h->octets + at, h->used - at);
+    memcpy(h->octets + at, copy, length);
+    memmove(h->frames + index + 1, h->frames + index, (h->count - index) * sizeof *h->frames);
+    h->frames[index] = *about;
+    h->count++;
     h->used += length;
     return true;
 }
 
-bool held_frames_wait(const struct device *d, const uint8_t sci[8]) {
+bool held_frames_wait(const struct device *d, const struct held_frame *accepted) {
     const struct held_frames *h = &d->held_frames;
-    for (unsigned i = 0; i < h->count; i++)
-        if (memcmp(h->frames[i].sci, sci, sizeof h->frames[i].sci) == 0)
+    for (unsigned i = before(h, accepted); i > 0; i--)
+        if (is_of_channel(&h->frames[i - 1], accepted))
             return true;
     return false;
 }
@@ -59,7 +82,7 @@ static enum outcome give_all(struct device *d) {
         struct held_frame it = h->frames[i];
         const uint8_t *octets = h->octets + at;
         at += it.length;
-        if (is_granted(d) || (it.accepted && held_frames_wait(d, it.sci)))
+        if (is_granted(d) || (it.accepted && held_frames_wait(d, &it)))
             (void)held_frames_keep(d, &it, octets); /* there is space */
         else if (give(d, &it, octets) == GONE)
             outcome = GONE;

@@ -3,18 +3,20 @@
  *
  *     journal_held SEED
  *
- * Each frame has its packet number in its first octets, and a length and octets that follow from it. No frame may be
- * overtaken, altered or lost, except a frame that comes while there is no space or that waits for six ticks. */
+ * Each frame has its packet number in its first octets, and a length and octets that follow from it. Some frames come
+ * up to three frames late, before one of the same association. No frame may be overtaken after it came, altered or
+ * lost, except one that comes while there is no space, that waits for six ticks, or that is late for the endpoint. */
 #include "device.h"
 #include <inttypes.h>
 
-enum { SHORTEST = 60, LENGTHS = 1400, MOST_AHEAD = 40 };
+enum { SHORTEST = 60, LENGTHS = 1400, MOST_AHEAD = 40, MOST_LATE = 3 };
 
 /* At the beginning of each period nothing is reserved for so many frames. The last frame comes at such a time. */
 enum { TICKS = 6, PERIOD = 4096, STALL = 1500, FRAMES = 49 * PERIOD + STALL / 2 };
 
 static struct device device;
-static uint64_t newest, reserved, last, delivered, refused;
+static uint64_t newest, reserved, last, delivered, refused, late;
+static uint64_t accepted[2]; /* the highest packet number of each association that the endpoint has accepted */
 static uint64_t state;
 
 static unsigned at_random(unsigned below) {
@@ -63,16 +65,24 @@ enum outcome frames_deliver(struct device *d, const uint8_t *octets, size_t leng
 }
 
 /* Each seventh frame is of another association of the channel, which has reservations. */
+static uint8_t an_of(uint64_t pn) {
+    return pn % 7 == 0;
+}
+
+/* As an endpoint with a replay window of 0. */
 enum outcome frames_present(struct device *d, const struct frame *frame) {
     struct held_frame it = { .length = (uint16_t)frame->length };
     uint64_t pn;
     memcpy(&pn, frame->octets, sizeof pn);
     test_octets(frame, pn);
-    it.accepted = pn % 7 == 0;
-    if (it.accepted ? held_frames_wait(d, it.sci) : pn > reserved)
-        refused += !held_frames_keep(d, &it, frame->octets);
-    else
+    it.an = an_of(pn);
+    it.accepted = it.an == 1 || pn <= reserved;
+    if (pn <= accepted[it.an])
+        late++;
+    else if (it.accepted && (accepted[it.an] = pn, !held_frames_wait(d, &it)))
         (void)frames_deliver(d, frame->octets, frame->length);
+    else
+        refused += !held_frames_keep(d, &it, frame->octets);
     reserve();
     return DONE;
 }
@@ -80,7 +90,7 @@ enum outcome frames_present(struct device *d, const struct frame *frame) {
 static void receive(uint64_t pn) {
     static uint8_t octets[SHORTEST + LENGTHS];
     struct frame frame = { octets, length_of(pn) };
-    newest = pn;
+    newest = pn > newest ? pn : newest;
     memcpy(octets, &pn, sizeof pn);
     for (size_t at = sizeof pn; at < frame.length; at++)
         octets[at] = (uint8_t)(pn + at);
@@ -104,18 +114,42 @@ static void test_ticks(void) {
         fail("it is not shown as the last drop", last);
 }
 
+/* May a frame come late? There is space for the frames before which it is delivered then. */
+static bool may_be_late(uint64_t pn) {
+    return an_of(pn) == 0 && an_of(pn + 1) == 0 && pn + MOST_LATE < FRAMES &&
+           device.held_frames.count < HELD_FRAMES / 2 && at_random(16) == 0;
+}
+
+/* Receives all frames: now and then one comes late. */
+static void receive_all(void) {
+    uint64_t delayed = 0;
+    unsigned left = 0;
+    for (uint64_t pn = 1; pn <= FRAMES; pn++) {
+        if (delayed == 0 && may_be_late(pn)) {
+            delayed = pn;
+            left = 1 + at_random(MOST_LATE);
+            continue;
+        }
+        receive(pn);
+        if (delayed != 0 && --left == 0) {
+            receive(delayed);
+            delayed = 0;
+        }
+    }
+}
+
 int main(int count, char **words) {
     uint64_t waiting, in_order;
     if (count != 2)
         return 2;
     state = strtoull(words[1], NULL, 10);
-    for (uint64_t pn = 1; pn <= FRAMES; pn++)
-        receive(pn);
+    receive_all();
     waiting = device.held_frames.count;
-    if (delivered + refused + waiting != FRAMES)
+    if (delivered + refused + late + waiting != FRAMES)
         fail("it is lost", last);
     in_order = delivered;
     test_ticks();
-    printf("delivered %" PRIu64 " refused %" PRIu64 " waiting %" PRIu64 "\n", in_order, refused, waiting);
+    printf("delivered %" PRIu64 " refused %" PRIu64 " late %" PRIu64 " waiting %" PRIu64 "\n", in_order, refused, late,
+           waiting);
     return 0;
 }

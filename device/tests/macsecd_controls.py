@@ -38,7 +38,7 @@ CONTROLS: dict[str, list[tuple[str, str, str]]] = {
               ("held_frames.c", "    if (h->count == HELD_FRAMES ||", "    if (true ||"),
               ("loop.c", "    RETURN_IF_FAILED(end_of(d, held_frames_give(d)));\n", ""),
               ("requests.c", "lines_effect(r->kind) == BEGINS_SA", "r->kind == MACSEC_COMMAND_TX_SA")],
-    "disk": [("frames.c", "    if (!got->has_sa || !held_frames_wait(d, got->sci))", "    if (true)"),
+    "disk": [("frames.c", "    if (!got->has_sa || !held_frames_wait(d, &it))", "    if (true)"),
              ("journal_writer.c", "    if (s->runs) {", "    if (false) {"),
              ("numbers.c", "LASTS = 32, SLOW = 16,", "LASTS = 1, SLOW = 0,"),
              ("receive_rates.c", "#define LASTS_MOST 12.0", "#define LASTS_MOST 2.0"),
