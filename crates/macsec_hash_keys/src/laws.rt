@@ -48,9 +48,9 @@ pub fn few_keys_accept()
     ensures sealed_message { FewKeysForge }
 {}
 
-/// Whatever was sealed under a key, and whatever is tried: at most n hash keys for each try have a forgery, where n
-/// bounds the blocks of each. If no IV was used twice, what was sealed allows every hash key, each with one mask for
-/// each IV.
+/// Whatever was sealed under a key, and whatever is tried, of messages with authenticated octets: at most n hash keys
+/// for each try have a forgery, where n bounds the blocks of each. If no IV was used twice, what was sealed allows
+/// every hash key, each with one mask for each IV.
 pub fn few_keys_have_forgeries()
     ensures few { FewKeysHaveForgeries }
     ensures of_all { EveryKeyIsPossible }

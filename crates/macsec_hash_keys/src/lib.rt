@@ -4,8 +4,9 @@
 //! Proved of messages (`laws`): the blocks are a field, a polynomial over it has at most as many roots as its degree,
 //! and GHASH is almost XOR-universal. A tag of GCM is the hash of the message under the hash key, which is AES of the
 //! block 0, plus a mask, which is AES of the IV's first counter block. Whatever was sealed under a key, with whatever
-//! masks: at most n hash keys, of all 2^128, make a given tag right that was not sealed, where n is the number of
-//! blocks of the longest message; and if no IV was used twice, what was sealed allows every hash key.
+//! masks: at most n hash keys, of all 2^128, make a given tag right that was not sealed, of a message with
+//! authenticated octets, where n is the number of blocks of the longest message; and if no IV was used twice, what was
+//! sealed allows every hash key.
 //!
 //! No law is about probability, or says that AES gives blocks that look random.
 #![tactic(auto)]

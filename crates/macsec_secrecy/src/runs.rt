@@ -7,7 +7,8 @@ ghost use Rattle.macsec_secrecy.specs.Under.{SealedUnderHasAll};
 
 use macsec_link::laws::promises;
 
-/// In each run, each input of AES under a key is used at most once, except the block of zeros.
+/// In each run that meets the premises of `unique_ivs`, each input of AES under a key is used at most once, except the
+/// block of zeros.
 pub fn no_input_twice()
     ensures once { NoInputTwice }
     ensures number { NumberOfInputs }
@@ -25,8 +26,8 @@ pub fn link_frames_show()
     ensures free { EncryptedOctetsMayDiffer }
 {}
 
-/// In each run, the link says nothing of the encrypted octets but how many there are, if the function of blocks is not
-/// known.
+/// In each run that meets the premises of `unique_ivs`, under a key of octets, the link says nothing of the encrypted
+/// octets but how many there are, if the function of blocks is not known.
 pub fn link_says_nothing()
     ensures { LinkSaysNothing }
 {
