@@ -1,15 +1,15 @@
--- What a run delivers in strict order is at or below what may have been accepted from the SA, and reserved: so no SA is
+-- What a run accepts at a window of 0 is at or below what may have been accepted from the SA, and reserved: so no SA is
 -- created again at or below it.
 use Rattle.macsec_restarts.proofs.{
   AheadEnds.{ahead_row_step, past_of, row_end},
   AheadInside.{reserved_now, step_inside},
-  Names.{[], ◌+◌, ◌==◌, ◌^◌, ◌||◌, ◌∙◌, ◌∷◌, ◌≡◌, ◌≤◌, ◌⊎◌, Ahead, ahead_step, All, All-contains, arith, Bool},
-  Names.{contained, delivered_at, Delivery, end_of_row, endpoint_input, EndpointLaws, eq-eqb, false, frame_fault},
-  Names.{HasStrictOrder, highest, inl, inr, IsAbove, IsDeliveredFrom, IsGivenUp, IsMember, IsSome, IsSound},
-  Names.{Judgement, judgement_of, KeepingInput, lets_through, link_frame, List, newly_delivered, None},
+  Names.{[], ◌+◌, ◌==◌, ◌^◌, ◌||◌, ◌∙◌, ◌∷◌, ◌≡◌, ◌≤◌, ◌⊎◌, Ahead, ahead_step, All-contains, arith, Bool},
+  Names.{contained, Delivery, end_of_row, endpoint_input, EndpointLaws, eq-eqb, false, frame_fault},
+  Names.{highest, inl, inr, is_valid, IsAbove, IsDeliveredFrom, IsGivenUp, IsMember, IsSome, IsSound},
+  Names.{Judgement, judgement_of, KeepingInput, lets_through, link_frame, List, None},
   Names.{or_parts, received_step, receiving_name, refl, row_name, rx_row, rx_uses, RxRow, Sci, sending_name, Some},
   Names.{State, state_after_receiving, subst, sym, the_key, true, ℕ},
-  RowSteps.{found_row, is_given, IsGiven, IsLaterRow, IsStrictInput, of_ours, RowStep},
+  RowSteps.{found_row, is_given, IsGiven, IsLaterRow, RowStep},
 }
 use Rattle.macsec_rx.specs.Rows.{AreRxRows}
 use Rattle.macsec_suite.specs.KeyRows.{key_row}
@@ -94,17 +94,17 @@ module _ (laws : EndpointLaws) where
         fits : later.lowest ≤ 2 ^ 64
 
       sa_after : (row : RxRow) (delivered : List ℕ) → frame_fault frame ≡ None → IsDeliveredFrom s frame row delivered →
-          HasStrictOrder s → row.sci ≡ sci → row.an ≡ an → IsAfter row
-      sa_after row _ fits tells order is_sci is_an =
+          (j.step == 13) ≡ true → s.options.window ≡ 0 → row.sci ≡ sci → row.an ≡ an → IsAfter row
+      sa_after row _ fits tells valid no_window is_sci is_an =
           let same = after_is fits in
           let above : IsAbove after.k.secy.rx.rows row.sci row.an (j.number + 1) =
-          rw same (tells.accepted (tells.opened order.mode).thirteen) in
+          rw same (tells.accepted valid) in
           let ours : IsAbove after.k.secy.rx.rows sci an (j.number + 1) = rw (← is_an) (rw is_sci at above) in
           let place : rx_row s.rx.rows sci an ≡ Some row =
           rw (← is_an) (subst (λ x. rx_row s.rx.rows x row.an ≡ Some row) is_sci tells.at_place) in
           let stepped : IsLaterRow row ours.row = subst (λ o. RowStep (link_frame frame) o (Some ours.row)) place
           (rw ours.there at (ahead_row_step a (link_frame frame) sci an)) in
-          let window : after.k.secy.options.window ≡ 0 = rw (same, order.window) in
+          let window : after.k.secy.options.window ≡ 0 = rw (same, no_window) in
           let within = All-contains (λ r. r.next ≤ r.lowest + after.k.secy.options.window)
           after.k.secy.rx.rows ours.row sound'.agrees.within_window
           (contained after.k.secy.rx.rows ours.row (found_row sci an after.k.secy.rx.rows ours.row ours.there)) in
@@ -124,10 +124,10 @@ module _ (laws : EndpointLaws) where
           omega (arith, own, it.above, it.fits)
 
       delivery : (row : RxRow) (delivered : List ℕ) → frame_fault frame ≡ None → j.row ≡ Some row →
-          j.delivered ≡ Some delivered → HasStrictOrder s →
+          j.delivered ≡ Some delivered → (j.step == 13) ≡ true → s.options.window ≡ 0 →
           (the_key s.keys row.key).bytes ≡ bytes → row.sci ≡ sci → row.an ≡ an →
           IsNewPast a after (delivery_of row delivered)
-      delivery row delivered fits of_row gives order is_bytes is_sci is_an =
+      delivery row delivered fits of_row gives valid no_window is_bytes is_sci is_an =
           let tells = laws.delivers s frame row delivered sound of_row gives in
           let same = after_is fits in
           let keys : after.k.secy.keys ≡ s.keys = rw same in
@@ -140,20 +140,13 @@ module _ (laws : EndpointLaws) where
               key = row.key;
               there = rw keys there;
               octets = rw (keys, is_bytes);
-              past = inr (past_by row (sa_after row delivered fits tells order is_sci is_an));
+              past = inr (past_by row (sa_after row delivered fits tells valid no_window is_sci is_an));
             };
-            reserved = λ on. rw name at (reserved_now a on j row (tells.opened order.mode).thirteen passed).1;
+            reserved = λ on. rw name at (reserved_now a on j row valid passed).1;
           }
 
-    new_delivery : (a : Ahead) (input : KeepingInput) → IsSound a.k.secy → IsSound (ahead_step a input).1.k.secy →
-        lets_through a input ≡ true → HasStrictOrder a.k.secy → (g : Delivery) → IsGiven a.k.secy input g →
-        g.bytes ≡ bytes → g.sci ≡ sci → g.an ≡ an → IsNewPast a (ahead_step a input).1 g
-    new_delivery a _ sound sound' lets order _ (is_given frame row delivered fits of_row gives) =
-        delivery a frame sound sound' lets row delivered fits of_row gives order
-
-    -- what an input delivers from the SA
-    pub new_past : (a : Ahead) (input : KeepingInput) → IsSound a.k.secy → IsSound (ahead_step a input).1.k.secy →
-        lets_through a input ≡ true → IsStrictInput a.k bytes sci an input →
-        All (IsNewPast a (ahead_step a input).1) (delivered_at bytes sci an (newly_delivered a.k input))
-    new_past a input sound sound' lets strict = of_ours bytes sci an (IsNewPast a (ahead_step a input).1) a.k input
-        (λ g there. new_delivery a input sound sound' lets (strict g there) g)
+    pub new_delivery : (a : Ahead) (input : KeepingInput) → IsSound a.k.secy → IsSound (ahead_step a input).1.k.secy →
+        lets_through a input ≡ true → is_valid a.k.secy input ≡ true → a.k.secy.options.window ≡ 0 → (g : Delivery) →
+        IsGiven a.k.secy input g → g.bytes ≡ bytes → g.sci ≡ sci → g.an ≡ an → IsNewPast a (ahead_step a input).1 g
+    new_delivery a _ sound sound' lets valid window _ (is_given frame row delivered fits of_row gives) =
+        delivery a frame sound sound' lets row delivered fits of_row gives valid window

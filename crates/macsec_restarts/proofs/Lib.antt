@@ -23,6 +23,7 @@ mod RenewingSends
 mod RenewingOrigins
 mod RenewingKeys
 mod RenewingPast
+mod OneRun
 mod RenewingOrder
 mod OnDisk
 mod Premises

@@ -1,32 +1,29 @@
 -- Order and once, of endpoints that renew keys, if later runs read what was sent and delivered before.
 use Rattle.macsec_restarts.{
   proofs.{
-    AheadEnds.past_of,
-    AheadInside.step_inside,
-    AheadPast.{IsPast, new_past},
     InOrder.{each_found, rising},
-    Names.{[], ◌&&◌, ◌++◌, ◌<◌, ◌==◌, ◌∙◌, ◌∷◌, ◌≡◌, ◌≤◌, ◌⊎◌, A, Ahead, ahead_step, All, All-append, All-cons},
-    Names.{All-contains, All-filter, All-head, All-nil, All-tail, All-weaker, AllPairs, AllPairs-filter, and_from},
-    Names.{and_parts, ap, append-nil, append_assoc, arith, AtEach, B, begins, Bool, bytes_eq-Decides, comes_in},
-    Names.{contained, Contains, delivered_at, Delivery, delivery_name, End, EndConfig, endpoint_input, EndpointLaws},
-    Names.{Events, false, filter-append, get_or, Grammar, Happening, HasStrictOrder, highest, IfSome, if◌then◌else◌},
-    Names.{inl, Inputs, inr, InstalledKey, is_subsequence, is_valid, IsGivenUp, IsSound, Keeping},
-    Names.{keeping_step, KeepingInput, lets_through, link_frame, List, map, member, newly_accepted, newly_delivered},
-    Names.{newly_delivered_with, newly_sent, no_pairs, None, numbered_delivery, one_alone, Option, other_end},
-    Names.{pairs-append, pairs-head, pairs-tail, receiving_name, reduced_reserves, refl, reservations, Rises, runs_at},
-    Names.{RunWith, salt_of, same_octets, same_sci, Sci, sending_name, sent_under, SentIn, Some, subst, sym, take},
-    Names.{the_key, true, WasSent, ℕ},
+    Names.{[], ◌&&◌, ◌++◌, ◌<◌, ◌==◌, ◌∙◌, ◌∷◌, ◌≡◌, ◌≤◌, A, Ahead, All, All-append, All-cons, All-contains},
+    Names.{All-filter, All-head, All-nil, All-tail, All-weaker, AllPairs, AllPairs-filter, and_from, and_parts, ap},
+    Names.{append-nil, append_assoc, arith, AtEach, B, begins, Bool, bytes_eq-Decides, comes_in, contained, Contains},
+    Names.{delivered_at, Delivery, delivery_name, End, EndConfig, endpoint_input, EndpointLaws, Events, false},
+    Names.{filter-append, get_or, Grammar, Happening, HasStrictOrder, highest, IfSome, if◌then◌else◌, inl, Inputs, inr},
+    Names.{InstalledKey, is_subsequence, is_valid, IsSound, KeepingInput, lets_through, link_frame, List, map, member},
+    Names.{newly_accepted, newly_delivered, newly_delivered_with, newly_sent, no_pairs, None, numbered_delivery},
+    Names.{one_alone, Option, other_end, pairs-append, pairs-head, pairs-tail, receiving_name, reduced_reserves, refl},
+    Names.{reservations, Rises, runs_at, RunWith, salt_of, same_octets, same_sci, Sci, sending_name, sent_under},
+    Names.{SentIn, Some, subst, sym, take, true, WasSent, ℕ},
+    OneRun.behind_now,
     Origins.first_taken,
     Pushed.{at_end, in_front, run_with},
     RenewingAhead.{each_between_with, goes_inside, rises_if_used_is_kept_with, taken_in},
     RenewingKeepers.{Goes, IsBetween, RenewingLaws},
-    RenewingKeys.{GivingUp, IsOver, over_now},
+    RenewingKeys.GivingUp,
     RenewingOrigins.{all_sent, delivered_by_run-push, each_run, each_weaker, IsFrom, of_all, sent_by_run-push},
     RenewingOrigins.{sound_less, Sounds},
-    RenewingPast.{behind_next, floor_next, IsAlive, IsBehind, some_key},
+    RenewingPast.{behind_next, floor_next, IsBehind},
     RenewingSends.sound_after,
-    RowSteps.{all_pass, all_there, at_most_one, Before, below_above, is_given, is_ours, IsBelowNext, IsGiven},
-    RowSteps.{IsPlacedAt, IsStrictInput, of_ours, placed_at, same_place},
+    RowSteps.{all_pass, all_there, at_most_one, Before, delivers_above, is_ours, is_valid_now, IsBelowNext},
+    RowSteps.{IsStrictInput, of_ours, same_place},
     RunsWith.{cut, first_moments, IsHereditary, pairs_first, push, runs_first},
   },
   specs.{
@@ -89,49 +86,21 @@ module _ (laws : EndpointLaws) (giving : GivingUp) (bytes : List ℕ) (sci : Sci
     behind : Behind (ahead_renewing_step a input).1 d
     valid : is_valid a.k.secy input ≡ true
 
-  is_valid_now : (k : Keeping) → IsSound k.secy → HasStrictOrder k.secy → (input : KeepingInput) (g : Delivery) →
-      IsGiven k.secy input g → is_valid k.secy input ≡ true
-  is_valid_now k sound order _ _ (is_given frame row delivered fits of_row delivers) =
-      ((laws.delivers k.secy frame row delivered sound of_row delivers).opened order.mode).thirteen
-
-  of_past : (a : Ahead) (d : Delivery) → IsSound a.k.secy → IsPast laws bytes sci an a d →
-      ((n : ℕ) × IsAlive laws bytes sci an giving a d.number n) ⊎ IsOver a.k bytes
-  of_past a d sound it = by_past it.past
-    where
-      by_past : IsGivenUp a.k.secy it.key ⊎ (d.number ≤ past_of a it.key sci an) →
-          ((n : ℕ) × IsAlive laws bytes sci an giving a d.number n) ⊎ IsOver a.k bytes
-      by_past (inl up) = inr (subst (IsOver a.k) it.octets (over_now a.k (laws.keys_apart a.k.secy sound) it.key
-          (the_key a.k.secy.keys it.key) (some_key a.k.secy.keys it.key it.there) up))
-      by_past (inr past) = inl (
-        it.key,
-        record {
-          row = the_key a.k.secy.keys it.key;
-          found = some_key a.k.secy.keys it.key it.there;
-          octets = it.octets;
-          past = past;
-        },
-      )
-
   new_by : (a : Ahead) (input : KeepingInput) → IsSound a.k.secy → IsSound (ahead_renewing_step a input).1.k.secy →
       lets_through a input ≡ true → IsStrictInput a.k bytes sci an input →
       All (IsNewIn a input) (delivered_at bytes sci an (newly_delivered a.k input))
   new_by a (endpoint_input (link_frame frame)) sound sound' lets strict i d within =
       let input = endpoint_input (link_frame frame) in
-      let g = get_or (delivered_at bytes sci an (newly_delivered a.k input)) i d in
-      let past = new_past laws bytes sci an a input sound sound' lets strict i d within in
-      let placed = of_ours bytes sci an (IsPlacedAt laws bytes sci an a.k.secy (keeping_step a.k input).1.secy) a.k
-      input
-      (λ x there. placed_at laws bytes sci an a.k sound (strict x there) input x) i d within in
       record {
-        later = placed.later;
-        behind = record {
-          past = of_past (ahead_step a input).1 g sound' past.past;
-          below = subst (λ (k : Keeping). IsBelowNext k.secy bytes sci an g.number) (sym (step_inside a input true
-              lets))
-              (below_above (keeping_step a.k input).1.secy bytes sci an g.number placed.above);
-        };
+        later = of_ours bytes sci an (λ x. (n : ℕ) → IsBelowNext a.k.secy bytes sci an n → n < x.number) a.k input
+            (λ x there. delivers_above laws sci an bytes a.k.secy sound (strict x there).replay (strict x there).window
+            input x) i d within;
+        behind = of_ours bytes sci an (Behind (ahead_renewing_step a input).1) a.k input (λ x there given.
+            behind_now laws giving bytes sci an a input sound sound' lets (is_valid_now laws a.k sound (strict x there)
+            input x given) (strict x there).window x given) i d within;
         valid = of_ours bytes sci an (λ x. is_valid a.k.secy input ≡ true) a.k input
-            (λ x there given is_bytes is_sci is_an. is_valid_now a.k sound (strict x there) input x given) i d within;
+            (λ x there given is_bytes is_sci is_an. is_valid_now laws a.k sound (strict x there) input x given) i d
+            within;
       }
   new_by a input sound sound' lets strict i d within = All-nil (IsNewIn a input) i d within
 

@@ -255,7 +255,7 @@ module _ {C : Type 0} (step : Ahead → C → Ahead) (is_step : (a : Ahead) (c :
 
 -- ---- two runs
 
-keeps_by : (sci : Sci) (an : ℕ) (a : Ahead) (input : KeepingInput) → KeepsAssociation sci an input →
+pub keeps_by : (sci : Sci) (an : ℕ) (a : Ahead) (input : KeepingInput) → KeepsAssociation sci an input →
     KeepsBy (renewing_is a input) sci an
 keeps_by sci an a (endpoint_input (operator_command (Key key))) = λ keeps. tt
 keeps_by sci an a input = λ keeps. keeps

@@ -5,7 +5,7 @@ use Rattle.macsec_restarts.proofs.Names.{All-nil, All-weaker, AllPairs, and_part
 use Rattle.macsec_restarts.proofs.Names.{client_frame, Command, cond, contained, Contains, delivered_at, delivered_by}
 use Rattle.macsec_restarts.proofs.Names.{Delivery, effect, endpoint_input, EndpointLaws, eqb-true, false, filter}
 use Rattle.macsec_restarts.proofs.Names.{frame_fault, FrameFault, get_or, HasStrictOrder, holds_of, if◌then◌else◌, inl}
-use Rattle.macsec_restarts.proofs.Names.{Input, inr, is_at, IsAbove, IsMember, IsSound, judgement_of, Keeping}
+use Rattle.macsec_restarts.proofs.Names.{Input, inr, is_at, is_valid, IsAbove, IsMember, IsSound, judgement_of, Keeping}
 use Rattle.macsec_restarts.proofs.Names.{keeping_step, KeepingInput, last_of, link_frame, List, ltb-false, map, nat_lt}
 use Rattle.macsec_restarts.proofs.Names.{newly_delivered, no_pairs, None, not, now_durable, one_alone, operator_command}
 use Rattle.macsec_restarts.proofs.Names.{Option, option_map, or_parts, Output, received_output, received_step, refl}
@@ -411,31 +411,34 @@ abbrev pub IsStrictInput : Keeping → List ℕ → Sci → ℕ → KeepingInput
 IsStrictInput k bytes sci an input =
     (d : Delivery) → Contains (delivered_at bytes sci an (newly_delivered k input)) d → HasStrictOrder k.secy
 
-module _ (laws : EndpointLaws) (bytes : List ℕ) (sci : Sci) (an : ℕ) where
-  -- above each number that is below the SA's next one, which is above it afterwards
-  pub record IsPlacedAt (s after : State) (g : Delivery) : Type 0 where
-    pub later : (n : ℕ) → IsBelowNext s bytes sci an n → n < g.number
-    pub above : IsAbove after.rx.rows sci an (g.number + 1)
+module _ (laws : EndpointLaws) where
+  -- in strict order what is delivered is valid
+  pub is_valid_now : (k : Keeping) → IsSound k.secy → HasStrictOrder k.secy → (input : KeepingInput) (g : Delivery) →
+      IsGiven k.secy input g → is_valid k.secy input ≡ true
+  is_valid_now k sound order _ _ (is_given frame row delivered fits of_row delivers) =
+      ((laws.delivers k.secy frame row delivered sound of_row delivers).opened order.mode).thirteen
 
-  pub placed_at : (k : Keeping) → IsSound k.secy → HasStrictOrder k.secy → (input : KeepingInput) (g : Delivery) →
-      IsGiven k.secy input g → g.bytes ≡ bytes → g.sci ≡ sci → g.an ≡ an →
-      IsPlacedAt k.secy (keeping_step k input).1.secy g
-  placed_at k sound order _ _ (is_given frame row delivered fits of_row delivers) is_bytes is_sci is_an =
-      let s = k.secy in
-      let tells = laws.delivers s frame row delivered sound of_row delivers in
-      let place : rx_row s.rx.rows sci an ≡ Some row =
-      rw (← is_an) (subst (λ x. rx_row s.rx.rows x row.an ≡ Some row) is_sci tells.at_place) in
-      let stepped : IsAbove (step s (link_frame frame)).1.rx.rows row.sci row.an ((judgement_of s frame).number + 1) =
-      rw fits (tells.accepted (tells.opened order.mode).thirteen) in
-      let ours : IsAbove (step s (link_frame frame)).1.rx.rows sci an ((judgement_of s frame).number + 1) =
-      rw (← is_an) (rw is_sci at stepped) in
-      record {
-        later = λ n below. omega (
-          arith,
-          below row place is_bytes,
-          tells.window,
-          order.window,
-          tells.on_time order.replay,
-        );
-        above = rw (received_step k frame) ours;
-      }
+  module _ (sci : Sci) (an : ℕ) where
+    -- at a window of 0, what is delivered is above each number that is below the SA's next one
+    pub delivers_above : (bytes : List ℕ) (s : State) → IsSound s → s.options.replay ≡ true → s.options.window ≡ 0 →
+        (input : KeepingInput) (g : Delivery) → IsGiven s input g → g.bytes ≡ bytes → g.sci ≡ sci → g.an ≡ an →
+        (n : ℕ) → IsBelowNext s bytes sci an n → n < g.number
+    delivers_above bytes s sound replay window _ _ (is_given frame row delivered fits of_row delivers) is_bytes is_sci
+        is_an n below =
+        let tells = laws.delivers s frame row delivered sound of_row delivers in
+        let place : rx_row s.rx.rows sci an ≡ Some row =
+        rw (← is_an) (subst (λ x. rx_row s.rx.rows x row.an ≡ Some row) is_sci tells.at_place) in
+        omega (arith, below row place is_bytes, tells.window, window, tells.on_time replay)
+
+    -- what is valid is below the SA's next number afterwards
+    pub next_above : (k : Keeping) → IsSound k.secy → (input : KeepingInput) (g : Delivery) → IsGiven k.secy input g →
+        is_valid k.secy input ≡ true → g.sci ≡ sci → g.an ≡ an →
+        IsAbove (keeping_step k input).1.secy.rx.rows sci an (g.number + 1)
+    next_above k sound _ _ (is_given frame row delivered fits of_row delivers) valid is_sci is_an =
+        let s = k.secy in
+        let tells = laws.delivers s frame row delivered sound of_row delivers in
+        let stepped : IsAbove (step s (link_frame frame)).1.rx.rows row.sci row.an ((judgement_of s frame).number + 1) =
+        rw fits (tells.accepted valid) in
+        let ours : IsAbove (step s (link_frame frame)).1.rx.rows sci an ((judgement_of s frame).number + 1) =
+        rw (← is_an) (rw is_sci at stepped) in
+        rw (received_step k frame) ours

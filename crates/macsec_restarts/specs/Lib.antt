@@ -11,6 +11,7 @@ pub mod AheadForgetting
 pub mod Used
 pub mod Kept
 pub mod RenewingRuns
+pub mod OneRun
 pub mod RenewingOrder
 pub mod ForgettingEnds
 pub mod StrictLists

@@ -18,6 +18,7 @@ ghost use Rattle.macsec_restarts.specs.AheadSteps.{AsksWhereDropped, IsAsBefore,
 ghost use Rattle.macsec_restarts.specs.AheadSteps.{StepsInside, WantsEnough};
 ghost use Rattle.macsec_restarts.specs.Happenings.{Happening};
 ghost use Rattle.macsec_restarts.specs.OnDisk.{RisesOnDiskRenewing};
+ghost use Rattle.macsec_restarts.specs.OneRun.{DeliversAboveAccepted};
 ghost use Rattle.macsec_restarts.specs.OnDiskOrder.{ComesInOrderOnDisk, HasTheRuns, JournalHistory, KeepsUsedInAll};
 ghost use Rattle.macsec_restarts.specs.OnDiskOrder.{NoIvAtBothOnDisk, NoIvOnDisk, TwoJournals};
 ghost use Rattle.macsec_restarts.specs.Kept.{RunWith};
@@ -127,6 +128,24 @@ pub fn accepts_above_if_kept_renewing()
     ensures kept { (runs : List RunWith) → AcceptsAboveIfKeptWith runs }
     ensures weaker { (run later : RunWith) → IsWeakerToAcceptWith run later }
 {}
+
+/// Within one run of an endpoint that renews keys, with the option or without it: after a frame is accepted from an SA,
+/// each frame that is delivered from the SA at a replay window of 0, with replay protection on, has a higher packet
+/// number. So no frame is accepted twice. Premises: the endpoint is sound at each moment; and if the SA is deleted in
+/// between, the window was 0 at the earlier frame too. The mode does not matter, nor who sealed the frames.
+pub fn delivers_above_accepted()
+    ensures { (a : Ahead) (input : KeepingInput) (inputs : List KeepingInput) (last : KeepingInput) →
+        DeliversAboveAccepted a input inputs last }
+{
+    // Laws that the proof cites; the calls do nothing.
+    equal_ivs();
+    keys_stay();
+    rx_rows_stay();
+    protects_frames();
+    delivers_in_time();
+    refuses_forgotten_keys();
+    renewing_gives_up_octets();
+}
 
 /// Over a journal on a disk that fails (`macsec_journal`), a later run sends under a key, and accepts from a receive
 /// SA, only higher packet numbers than an earlier run did, if the name of the key or of the SA was not let go between

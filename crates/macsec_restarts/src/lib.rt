@@ -30,7 +30,10 @@
 //! - `accepts_in_time`: a frame of one run is accepted by a run of the other end.
 //! - `accepts_once_reserved`: a frame that was dropped asks for a record, and passes once the record is durable.
 //!
-//! Proved of whole runs: `gives_out_what_is_listed`, the frames that a run gives out are those in the lists.
+//! Proved of each run:
+//! - `delivers_above_accepted`: at a replay window of 0, what is delivered from an SA has a higher packet number than
+//!   all that was accepted from it before. So no frame is accepted twice.
+//! - `gives_out_what_is_listed`: the frames that it gives out are those in the lists.
 //!
 //! `proofs/Examples/` has runs that meet all premises of `comes_in_order_if_kept_renewing`, with the lists of what was
 //! sent and delivered, also runs with a renewed key of 32 octets, and runs over two journals on disks that meet those
