@@ -212,6 +212,11 @@ pub delivers_same : (b : Bool) (e : Ahead) (call : Call) →
 delivers_same b e call =
     delivers_like b e (as_input e call) ∙ same_of Delivery (newly_delivered_with e) (λ key. refl) e call
 
+pub accepts_same : (b : Bool) (e : Ahead) (call : Call) →
+    newly_accepted (with_renews b e) (as_input e call) ≡ newly_accepted e (input_of call)
+accepts_same b e call =
+    accepts_like b e (as_input e call) ∙ same_of Delivery (newly_accepted e) (λ key. refl) e call
+
 -- ---- calls as inputs
 
 abbrev pub as_inputs : Ahead → List Call → List KeepingInput

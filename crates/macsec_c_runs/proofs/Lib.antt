@@ -9,6 +9,7 @@ mod Peers
 mod SingleCalls
 mod GivenOut
 mod Saved
+mod Once
 mod Examples
 mod TwoEndsMet
 mod MadeCalls

@@ -27,7 +27,7 @@ use Rattle.macsec_restarts.specs.RenewingRuns.{AgreeOnKeysWith, IsSoundRun, IsWe
 use Rattle.macsec_restarts.specs.RenewingRuns.{NoIvIfUsedIsKeptWith, RisesIfUsedIsKeptWith, sent_by_all, sent_by_run}
 use Rattle.macsec_restarts.specs.Sent.{Rises, SentIn}
 use Rattle.macsec_restarts.specs.Used.{seal_of}
-use Rattle.macsec_c_calls.specs.GivenUp.{Call, after_call, command, durable}
+use Rattle.macsec_c_calls.specs.GivenUp.{Call, after_call, after_calls, command, durable}
 use Rattle.macsec_c_runs.proofs.AsRenewals.{as_run, reports_same, sent_same, state_same, used_same}
 use Rattle.macsec_c_runs.specs.Runs.{AcceptsAbove, AcceptsAboveOverCalls, AcceptsOnceOverCalls, AgreeOnKeys, CallRun}
 use Rattle.macsec_c_runs.specs.Runs.{IsCovered, IsRun, IsWeaker, IsWeakerToAccept, KeepsAccepted}
@@ -119,6 +119,11 @@ call_keeps e (command (Key key)) = by_given (installs_given_up e (Key key))
         record { option = refl; goes = record { keeps = refl; salt = refl; floors = λ name. omega arith } }
     by_given false = record { option = option_kept e input; goes = forgetting_goes e input }
 call_keeps e call = record { option = option_renewing e (input_of call); goes = goes_inside e (input_of call) }
+
+pub still_keeps : (calls : List Call) (e : Ahead) → e.k.keeps ≡ true → (after_calls e calls).k.keeps ≡ true
+still_keeps [] e keeps = keeps
+still_keeps (call ∷ calls) e keeps =
+    let it = call_keeps e call in still_keeps calls (after_call e call) (it.goes.keeps ∙ keeps)
 
 one_taken : (e : Ahead) (call : Call) (name : List ℕ) → highest (after_call e call).taken name ≤
     max (highest e.taken name) (highest (reported_in (input_of call ∷ [])) name)

@@ -29,7 +29,7 @@ use Rattle.macsec_c_runs.specs.SingleCalls.{HasSaved, NeverDeliversAgain, NeverD
 
 -- ---- parts of a run
 
-stands_less : (e : Ahead) (xs ys : List Call) → Stands e (xs ++ ys) → Stands e xs
+pub stands_less : (e : Ahead) (xs ys : List Call) → Stands e (xs ++ ys) → Stands e xs
 stands_less e xs ys it = record {
   gives_none = it.gives_none;
   ends = it.ends;
@@ -37,7 +37,7 @@ stands_less e xs ys it = record {
       subst (λ cs. IsSound (after_calls e cs).k.secy) (sym at.1) (it.sound at.0);
 }
 
-stands_after : (xs : List Call) (e : Ahead) (ys : List Call) → Stands e (xs ++ ys) → Stands (after_calls e xs) ys
+pub stands_after : (xs : List Call) (e : Ahead) (ys : List Call) → Stands e (xs ++ ys) → Stands (after_calls e xs) ys
 stands_after [] e ys it = it
 stands_after (x ∷ xs) e ys it = stands_after xs (after_call e x) ys (stands_next e x (xs ++ ys) it)
 
@@ -51,7 +51,7 @@ keeps_input sci an e (command (Key key)) = λ keeps. by_test (installs e key)
     by_test false = refl
 keeps_input sci an e call = λ keeps. keeps
 
-keep_inputs : (sci : Sci) (an : ℕ) (calls : List Call) (e : Ahead) →
+pub keep_inputs : (sci : Sci) (an : ℕ) (calls : List Call) (e : Ahead) →
     All (λ call. KeepsAssociation sci an (input_of call)) calls → All (KeepsAssociation sci an) (as_inputs e calls)
 keep_inputs sci an [] e keep = All-nil (KeepsAssociation sci an)
 keep_inputs sci an (call ∷ calls) e keep =

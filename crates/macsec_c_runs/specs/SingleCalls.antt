@@ -1,5 +1,5 @@
 -- What single calls of the library for C do: what leaves and what is delivered is listed, deleted SAs begin above their
--- ends, and packet numbers (PNs) that were saved are not delivered again.
+-- ends, and packet numbers (PNs) that were accepted or saved are not delivered again.
 use Rattle.std.specs.Prelude.{◌≡◌, ◌<◌, ◌≤◌, ◌⊎◌, ℕ, List, ◌∷◌, ◌++◌, take, true, None, Some, IsSome, Contains}
 use Rattle.std.specs.List.{All}
 use Rattle.macsec_tag.specs.declared.identifiers.Sci.{Sci}
@@ -20,7 +20,8 @@ use Rattle.macsec_reserve.specs.Replay.{IsAccepted, KeepsAssociation, row_name, 
 use Rattle.macsec_ahead.specs.Ahead.{Ahead, AheadOutput, ahead_step, kept, lets_through}
 use Rattle.macsec_ahead.specs.Ends.{end_of, end_of_row}
 use Rattle.macsec_ahead.specs.Renewing.{command_renewing}
-use Rattle.macsec_restarts.specs.AheadRuns.{MatchesDeliveriesWith}
+use Rattle.macsec_restarts.specs.AheadRuns.{AreOfOneSa, MatchesDeliveriesWith, newly_accepted, newly_delivered_with}
+use Rattle.macsec_restarts.specs.Delivered.{Delivery}
 use Rattle.macsec_restarts.specs.RenewingLists.{MatchesUsesWith}
 use Rattle.macsec_restarts.specs.StrictLists.{IsFromSaWith}
 use Rattle.macsec_c_calls.specs.GivenUp.{Call, after_call, after_calls, client, command, durable, link, renewal}
@@ -87,6 +88,22 @@ BeginsAboveItsEnd e call calls row ssci lowest =
     IsGivenUpIn e (call ∷ calls) row.key ⊎
     (command_renewing after (RxSa row.sci row.an row.key ssci lowest) ≡
     (kept (endpoint_output (refused PnFloor)), after))
+
+-- ---- once, within one run
+
+-- a run accepts a frame. After more calls, of any kind, it delivers a frame on the same SA, valid or not, while replay
+-- protection is on and the replay window is 0. The later frame has the higher packet number, if the window was 0 at the
+-- earlier frame too, or no call between them deletes the SA
+abbrev pub DeliversAboveAccepted : CallRun → List Call → Call → List Call → Call → List Call → Type 0
+DeliversAboveAccepted r before call between last more =
+    let first = after_calls (opening r) before in
+    let now = after_calls first (call ∷ between) in
+    IsRun r → r.calls ≡ before ++ call ∷ (between ++ last ∷ more) →
+    now.k.secy.options.replay ≡ true → now.k.secy.options.window ≡ 0 → (d e : Delivery) →
+    Contains (newly_accepted first (input_of call)) d → Contains (newly_delivered_with now (input_of last)) e →
+    AreOfOneSa d e →
+    (first.k.secy.options.window ≡ 0) ⊎ All (λ c. KeepsAssociation d.sci d.an (input_of c)) between →
+    d.number < e.number
 
 -- ---- PNs that are saved
 

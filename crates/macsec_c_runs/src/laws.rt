@@ -9,16 +9,17 @@ ghost use Rattle.macsec_c_runs.specs.GivenOut.{AnswersAreOutputs, DeliversFromSa
 ghost use Rattle.macsec_c_runs.specs.GivenOut.{SendsWhatIsListed};
 ghost use Rattle.macsec_c_runs.specs.Runs.{AcceptsAboveOverCalls, AcceptsOnceOverCalls, CallRun};
 ghost use Rattle.macsec_c_runs.specs.Runs.{IsWeaker, IsWeakerToAccept, NoIvOverCalls, NumbersRiseOverCalls};
-ghost use Rattle.macsec_c_runs.specs.SingleCalls.{BeginsAboveItsEnd, DeliversEachListed, DeliversFromSas, KeepsEnds};
-ghost use Rattle.macsec_c_runs.specs.SingleCalls.{NeverDeliversAgain, NeverDeliversAgainUnder, RefusesBelowEnd};
-ghost use Rattle.macsec_c_runs.specs.SingleCalls.{RemembersEnd, SealsEachFrame};
+ghost use Rattle.macsec_c_runs.specs.SingleCalls.{BeginsAboveItsEnd, DeliversAboveAccepted, DeliversEachListed};
+ghost use Rattle.macsec_c_runs.specs.SingleCalls.{DeliversFromSas, KeepsEnds, NeverDeliversAgain};
+ghost use Rattle.macsec_c_runs.specs.SingleCalls.{NeverDeliversAgainUnder, RefusesBelowEnd, RemembersEnd};
+ghost use Rattle.macsec_c_runs.specs.SingleCalls.{SealsEachFrame};
 ghost use Rattle.macsec_c_runs.specs.TwoEnds.{CallHappening, ComesFromOtherOverCalls, ComesInOrderIfReadOverCalls};
 ghost use Rattle.macsec_c_runs.specs.TwoEnds.{ComesInOrderOverCalls, NoIvAtBothOverCalls, PeersAtEachOverCalls};
 
 use macsec_restarts::laws::{
     begins_above_its_end_renewing, comes_from_other_renewing, comes_in_order_if_kept_renewing,
-    lists_each_delivery_renewing, never_delivers_again_renewing, no_iv_at_both_renewing,
-    no_iv_if_used_is_kept_renewing, numbers_rise_if_used_is_kept_renewing,
+    delivers_above_accepted, lists_each_delivery_renewing, never_delivers_again_renewing,
+    no_iv_at_both_renewing, no_iv_if_used_is_kept_renewing, numbers_rise_if_used_is_kept_renewing,
     seals_each_frame_renewing,
 };
 
@@ -139,6 +140,20 @@ pub fn seals_each_frame_over_calls()
 {
     // The law that the proof cites; the call does nothing.
     seals_each_frame_renewing();
+}
+
+// ---- within one run
+
+/// Within one run of calls: after a frame is accepted from an SA, each frame that is delivered from the SA at a replay
+/// window of 0, with replay protection on, has a higher packet number. So no frame is accepted twice. Premises: the run
+/// is one (`IsRun`); and if the SA is deleted in between, the window was 0 at the earlier frame too. The mode does not
+/// matter, nor who sealed the frames.
+pub fn delivers_above_over_calls()
+    ensures { (r : CallRun) (before : List Call) (call : Call) (between : List Call) (last : Call)
+        (more : List Call) → DeliversAboveAccepted r before call between last more }
+{
+    // The law that the proof cites; the call does nothing.
+    delivers_above_accepted();
 }
 
 // ---- whole runs

@@ -10,6 +10,8 @@
 //! - `comes_from_other_over_calls`: what an end delivers on an SA was sent by the other end.
 //! - `comes_in_order_over_calls`: it is delivered in the order of sending, each frame at most once.
 //! - `never_delivers_again_over_calls`: what a run accepted and saved is not delivered again.
+//! - `delivers_above_over_calls`: within one run, at a replay window of 0, what is delivered from an SA has a higher
+//!   packet number than all that was accepted from it before. So no frame is accepted twice.
 //!
 //! These do not ask `IsRun`:
 //! - `accepts_above_over_calls`: with `ahead`, a run that reads what earlier runs accepted from an SA accepts only
