@@ -64,9 +64,12 @@ enum outcome frames_deliver(struct device *d, const uint8_t *octets, size_t leng
     return DONE;
 }
 
-/* A frame that can wait, or what the endpoint has accepted of it. */
+/* A frame that can wait, or what the endpoint has accepted of it. One that was not found valid, in the modes that
+ * deliver it, needs no reservation, so nothing is known of its packet number: it has no association here. */
 static struct held_frame held_frame_of(const macsec_received *got, size_t length) {
-    struct held_frame it = { .an = got->an, .accepted = got->delivered, .length = (uint16_t)length };
+    bool is_valid = got->verdict == MACSEC_VERDICT_OK || got->verdict == MACSEC_VERDICT_NO_RESERVATION;
+    struct held_frame it = { .accepted = got->delivered, .length = (uint16_t)length };
+    it.an = is_valid ? got->an : MACSEC_AN_COUNT;
     memcpy(it.sci, got->sci, sizeof it.sci);
     return it;
 }

@@ -302,7 +302,7 @@ struct held_frames {
     size_t used;
     struct held_frame {
         uint8_t sci[8]; /* its channel */
-        uint8_t an;     /* and its association */
+        uint8_t an;     /* and its association, or MACSEC_AN_COUNT */
         bool accepted;  /* is it what the endpoint has accepted, and not a frame that is to be judged again? */
         uint16_t length;
     } frames[HELD_FRAMES];

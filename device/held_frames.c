@@ -1,8 +1,8 @@
 /* Frames of LINK that wait for a reservation: they are given to the endpoint again when one is on the disk, in their
  * order and before later frames of their channel. So a burst, or a peer that starts again, loses no frame. A later
  * frame of another association, which has a reservation, is accepted at once and delivered after them. One of the same
- * association has a lower packet number than those of it that lack a reservation, so it is delivered before these: the
- * link has exchanged them. */
+ * association that is valid has a lower packet number than those of it that lack a reservation, so it is delivered
+ * before these: the link has exchanged them. */
 #include "device.h"
 
 /* Frames wait until the clock has ticked so often since one of them passed: the first ones of an association can need

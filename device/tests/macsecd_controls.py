@@ -39,6 +39,7 @@ CONTROLS: dict[str, list[tuple[str, str, str]]] = {
               ("loop.c", "    RETURN_IF_FAILED(end_of(d, held_frames_give(d)));\n", ""),
               ("requests.c", "lines_effect(r->kind) == BEGINS_SA", "r->kind == MACSEC_COMMAND_TX_SA")],
     "disk": [("frames.c", "    if (!got->has_sa || !held_frames_wait(d, &it))", "    if (true)"),
+             ("held_frames.c", "it->accepted && !h->frames", "false && !h->frames"),
              ("journal_writer.c", "    if (s->runs) {", "    if (false) {"),
              ("numbers.c", "LASTS = 32, SLOW = 16,", "LASTS = 1, SLOW = 0,"),
              ("receive_rates.c", "#define LASTS_MOST 12.0", "#define LASTS_MOST 2.0"),

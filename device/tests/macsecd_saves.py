@@ -364,6 +364,31 @@ def check_order(world: World, programs: pathlib.Path, waited: list[bool]) -> Non
     report(arrived > 50 and stream.overtaken == 0, f"disk: {stream.overtaken} of {arrived} datagrams were overtaken")
 
 
+def check_exchanged(world: World, programs: pathlib.Path, sender: pathlib.Path, runs: int, rng: random.Random) -> None:
+    """Frames of each channel come over a slow disk, some at a time in reverse order. If one of them is reserved, and
+    those before it wait for a record, it is delivered before them."""
+    receiver = Receiver(world, sender)
+    end, count, overtaken = receiver.end, 0, 0
+    end.program, end.more_environment = programs / "macsecd", {"SLOW": "150"}
+    for run in range(runs):
+        end.start()
+        deliveries, first, last = Deliveries(end), 1 + 10000 * run, [0] * CHANNELS
+        while first < 45 + 10000 * run:
+            length = rng.randrange(2, 7)
+            for number in reversed(range(first, first + length)):
+                receiver.send(number, 1, 1000000)
+            first += length
+        time.sleep(0.5)
+        receiver.settle()
+        for channel, number in deliveries.stop():
+            overtaken += number < last[channel]
+            last[channel] = max(last[channel], number)
+            count += 1
+        report(end.stop() == 0, f"disk: macsecd does not end well: {end.log()}")
+    print(f"disk: {count} frames that the link exchanges, {overtaken} after later ones", flush=True)
+    report(count > 5 * runs * CHANNELS and overtaken == 0, f"disk: {overtaken} of {count} frames were overtaken")
+
+
 # ---- Many keys
 
 
